@@ -1,0 +1,58 @@
+-- Demand 3: which state does the terminal wake up with?
+--
+-- After any list of calls and power cuts, mounting the card is accepted and gives exactly the state after the longest prefix of the serial
+-- history whose closing stores are on the card.
+use mathlib.Core.Path.{_≡_}
+use mathlib.Core.Bool.{Bool, true, false, _&&_}
+use mathlib.Core.Option.{Option, none, some}
+use mathlib.Core.List.{List, [], _∷_}
+use Prim.Native.Nat.{ℕ}
+use lib.ListN.{length}
+use Rattle.lists.specs.State.{State, state as stateOf}
+use Rattle.log.specs.Card.{Content, segmentsIn}
+use Rattle.disk.specs.Disk.{Disk, view}
+use Rattle.disk.specs.Call.{format, mount}
+use Rattle.disk.specs.Questions.{refusal}
+use Rattle.disk.specs.Perform.{perform}
+use Rattle.crash.specs.Event.{Event, Rest, World, leaves, answered, step, mayHappen}
+use Rattle.crash.specs.Book.{Book, emptyBook, bookStep, onCard, acts}
+
+-- the world, and the book that is kept of it: the book is shown the event and the answer, and nothing else
+pub record Scene : Type 0 where
+  pub world : World
+  pub book : Book
+
+unfoldable pub sceneStep : Scene → Event → Scene
+sceneStep s e = record { world = step (s .world) e; book = bookStep (s .book) e (answered (s .world) e) }
+
+unfoldable pub play : Scene → List Event → Scene
+play s [] = s
+play s (e ∷ es) = play (sceneStep s e) es
+
+-- each event may happen where it stands in the list
+unfoldable pub valid : Scene → List Event → Bool
+valid s [] = true
+valid s (e ∷ es) = mayHappen (s .world) e && valid (sceneStep s e) es
+
+-- "The list starts right after an accepted formatting, the book empty."
+unfoldable pub begun : Disk → Scene
+begun d = record
+  { world = record { disk = perform format d .disk; down = false }
+  ; book = emptyBook (segmentsIn (d .card)) }
+
+-- lent data of the right lengths, whatever they hold
+abbrev pub Lent : Rest → Type 0
+Lent x = (length (x .queueData) ≡ 8192) × (length (x .journalData) ≡ 15360)
+
+-- A card keeps what the book says: the history's longest prefix acts, every mounting is accepted, and what it then shows, in whatever view, is the
+-- prefix's state.
+pub record Kept (c : List ℕ) (b : Book) : Type 0 where
+  pub state : State Content
+  pub prefix : acts (onCard b) (stateOf []) ≡ some state
+  pub mounts : (x : Rest) → Lent x → refusal mount (leaves c x) ≡ 0
+  pub shows : (x : Rest) → Lent x → (v : ℕ) → view (perform mount (leaves c x) .disk) v ≡ state
+
+abbrev pub Demand3 : Type 0
+Demand3 =
+    (d : Disk) → refusal format d ≡ 0 → (es : List Event) → valid (begun d) es ≡ true
+    → let s = play (begun d) es in Kept (s .world .disk .card) (s .book)

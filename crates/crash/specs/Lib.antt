@@ -1,0 +1,3 @@
+pub mod Event
+pub mod Book
+pub mod Demand3

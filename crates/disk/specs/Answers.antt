@@ -1,0 +1,57 @@
+-- The calls' answers as document 01's numbers: "Each enum answer has a definition that gives this paper's number and values for each of its cases."
+use mathlib.Core.Bool.{Bool, true, false, _&&_}
+use mathlib.Core.List.{List, [], _∷_}
+use Prim.Native.Nat.{ℕ}
+use lib.Dec.{eqb}
+use lib.ListN.{length, take, drop}
+use Rattle.lists.specs.Basic.{any, all}
+use Rattle.log.specs.Flush.{drained, full, spent}
+use Rattle.disk.specs.Perform.{Answer, endingNumber}
+use Rattle.disk.specs.declared.answer.Refusal.{Refusal}
+use Rattle.disk.specs.declared.answer.Refusal.the-variants.{WrongLength, LogFault, RecordUnsound, StreamClosed, OutOfRange, UnitOpen, ListNotTaken, BlockNotPlaced, PredecessorElsewhere, NoNumberFree, JournalFull, Conflict, QueueFull}
+use Rattle.disk.specs.declared.answer.Reply as R
+use Rattle.disk.specs.declared.answer.MountReply as M
+use Rattle.disk.specs.declared.answer.NumberReply as N
+use Rattle.disk.specs.declared.answer.FlushReply as F
+
+unfoldable pub number : Refusal → ℕ
+number WrongLength = 1
+number LogFault = 2
+number RecordUnsound = 3
+number StreamClosed = 4
+number OutOfRange = 5
+number UnitOpen = 6
+number ListNotTaken = 7
+number BlockNotPlaced = 8
+number PredecessorElsewhere = 9
+number NoNumberFree = 10
+number JournalFull = 11
+number Conflict = 12
+number QueueFull = 13
+
+-- "On no, the number is returned; other returned numbers are 0."
+abbrev pub refusedAnswer : Refusal → Answer
+refusedAnswer x = record { code = number x; value = 0; second = 0 }
+
+-- "An accepted call answers 0 beside its results."
+abbrev pub acceptedAnswer : ℕ → ℕ → Answer
+acceptedAnswer n m = record { code = 0; value = n; second = m }
+
+unfoldable pub replyAnswer : R.Reply → Answer
+replyAnswer R.the-variants.Accepted = acceptedAnswer 0 0
+replyAnswer (R.the-variants.Refused x) = refusedAnswer x
+
+unfoldable pub mountAnswer : M.MountReply → Answer
+mountAnswer M.the-variants.Accepted = acceptedAnswer 0 0
+mountAnswer (M.the-variants.Fault g i) = record { code = 2; value = g; second = i }
+mountAnswer (M.the-variants.Refused x) = refusedAnswer x
+
+unfoldable pub numberAnswer : N.NumberReply → Answer
+numberAnswer (N.the-variants.Number n) = acceptedAnswer n 0
+numberAnswer (N.the-variants.Refused x) = refusedAnswer x
+
+unfoldable pub flushAnswer : F.FlushReply → Answer
+flushAnswer (F.the-variants.Drained n) = acceptedAnswer n (endingNumber drained)
+flushAnswer (F.the-variants.Full n) = acceptedAnswer n (endingNumber full)
+flushAnswer (F.the-variants.Spent n) = acceptedAnswer n (endingNumber spent)
+flushAnswer (F.the-variants.Refused x) = refusedAnswer x

@@ -1,0 +1,73 @@
+-- The disk: the card, the lent data and the record; what the queue and the journals say, and the views.
+use mathlib.Core.Bool.{Bool, true, false, cond}
+use mathlib.Core.Option.{Option, none, some}
+use mathlib.Core.List.{List, [], _∷_}
+use Prim.Native.Nat.{ℕ, _+_, _-_, _*_}
+use lib.Dec.{eqb}
+use lib.ListN.{length, getD}
+use Rattle.lists.specs.Basic.{bind, from}
+use Rattle.lists.specs.Change.{Change, mapChange}
+use Rattle.lists.specs.State.{State, state, overlay}
+use Rattle.log.specs.Entry.{Entry, mapEntry, asEntry, asChange}
+use Rattle.log.specs.Reader.{Reader, replay}
+use Rattle.log.specs.Card.{Content, zeros, slot, Outcome, sound, fault, mounted}
+use Rattle.disk.specs.declared.record.Queued.{Queued}
+use Rattle.disk.specs.declared.record.Unit.{Unit}
+use Rattle.disk.specs.declared.record.Record.{Record}
+use Rattle.disk.specs.Record.{noQueued, noJournaled, unitAt, ringPlace, journalPlaces}
+
+-- "Every call is lent card, queue data, journal data and record."
+pub record Disk : Type 0 where
+  pub card : List ℕ
+  pub queueData : List ℕ
+  pub journalData : List ℕ
+  pub rec : Record
+
+abbrev pub withRecord : Disk → Record → Disk
+withRecord d r = record { card = d .card; queueData = d .queueData; journalData = d .journalData; rec = r }
+
+-- the queue's entry k, its data at its place of the queue data
+unfoldable pub queuedAt : Disk → ℕ → Entry Content
+queuedAt d k =
+    let p = ringPlace (d .rec) k in
+    let q = getD (d .rec .queue) p noQueued in
+    mapEntry (λ s. slot (d .queueData) p) (asEntry (q .member) (q .entry))
+
+unfoldable pub queued : Disk → List (Entry Content)
+queued d = from (queuedAt d) 0 (d .rec .len)
+
+unfoldable pub unitOf : Disk → ℕ → Unit
+unitOf d u = unitAt (d .rec) u
+
+-- "data of unit u's entry k, from 0, at ((u−1)×15+k)×256"
+abbrev pub journalPlace : ℕ → ℕ → ℕ
+journalPlace u k = (u - 1) * journalPlaces + k
+
+unfoldable pub journalAt : Disk → ℕ → ℕ → Change Content
+journalAt d u k = mapChange (λ s. slot (d .journalData) (journalPlace u k)) (asChange (getD (unitOf d u .journal) k noJournaled .entry))
+
+unfoldable pub journalOf : Disk → ℕ → List (Change Content)
+journalOf d u = from (journalAt d u) 0 (unitOf d u .len)
+
+unfoldable pub readerOf : Outcome Content → Option (Reader Content)
+readerOf (sound r) = some r
+readerOf (fault g i) = none
+
+unfoldable pub committedReader : Disk → Option (Reader Content)
+committedReader d = bind (readerOf (mounted (d .card))) (λ r. replay zeros r (queued d))
+
+unfoldable pub stateOf : Option (Reader Content) → State Content
+stateOf none = state []
+stateOf (some r) = r .state
+
+-- "The persistent state is the log's. The committed state is that of the log followed by the queue."
+unfoldable pub persistent : Disk → State Content
+persistent d = stateOf (readerOf (mounted (d .card)))
+
+unfoldable pub committed : Disk → State Content
+committed d = stateOf (committedReader d)
+
+-- "Unit u's view is the committed state now with u's journal replayed in order [..]. View 0 is the committed state, 1 to 4 an open unit's, 5 the
+-- persistent one."
+unfoldable pub view : Disk → ℕ → State Content
+view d v = cond (eqb v 5) (persistent d) (cond (eqb v 0) (committed d) (overlay zeros (journalOf d v) (committed d)))

@@ -1,0 +1,202 @@
+-- What each call answers, and all that it leaves: of the record, of the card, of both data buffers and of the lent destination.
+use mathlib.Core.Bool.{Bool, true, false, cond}
+use mathlib.Core.Option.{Option, none, some}
+use mathlib.Core.List.{List, [], _∷_, _++_, map}
+use Prim.Native.Nat.{ℕ, zero, suc, _+_, _-_, _*_, _/_, _%_, min}
+use lib.Dec.{eqb}
+use lib.ListN.{length, drop, take, getD, set}
+use Rattle.lists.specs.Basic.{orElse}
+use Rattle.lists.specs.Change.{Change, takeList, putFirst, putAfter, write, delBlock, delList, carriedBy}
+use Rattle.lists.specs.State.{Block, Row, State}
+use Rattle.log.specs.declared.entry.LogEntry.the-variants.{Commit}
+use Rattle.log.specs.Entry.{Entry, plain, member, commit, carried, logChange}
+use Rattle.log.specs.Card.{Content, zeros, slotBytes, segmentsIn, Outcome, sound, fault, mounted}
+use Rattle.log.specs.Store.{doStores, formatStores, tail}
+use Rattle.log.specs.Flush.{Flow, Flushed, Ending, drained, full, spent, flushFrom}
+use Rattle.disk.specs.declared.record.Queued.{Queued}
+use Rattle.disk.specs.declared.record.Record.{Record}
+use Rattle.disk.specs.Record.{ringPlace, withQueue, withFlow, withUnits, withLastBlock, withLastList, withConflicts, emptied, journaled, released, freshRecord, queuePlaces}
+use Rattle.disk.specs.Disk.{Disk, withRecord, unitOf, journalPlace, journalOf, queued, view}
+use Rattle.disk.specs.Call.{Call, format, mount, conflictCount, newList, newBlock, writeBlock, readBlock, deleteBlock, deleteList, begin, end, flush, blockAfter, inventory, ends, destination}
+use Rattle.disk.specs.Questions.{freeBlock, freeList, refusal}
+
+-- the returned numbers: the question's number or 0, and the results
+pub record Answer : Type 0 where
+  pub code : ℕ
+  pub value : ℕ
+  pub second : ℕ
+
+pub record Result : Type 0 where
+  pub disk : Disk
+  pub answer : Answer
+  pub lent : List ℕ
+
+-- bytes v put into a buffer from i on: "Only the 256 bytes of a write being added change there; other entries change none."
+unfoldable pub splice : List ℕ → ℕ → List ℕ → List ℕ
+splice d i v = take i d ++ v ++ drop (i + length v) d
+
+unfoldable pub spliceSome : List ℕ → ℕ → Option (List ℕ) → List ℕ
+spliceSome d i none = d
+spliceSome d i (some v) = splice d i v
+
+-- an entry as the queue holds it
+unfoldable pub queuedEntry : {D : Type 0} → Entry D → Queued
+queuedEntry (plain c) = record { member = false; entry = logChange c }
+queuedEntry (member c) = record { member = true; entry = logChange c }
+queuedEntry (commit n) = record { member = false; entry = Commit n }
+
+-- the entry joins the queue, its data at its place
+unfoldable pub enqueue : Entry Content → Disk → Disk
+enqueue e d =
+    let r = d .rec in
+    let p = ringPlace r (r .len) in
+    record
+    { card = d .card
+    ; queueData = spliceSome (d .queueData) (slotBytes * p) (carried e)
+    ; journalData = d .journalData
+    ; rec = withQueue r (set (r .queue) p (queuedEntry e)) (r .len + 1)
+    }
+
+unfoldable pub enqueueAll : List (Entry Content) → Disk → Disk
+enqueueAll [] d = d
+enqueueAll (e ∷ es) d = enqueueAll es (enqueue e d)
+
+-- the change joins unit u's journal, its data at its place
+unfoldable pub journalAdd : ℕ → Change Content → Disk → Disk
+journalAdd u c d =
+    let x = unitOf d u in
+    record
+    { card = d .card
+    ; queueData = d .queueData
+    ; journalData = spliceSome (d .journalData) (slotBytes * journalPlace u (x .len)) (carriedBy c)
+    ; rec = withUnits (d .rec) (set (d .rec .units) (u - 1) (journaled x (logChange c))) (d .rec .holder)
+    }
+
+-- "Changes come on stream 0 (simple; queued) or 1 to 4 (journalled, no log entry)."
+unfoldable pub change : ℕ → Change Content → Disk → Disk
+change s c d = elim s [ zero ↦ enqueue (plain c) d | suc u ↦ journalAdd (suc u) c d ]
+
+-- "A block made in a unit is held by it until it ends."
+unfoldable pub hold : ℕ → ℕ → Disk → Disk
+hold s b d = elim s [ zero ↦ d | suc u ↦ withRecord d (withUnits (d .rec) (d .rec .units) (set (d .rec .holder) (b - 1) (suc u))) ]
+
+unfoldable pub gaveBlock : ℕ → Disk → Disk
+gaveBlock b d = withRecord d (withLastBlock (d .rec) b)
+
+unfoldable pub gaveList : ℕ → Disk → Disk
+gaveList l d = withRecord d (withLastList (d .rec) l)
+
+unfoldable pub opening : ℕ → Disk → Disk
+opening u d = withRecord d (withUnits (d .rec) (set (d .rec .units) (u - 1) (emptied true (unitOf d u))) (d .rec .holder))
+
+-- "the unit closes, its journal goes, its held numbers are released"
+unfoldable pub closing : ℕ → Disk → Disk
+closing u d = withRecord d (withUnits (d .rec) (set (d .rec .units) (u - 1) (emptied false (unitOf d u))) (released u (d .rec .holder)))
+
+-- "the conflict count (one for all, stops at 65,535 [..]) rises"
+unfoldable pub conflicted : Disk → Disk
+conflicted d = withRecord d (withConflicts (d .rec) (min 65535 (d .rec .conflicts + 1)))
+
+-- "End queues the journal as members, then a commit"
+unfoldable pub unitEntries : List (Change Content) → List (Entry Content)
+unitEntries cs = map member cs ++ commit (length cs) ∷ []
+
+-- put first where the predecessor is 0
+unfoldable pub putAt : ℕ → ℕ → ℕ → Change Content
+putAt b l p = elim p [ zero ↦ putFirst b l | suc q ↦ putAfter b l (suc q) ]
+
+-- the content of a block of a state
+unfoldable pub contentIn : List (Block Content) → ℕ → Option Content
+contentIn [] b = none
+contentIn (x ∷ xs) b = elim (eqb (x .num) b) [ true ↦ some (x .content) | false ↦ contentIn xs b ]
+
+unfoldable pub contentOf : List (Row Content) → ℕ → Option Content
+contentOf [] b = none
+contentOf (r ∷ rs) b = elim (contentIn (r .blocks) b) [ none ↦ contentOf rs b | some x ↦ some x ]
+
+-- "the block after a given one on a list (0 for the first; 0 is returned at the end [..])"
+unfoldable pub blocksOf : List (Row Content) → ℕ → List ℕ
+blocksOf [] l = []
+blocksOf (r ∷ rs) l = elim (eqb (r .num) l) [ true ↦ map (λ x. x .num) (r .blocks) | false ↦ blocksOf rs l ]
+
+unfoldable pub nextIn : ℕ → List ℕ → ℕ
+nextIn p [] = 0
+nextIn p (x ∷ xs) = elim (eqb x p) [ true ↦ getD xs 0 0 | false ↦ nextIn p xs ]
+
+unfoldable pub nextAfter : List (Row Content) → ℕ → ℕ → ℕ
+nextAfter rs l p = nextIn p (0 ∷ blocksOf rs l)
+
+-- the lists taken in a state
+unfoldable pub listsOf : State Content → List ℕ
+listsOf s = map (λ (r : Row Content). r .num) (s .lists)
+
+-- the flow that the disk stands in, and the disk that a flow leaves
+unfoldable pub flowOf : Disk → Flow
+flowOf d = record { card = d .card; place = tail (d .card); queue = queued d; done = d .rec .done }
+
+unfoldable pub flushed : ℕ → Disk → Flushed
+flushed a d = flushFrom (segmentsIn (d .card)) a 0 (flowOf d)
+
+-- "the head place moves on by one as an entry is drained"
+unfoldable pub afterFlush : Disk → Flow → Disk
+afterFlush d f =
+    let r = d .rec in
+    record
+    { card = f .card; queueData = d .queueData; journalData = d .journalData
+    ; rec = withFlow r ((r .head + (r .len - length (f .queue))) % queuePlaces) (length (f .queue)) (f .done)
+    }
+
+-- the card after the first k stores of a formatting
+unfoldable pub formatted : ℕ → List ℕ → List ℕ
+formatted k c = doStores (take k (formatStores (segmentsIn c))) c
+
+-- our number of an ending: document 01 gives none
+unfoldable pub endingNumber : Ending → ℕ
+endingNumber drained = 0
+endingNumber full = 1
+endingNumber spent = 2
+
+abbrev pub reply : Disk → ℕ → ℕ → List ℕ → Result
+reply d n m x = record { disk = d; answer = record { code = 0; value = n; second = m }; lent = x }
+
+-- what an accepted call does and returns
+unfoldable pub accepted : Call → Disk → Result
+accepted format d = reply (record { card = formatted (segmentsIn (d .card)) (d .card); queueData = d .queueData; journalData = d .journalData; rec = freshRecord }) 0 0 []
+accepted mount d = reply (withRecord d freshRecord) 0 0 []
+accepted conflictCount d = reply d (d .rec .conflicts) 0 []
+accepted (newList s) d = let l = orElse 0 (freeList d) in reply (gaveList l (enqueue (plain (takeList l)) d)) l 0 []
+accepted (newBlock s l p) d = let b = orElse 0 (freeBlock d) in reply (gaveBlock b (hold s b (change s (putAt b l p) d))) b 0 []
+accepted (writeBlock s b x) d = reply (change s (write b x) d) 0 0 []
+accepted (readBlock v b x) d = reply d 0 0 (orElse zeros (contentOf (view d v .lists) b))
+accepted (deleteBlock s b) d = reply (change s (delBlock b) d) 0 0 []
+accepted (deleteList s l) d = reply (change s (delList l) d) 0 0 []
+accepted (begin u) d = reply (opening u d) 0 0 []
+accepted (end u) d = reply (closing u (enqueueAll (unitEntries (journalOf d u)) d)) 0 0 []
+accepted (flush a) d = let f = flushed a d in reply (afterFlush d (f .flow)) (f .stores) (endingNumber (f .ending)) []
+accepted (blockAfter v l p) d = reply d (nextAfter (view d v .lists) l p) 0 []
+accepted (inventory v x) d = let ls = listsOf (view d v) in reply d (length ls) 0 (ls ++ drop (length ls) x)
+
+-- "Beyond refusal 12's closing, a refusal changes nothing."
+unfoldable pub refused : Call → ℕ → Disk → Disk
+refused c n d = elim (ends c) [ none ↦ d | some u ↦ elim (eqb n 12) [ true ↦ conflicted (closing u d) | false ↦ d ] ]
+
+-- "2, with segment and entry (from 0) of the first fault"; "other returned numbers are 0"
+unfoldable pub faultAt : Outcome Content → ℕ → Answer
+faultAt (sound r) n = record { code = n; value = 0; second = 0 }
+faultAt (fault g i) n = record { code = n; value = g; second = i }
+
+unfoldable pub refusalAnswer : ℕ → Disk → Answer
+refusalAnswer n d = elim (eqb n 2) [ true ↦ faultAt (mounted (d .card)) n | false ↦ record { code = n; value = 0; second = 0 } ]
+
+-- what a call makes of the disk
+unfoldable pub perform : Call → Disk → Result
+perform c d =
+    let n = refusal c d in
+    elim n
+    [ zero ↦ accepted c d
+    | suc m ↦ record { disk = refused c (suc m) d; answer = refusalAnswer (suc m) d; lent = destination c }
+    ]
+
+unfoldable pub performAll : List Call → Disk → Disk
+performAll [] d = d
+performAll (c ∷ cs) d = performAll cs (perform c d .disk)

@@ -1,0 +1,110 @@
+-- The thirteen questions, in order, and the refusal of a call.
+use mathlib.Core.Bool.{Bool, true, false, _&&_, _||_, not}
+use mathlib.Core.Option.{Option, none, some}
+use mathlib.Core.List.{List, [], _∷_}
+use Prim.Native.Nat.{ℕ, zero, suc, _+_, _%_}
+use lib.Dec.{leb, eqb, ltb}
+use lib.ListN.{length}
+use Rattle.lists.specs.Basic.{isSome}
+use Rattle.lists.specs.State.{Row, State, taken, placed, onList, applyAll}
+use Rattle.log.specs.Entry.{isBlock, isList}
+use Rattle.log.specs.Card.{Content, zeros, slotBytes, mounted}
+use Rattle.disk.specs.declared.record.Record.{Record}
+use Rattle.disk.specs.Record.{holderOf, queuePlaces, journalPlaces, unitCount}
+use Rattle.disk.specs.Disk.{Disk, unitOf, journalOf, readerOf, committed, view}
+use Rattle.disk.specs.Sound.{lengthsRight, recordSound, isOpenUnit}
+use Rattle.disk.specs.Call.{Call, format, mount, conflictCount, newList, newBlock, writeBlock, readBlock, deleteBlock, deleteList, begin, end, flush, blockAfter, inventory}
+
+-- "2. Mounting: is the log acceptable"
+unfoldable pub mountable : Disk → Bool
+mountable d = isSome (readerOf (mounted (d .card)))
+
+-- "4. Is the stream or view open and known?"
+unfoldable pub streamOpen : Disk → ℕ → Bool
+streamOpen d s = eqb s 0 || isOpenUnit d s
+
+unfoldable pub viewOpen : Disk → ℕ → Bool
+viewOpen d v = eqb v 5 || streamOpen d v
+
+-- "9. Is the predecessor on that list?" (0 allowed)
+unfoldable pub predecessorRight : List (Row Content) → ℕ → ℕ → Bool
+predecessorRight rs l p = eqb p 0 || onList l p rs
+
+-- "the first free number after the one given last, 1 following 64": of k numbers after the last
+unfoldable pub freeFrom : (ℕ → Bool) → ℕ → ℕ → ℕ → Option ℕ
+freeFrom used limit zero last = none
+freeFrom used limit (suc k) last =
+    let n = suc (last % limit) in
+    elim (used n) [ true ↦ freeFrom used limit k n | false ↦ some n ]
+
+-- "Free means on no committed list and not held by an open unit."
+unfoldable pub freeBlock : Disk → Option ℕ
+freeBlock d =
+    let s = committed d in
+    freeFrom (λ b. placed b (s .lists) || not (eqb (holderOf (d .rec) b) 0)) 64 64 (d .rec .«last_block»)
+
+-- "NewList likewise with 16 (free: not taken in the committed state)"
+unfoldable pub freeList : Disk → Option ℕ
+freeList d = let s = committed d in freeFrom (λ l. taken l (s .lists)) 16 16 (d .rec .«last_list»)
+
+-- "11. Has the journal fewer than 15?" (streams 1 to 4)
+unfoldable pub journalRoom : Disk → ℕ → Bool
+journalRoom d s = eqb s 0 || ltb (unitOf d s .len) journalPlaces
+
+-- "12. End: does every entry apply?"
+unfoldable pub endApplies : Disk → ℕ → Bool
+endApplies d u = isSome (applyAll zeros (journalOf d u) (committed d))
+
+-- "13. Does the queue take what is added": n entries
+unfoldable pub queueRoom : Disk → ℕ → Bool
+queueRoom d n = leb (d .rec .len + n) queuePlaces
+
+-- (stream 0)
+unfoldable pub streamRoom : Disk → ℕ → Bool
+streamRoom d s = not (eqb s 0) || queueRoom d 1
+
+-- the questions of a call in order, each with its number; "A call passes over what it doesn't use."
+unfoldable pub questions : Call → Disk → List (ℕ × Bool)
+questions format d = (1, lengthsRight d) ∷ []
+questions mount d = (1, lengthsRight d) ∷ (2, mountable d) ∷ []
+questions conflictCount d = (1, lengthsRight d) ∷ (3, recordSound d) ∷ []
+questions (newList s) d =
+    (1, lengthsRight d) ∷ (3, recordSound d)
+    ∷ (4, streamOpen d s) ∷ (10, isSome (freeList d)) ∷ (13, queueRoom d 1) ∷ []
+questions (newBlock s l p) d =
+    (1, lengthsRight d) ∷ (3, recordSound d) ∷ (4, streamOpen d s) ∷ (5, isList l && leb p 64)
+    ∷ (7, taken l (view d s .lists)) ∷ (9, predecessorRight (view d s .lists) l p) ∷ (10, isSome (freeBlock d)) ∷ (11, journalRoom d s) ∷ (13, streamRoom d s) ∷ []
+questions (writeBlock s b x) d =
+    (1, lengthsRight d) ∷ (3, recordSound d) ∷ (4, streamOpen d s)
+    ∷ (5, isBlock b && eqb (length x) slotBytes) ∷ (8, placed b (view d s .lists)) ∷ (11, journalRoom d s) ∷ (13, streamRoom d s) ∷ []
+questions (readBlock v b x) d =
+    (1, lengthsRight d) ∷ (3, recordSound d)
+    ∷ (4, viewOpen d v) ∷ (5, isBlock b && eqb (length x) slotBytes) ∷ (8, placed b (view d v .lists)) ∷ []
+questions (deleteBlock s b) d =
+    (1, lengthsRight d) ∷ (3, recordSound d) ∷ (4, streamOpen d s)
+    ∷ (5, isBlock b) ∷ (8, placed b (view d s .lists)) ∷ (11, journalRoom d s) ∷ (13, streamRoom d s) ∷ []
+questions (deleteList s l) d =
+    (1, lengthsRight d) ∷ (3, recordSound d) ∷ (4, streamOpen d s)
+    ∷ (5, isList l) ∷ (7, taken l (view d s .lists)) ∷ (11, journalRoom d s) ∷ (13, streamRoom d s) ∷ []
+questions (begin u) d = (1, lengthsRight d) ∷ (3, recordSound d) ∷ (4, leb 1 u && leb u unitCount) ∷ (6, not (unitOf d u .opened)) ∷ []
+questions (end u) d =
+    (1, lengthsRight d) ∷ (3, recordSound d)
+    ∷ (4, isOpenUnit d u) ∷ (12, endApplies d u) ∷ (13, queueRoom d (unitOf d u .len + 1)) ∷ []
+questions (flush a) d = (1, lengthsRight d) ∷ (3, recordSound d) ∷ (5, leb a 65535) ∷ []
+questions (blockAfter v l p) d =
+    (1, lengthsRight d) ∷ (3, recordSound d) ∷ (4, viewOpen d v)
+    ∷ (5, isList l && leb p 64) ∷ (7, taken l (view d v .lists)) ∷ (9, predecessorRight (view d v .lists) l p) ∷ []
+questions (inventory v x) d = (1, lengthsRight d) ∷ (3, recordSound d) ∷ (4, viewOpen d v) ∷ (5, eqb (length x) 16) ∷ []
+
+-- the number of a question answered no, or what the later ones give
+unfoldable pub ask : Bool → ℕ → ℕ → ℕ
+ask true n k = k
+ask false n k = n
+
+unfoldable pub firstNo : List (ℕ × Bool) → ℕ
+firstNo [] = 0
+firstNo (q ∷ qs) = ask (q .1) (q .0) (firstNo qs)
+
+-- "On no, the number is returned"; 0: the call is accepted
+unfoldable pub refusal : Call → Disk → ℕ
+refusal c d = firstNo (questions c d)

@@ -1,0 +1,78 @@
+-- Questions 1 and 3: the lent lengths, and the record's soundness, clause by clause.
+use mathlib.Core.Bool.{Bool, true, false, _&&_, _||_, not}
+use mathlib.Core.Option.{Option, none, some}
+use mathlib.Core.List.{List, [], _∷_}
+use Prim.Native.Nat.{ℕ, _/_}
+use lib.Dec.{leb, eqb, ltb}
+use lib.ListN.{length, take, getD}
+use Rattle.lists.specs.Basic.{isSome, all, each, from}
+use Rattle.lists.specs.Change.{Change, takeList, putFirst, putAfter, write, delBlock, delList}
+use Rattle.lists.specs.State.{placed}
+use Rattle.log.specs.Entry.{Entry, member, raw, legal, isBlock, isList}
+use Rattle.log.specs.Card.{Content, cardLength, segmentsIn}
+use Rattle.log.specs.Store.{Store, Place, home, tail, entryStores}
+use Rattle.disk.specs.declared.record.Record.{Record}
+use Rattle.disk.specs.Record.{shaped, holderOf, queuePlaces, journalPlaces, unitCount}
+use Rattle.disk.specs.Disk.{Disk, unitOf, queued, journalOf, committed, committedReader}
+
+-- "1. Are the lent lengths of card, queue data and journal data right?"
+unfoldable pub lengthsRight : Disk → Bool
+lengthsRight d = cardLength (d .card) && eqb (length (d .queueData)) 8192 && eqb (length (d .journalData)) 15360
+
+unfoldable pub isOpenUnit : Disk → ℕ → Bool
+isOpenUnit d u = leb 1 u && leb u unitCount && unitOf d u .opened
+
+-- the block that a change puts
+unfoldable pub putBy : {D : Type 0} → Change D → List ℕ
+putBy (takeList l) = []
+putBy (putFirst b l) = b ∷ []
+putBy (putAfter b l p) = b ∷ []
+putBy (write b d) = []
+putBy (delBlock b) = []
+putBy (delList l) = []
+
+-- "each block a journal puts held by that unit, journals only of kinds that have a member map"
+unfoldable pub journalSound : Record → ℕ → Change Content → Bool
+journalSound r u c = legal (raw 0 (member c)) && all (λ b. eqb (holderOf r b) u) (putBy c)
+
+-- "counts [..] in range, closed units with empty journals"
+unfoldable pub unitSound : Disk → ℕ → Bool
+unitSound d u =
+    each
+    ( leb (unitOf d u .len) journalPlaces
+    ∷ (unitOf d u .opened || eqb (unitOf d u .len) 0)
+    ∷ all (journalSound (d .rec) u) (journalOf d u)
+    ∷ [])
+
+-- "[closed units with] nothing held", "held blocks on no committed list and held once": the table names one holder for each block
+unfoldable pub holderSound : Disk → ℕ → Bool
+holderSound d b = eqb (holderOf (d .rec) b) 0 || isOpenUnit d (holderOf (d .rec) b) && not (placed b (committed d .lists))
+
+-- do these stores stand on the card? 256 is no byte, so a store outside it does not
+unfoldable pub standing : List Store → List ℕ → Bool
+standing [] c = true
+standing (x ∷ xs) c = eqb (getD c (x .0) 256) (x .1) && standing xs c
+
+-- "stores already done of the head (none if it has no place) standing on the card": k of them are done
+unfoldable pub headAt : List ℕ → ℕ → Option Place → Entry Content → Bool
+headAt c k none e = eqb k 0
+headAt c k (some p) e = let ss = entryStores p e in ltb k (length ss) && standing (take k ss) c
+
+unfoldable pub headStanding : List ℕ → ℕ → List (Entry Content) → Bool
+headStanding c k [] = eqb k 0
+headStanding c k (e ∷ q) = headAt c k (home (segmentsIn c) (tail c) e) e
+
+-- "3. Is the record sound: counts and numbers in range, [..] card acceptable followed by the queue, [..]?" No table is kept for speed.
+unfoldable pub recordSound : Disk → Bool
+recordSound d =
+    let r = d .rec in
+    each
+    ( shaped r
+    ∷ leb (r .len) queuePlaces ∷ ltb (r .head) queuePlaces
+    ∷ isBlock (r .«last_block») ∷ isList (r .«last_list») ∷ leb (r .conflicts) 65535
+    ∷ all (λ e. legal (raw 0 e)) (queued d)
+    ∷ all (unitSound d) (from (λ u. u) 1 unitCount)
+    ∷ isSome (committedReader d)
+    ∷ headStanding (d .card) (r .done) (queued d)
+    ∷ all (holderSound d) (from (λ b. b) 1 64)
+    ∷ [])

@@ -1,0 +1,3 @@
+// The logical disk above the log: the working record, the views and units, the calls.
+pub mod answer;
+pub mod record;

@@ -1,0 +1,3 @@
+pub mod Basic
+pub mod Change
+pub mod State

@@ -1,0 +1,108 @@
+-- What a state is, and how a change acts on it. D is what stands for a block's content; z is the blank one.
+use mathlib.Core.Bool.{Bool, true, false, _&&_, _||_, not, cond}
+use mathlib.Core.Option.{Option, none, some}
+use mathlib.Core.List.{List, [], _∷_, _++_, map}
+use Prim.Native.Nat.{ℕ}
+use lib.Dec.{eqb}
+use Rattle.lists.specs.Basic.{guard, bind, orElse, any, keep}
+use Rattle.lists.specs.Change.{Change, takeList, putFirst, putAfter, write, delBlock, delList}
+
+-- "A state is the lists taken, the blocks on each in order, and 256 bytes for each such block."
+pub record Block (D : Type 0) : Type 0 where
+  pub num : ℕ
+  pub content : D
+
+-- a list taken, with its blocks in order
+pub record Row (D : Type 0) : Type 0 where
+  pub num : ℕ
+  pub blocks : List (Block D)
+
+-- the lists stand in the order of their taking
+pub record State (D : Type 0) : Type 0 where
+  pub lists : List (Row D)
+
+abbrev pub block : {D : Type 0} → ℕ → D → Block D
+block b d = record { num = b; content = d }
+
+abbrev pub row : {D : Type 0} → ℕ → List (Block D) → Row D
+row l bs = record { num = l; blocks = bs }
+
+abbrev pub state : {D : Type 0} → List (Row D) → State D
+state rs = record { lists = rs }
+
+abbrev pub isBlockNum : {D : Type 0} → ℕ → Block D → Bool
+isBlockNum b x = eqb (x .num) b
+
+abbrev pub onBlocksOf : {D : Type 0} → ℕ → List (Block D) → Bool
+onBlocksOf b xs = any (isBlockNum b) xs
+
+abbrev pub isRow : {D : Type 0} → ℕ → Row D → Bool
+isRow l r = eqb (r .num) l
+
+abbrev pub onRow : {D : Type 0} → ℕ → Row D → Bool
+onRow b r = onBlocksOf b (r .blocks)
+
+abbrev pub isRowWith : {D : Type 0} → ℕ → ℕ → Row D → Bool
+isRowWith l b r = isRow l r && onRow b r
+
+-- is list l taken? is block b on some list? is it on list l?
+unfoldable pub taken : {D : Type 0} → ℕ → List (Row D) → Bool
+taken l rs = any (isRow l) rs
+
+unfoldable pub placed : {D : Type 0} → ℕ → List (Row D) → Bool
+placed b rs = any (onRow b) rs
+
+unfoldable pub onList : {D : Type 0} → ℕ → ℕ → List (Row D) → Bool
+onList l b rs = any (isRowWith l b) rs
+
+-- "A take needs the list not taken, a deletion its list taken or its block on some list. A put needs the list taken, the block on no list and
+-- the predecessor on that list; [..] A write needs the block on some list."
+unfoldable pub applies : {D : Type 0} → Change D → List (Row D) → Bool
+applies (takeList l) rs = not (taken l rs)
+applies (putFirst b l) rs = taken l rs && not (placed b rs)
+applies (putAfter b l p) rs = taken l rs && not (placed b rs) && onList l p rs
+applies (write b d) rs = placed b rs
+applies (delBlock b) rs = placed b rs
+applies (delList l) rs = taken l rs
+
+abbrev pub insertAfter : {D : Type 0} → ℕ → Block D → List (Block D) → List (Block D)
+insertAfter p n [] = []
+insertAfter p n (x ∷ xs) = cond (isBlockNum p x) (x ∷ n ∷ xs) (x ∷ insertAfter p n xs)
+
+abbrev pub onBlocks : {D E : Type 0} → (List (Block D) → List (Block E)) → Row D → Row E
+onBlocks f r = row (r .num) (f (r .blocks))
+
+-- a row with its blocks changed, if it is list l's
+abbrev pub at : {D : Type 0} → ℕ → (List (Block D) → List (Block D)) → Row D → Row D
+at l f r = cond (isRow l r) (onBlocks f r) r
+
+abbrev pub put : {D : Type 0} → ℕ → D → Block D → Block D
+put b d x = cond (isBlockNum b x) (block b d) x
+
+abbrev pub otherBlock : {D : Type 0} → ℕ → Block D → Bool
+otherBlock b x = not (isBlockNum b x)
+
+abbrev pub otherRow : {D : Type 0} → ℕ → Row D → Bool
+otherRow l r = not (isRow l r)
+
+-- The lists after a change that applies: "a block just put holds 256 zeros", here z. "Deleting a list frees its blocks too."
+unfoldable pub changed : {D : Type 0} → D → Change D → List (Row D) → List (Row D)
+changed z (takeList l) rs = rs ++ row l [] ∷ []
+changed z (putFirst b l) rs = map (at l (λ bs. block b z ∷ bs)) rs
+changed z (putAfter b l p) rs = map (at l (insertAfter p (block b z))) rs
+changed z (write b d) rs = map (onBlocks (map (put b d))) rs
+changed z (delBlock b) rs = map (onBlocks (keep (otherBlock b))) rs
+changed z (delList l) rs = keep (otherRow l) rs
+
+unfoldable pub apply : {D : Type 0} → D → Change D → State D → Option (State D)
+apply z c s = guard (applies c (s .lists)) (some (state (changed z c (s .lists))))
+
+-- changes in order, all of which must apply
+unfoldable pub applyAll : {D : Type 0} → D → List (Change D) → State D → Option (State D)
+applyAll z [] s = some s
+applyAll z (c ∷ cs) s = bind (apply z c s) (λ t. applyAll z cs t)
+
+-- "replayed in order; an entry that doesn't apply is skipped"
+unfoldable pub overlay : {D : Type 0} → D → List (Change D) → State D → State D
+overlay z [] s = s
+overlay z (c ∷ cs) s = overlay z cs (orElse s (apply z c s))

@@ -1,0 +1,5 @@
+pub mod Entry
+pub mod Reader
+pub mod Card
+pub mod Store
+pub mod Flush

@@ -1,0 +1,80 @@
+-- Where an entry goes on the card, and the byte stores that put it there.
+use mathlib.Core.Bool.{Bool, true, false, _&&_, cond}
+use mathlib.Core.Option.{Option, none, some}
+use mathlib.Core.List.{List, [], _∷_, _++_}
+use Prim.Native.Nat.{ℕ, zero, suc, _+_, _*_}
+use lib.Dec.{leb, eqb, ltb}
+use lib.ListN.{set}
+use Rattle.log.specs.Entry.{Entry, carried, encode, raw, entryLength}
+use Rattle.log.specs.Card.{Content, Item, good, bad, items, cardSlot, segmentsIn, usedBy, segmentBytes, slotBytes, slotCount, countOffset, entriesOffset, entryBytes}
+
+-- one byte stored: where, and what
+abbrev pub Store : Type 0
+Store = ℕ × ℕ
+
+unfoldable pub doStores : List Store → List ℕ → List ℕ
+doStores [] c = c
+doStores (x ∷ xs) c = doStores xs (set c (x .0) (x .1))
+
+-- "Formatting stores 0 in each count byte, the last segment's first and segment 0's last, and in no other byte."
+unfoldable pub formatStores : ℕ → List Store
+formatStores zero = []
+formatStores (suc n) = (segmentBytes * n + countOffset, 0) ∷ formatStores n
+
+-- a place in the log: segment, entries in it, entry bytes in it, slots used in it
+pub record Place : Type 0 where
+  pub segment : ℕ
+  pub entries : ℕ
+  pub bytes : ℕ
+  pub slotsUsed : ℕ
+
+unfoldable pub opened : ℕ → Place
+opened g = record { segment = g; entries = 0; bytes = 0; slotsUsed = 0 }
+
+unfoldable pub after : {D : Type 0} → Place → Entry D → Place
+after p e = record
+  { segment = p .segment
+  ; entries = suc (p .entries)
+  ; bytes = p .bytes + entryLength e
+  ; slotsUsed = p .slotsUsed + usedBy (carried e)
+  }
+
+unfoldable pub afterAll : {D : Type 0} → Place → List (Entry D) → Place
+afterAll p [] = p
+afterAll p (e ∷ es) = afterAll (after p e) es
+
+unfoldable pub fits : {D : Type 0} → Place → Entry D → Bool
+fits p e = leb (p .bytes + entryLength e) entryBytes && leb (p .slotsUsed + usedBy (carried e)) slotCount
+
+-- "An entry that doesn't fit (slots, or entry bytes) opens the next segment.": its place on a card of n segments, behind p; none: there is no place
+unfoldable pub home : {D : Type 0} → ℕ → Place → Entry D → Option Place
+home n p e = cond (fits p e) (some p) (cond (ltb (suc (p .segment)) n) (some (opened (suc (p .segment)))) none)
+
+-- the place behind an item that the walk met, p being the place behind the one before
+unfoldable pub behind : {D : Type 0} → Place → Item D → Place
+behind p (good g i e) = after (cond (eqb (p .segment) g) p (opened g)) e
+behind p (bad g i) = p
+
+unfoldable pub behindAll : {D : Type 0} → Place → List (Item D) → Place
+behindAll p [] = p
+behindAll p (i ∷ is) = behindAll (behind p i) is
+
+-- the place behind the log of a card
+unfoldable pub tail : List ℕ → Place
+tail c = behindAll (opened 0) (items (cardSlot c) c (segmentsIn c) 0)
+
+unfoldable pub storesFrom : ℕ → List ℕ → List Store
+storesFrom a [] = []
+storesFrom a (b ∷ bs) = (a, b) ∷ storesFrom (suc a) bs
+
+unfoldable pub dataOf : Option Content → List ℕ
+dataOf none = []
+dataOf (some d) = d
+
+-- "if it writes, 256 data bytes into the segment's next slot [..]; then the entry, lowest byte first; then the raised count byte", which is its
+-- closing store
+unfoldable pub entryStores : Place → Entry Content → List Store
+entryStores p e =
+    storesFrom (segmentBytes * p .segment + slotBytes * p .slotsUsed) (dataOf (carried e))
+    ++ storesFrom (segmentBytes * p .segment + entriesOffset + p .bytes) (encode (raw (p .slotsUsed) e))
+    ++ (segmentBytes * p .segment + countOffset, suc (p .entries)) ∷ []
