@@ -39,10 +39,13 @@ emptyBook n = record { history = []; line = []; done = 0; batches = replicate un
 
 -- "An accepted simple change or NewList joins the serial history, and its log entry the waiting line."
 unfoldable pub joinPlain : Change Content → Book → Book
-joinPlain c b = record
-  { history = b .history ++ simple c ∷ []
-  ; line = b .line ++ record { entry = plain c; closes = some (length (b .history)) } ∷ []
-  ; done = b .done; batches = b .batches; segs = b .segs }
+joinPlain c b = record {
+  history = b .history ++ simple c ∷ [];
+  line = b .line ++ record { entry = plain c; closes = some (length (b .history)) } ∷ [];
+  done = b .done;
+  batches = b .batches;
+  segs = b .segs;
+}
 
 unfoldable pub batchOf : Book → ℕ → List (Change Content)
 batchOf b u = getD (b .batches) (u - 1) []
@@ -61,10 +64,13 @@ memberOf c = record { entry = member c; closes = none }
 unfoldable pub joinUnit : ℕ → Book → Book
 joinUnit u b =
     let cs = batchOf b u in
-    withBatch (record
-      { history = b .history ++ whole cs ∷ []
-      ; line = b .line ++ map memberOf cs ++ record { entry = commit (length cs); closes = some (length (b .history)) } ∷ []
-      ; done = b .done; batches = b .batches; segs = b .segs }) u []
+    withBatch (record {
+      history = b .history ++ whole cs ∷ [];
+      line = b .line ++ map memberOf cs ++ record { entry = commit (length cs); closes = some (length (b .history)) } ∷ [];
+      done = b .done;
+      batches = b .batches;
+      segs = b .segs;
+    }) u []
 
 -- "each entry takes one store more than its length, a write 256 besides"
 unfoldable pub cost : Entry Content → ℕ
@@ -92,14 +98,14 @@ moveTo g w ss = set ss g (getD ss g [] ++ w ∷ [])
 -- one store along the line: "The last of them, its closing store [..], moves it from the line to the last segment in use, 0 if none is, or, not
 -- fitting, to the next."
 unfoldable pub bookStore : Book → Option Book
-bookStore b = elim (b .line)
-    [ [] ↦ none
-    | w ∷ ws ↦ bind (home (length (b .segs)) (placeOf (placedEntries b)) (w .entry)) (λ p.
-        elim (eqb (suc (b .done)) (cost (w .entry)))
-        [ true ↦ some (record { history = b .history; line = ws; done = 0; batches = b .batches; segs = moveTo (p .segment) w (b .segs) })
+bookStore b = elim (b .line) [
+  | [] ↦ none
+  | w ∷ ws ↦ bind (home (length (b .segs)) (placeOf (placedEntries b)) (w .entry)) (λ p.
+      elim (eqb (suc (b .done)) (cost (w .entry))) [
+        | true ↦ some (record { history = b .history; line = ws; done = 0; batches = b .batches; segs = moveTo (p .segment) w (b .segs) })
         | false ↦ some (record { history = b .history; line = b .line; done = suc (b .done); batches = b .batches; segs = b .segs })
-        ])
-    ]
+      ])
+]
 
 -- "An accepted flush goes along the line from where the last one stopped, up to its ending or its cut"
 unfoldable pub bookFlush : ℕ → Book → Book
@@ -114,9 +120,13 @@ keepFirst (suc m) (s ∷ ss) = s ∷ keepFirst m ss
 
 -- "Store k of a formatting empties the k-th segment from the end, taking its closing stores off the card."
 unfoldable pub bookFormat : ℕ → Book → Book
-bookFormat k b = record
-  { history = b .history; line = b .line; done = b .done; batches = b .batches
-  ; segs = keepFirst (length (b .segs) - k) (b .segs) }
+bookFormat k b = record {
+  history = b .history;
+  line = b .line;
+  done = b .done;
+  batches = b .batches;
+  segs = keepFirst (length (b .segs) - k) (b .segs);
+}
 
 -- is the closing store of the history's entry n on the card?
 unfoldable pub isNumber : ℕ → Option ℕ → Bool

@@ -36,9 +36,10 @@ valid s (e ∷ es) = mayHappen (s .world) e && valid (sceneStep s e) es
 
 -- "The list starts right after an accepted formatting, the book empty."
 unfoldable pub begun : Disk → Scene
-begun d = record
-  { world = record { disk = perform format d .disk; down = false }
-  ; book = emptyBook (segmentsIn (d .card)) }
+begun d = record {
+  world = record { disk = perform format d .disk; down = false };
+  book = emptyBook (segmentsIn (d .card));
+}
 
 -- lent data of the right lengths, whatever they hold
 abbrev pub Lent : Rest → Type 0

@@ -47,19 +47,21 @@ unfoldable pub putBack : Part → List ℕ → List ℕ → List ℕ
 putBack p l x = take (p .from) l ++ x ++ drop (p .from + p .size) l
 
 unfoldable pub lend : Parts → Disk → Disk
-lend p d = record
-  { card = partOf (p .card) (d .card)
-  ; queueData = partOf (p .queueData) (d .queueData)
-  ; journalData = partOf (p .journalData) (d .journalData)
-  ; rec = d .rec }
+lend p d = record {
+  card = partOf (p .card) (d .card);
+  queueData = partOf (p .queueData) (d .queueData);
+  journalData = partOf (p .journalData) (d .journalData);
+  rec = d .rec;
+}
 
 -- "Each call [..] gets what the last left of card, record and both data buffers"
 unfoldable pub giveBack : Parts → Disk → Disk → Disk
-giveBack p d x = record
-  { card = putBack (p .card) (d .card) (x .card)
-  ; queueData = putBack (p .queueData) (d .queueData) (x .queueData)
-  ; journalData = putBack (p .journalData) (d .journalData) (x .journalData)
-  ; rec = x .rec }
+giveBack p d x = record {
+  card = putBack (p .card) (d .card) (x .card);
+  queueData = putBack (p .queueData) (d .queueData) (x .queueData);
+  journalData = putBack (p .journalData) (d .journalData) (x .journalData);
+  rec = x .rec;
+}
 
 unfoldable pub isWhole : Part → List ℕ → Bool
 isWhole p l = eqb (p .from) 0 && eqb (p .size) (length l)

@@ -7,17 +7,17 @@ use Prim.Native.Nat.{ℕ}
 -- "formatting, mounting, the nine calls [..], three look-ups"
 pub data Call : Type 0 where
   format mount conflictCount : Call
-  newList : ℕ → Call               -- S
-  newBlock : ℕ → ℕ → ℕ → Call      -- S L P
-  writeBlock : ℕ → ℕ → List ℕ → Call    -- S B, the data lent
-  readBlock : ℕ → ℕ → List ℕ → Call     -- V B, the destination lent
-  deleteBlock : ℕ → ℕ → Call       -- S B
-  deleteList : ℕ → ℕ → Call        -- S L
-  begin : ℕ → Call                 -- U
-  end : ℕ → Call                   -- U
-  flush : ℕ → Call                 -- the allowance
-  blockAfter : ℕ → ℕ → ℕ → Call    -- V L P
-  inventory : ℕ → List ℕ → Call    -- V, the destination lent
+  newList : ℕ → Call  -- S
+  newBlock : ℕ → ℕ → ℕ → Call  -- S L P
+  writeBlock : ℕ → ℕ → List ℕ → Call  -- S B, the data lent
+  readBlock : ℕ → ℕ → List ℕ → Call  -- V B, the destination lent
+  deleteBlock : ℕ → ℕ → Call  -- S B
+  deleteList : ℕ → ℕ → Call  -- S L
+  begin : ℕ → Call  -- U
+  end : ℕ → Call  -- U
+  flush : ℕ → Call  -- the allowance
+  blockAfter : ℕ → ℕ → ℕ → Call  -- V L P
+  inventory : ℕ → List ℕ → Call  -- V, the destination lent
 
 -- the unit that a call would end
 unfoldable pub ends : Call → Option ℕ

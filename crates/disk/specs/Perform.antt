@@ -50,11 +50,11 @@ unfoldable pub enqueue : Entry Content → Disk → Disk
 enqueue e d =
     let r = d .rec in
     let p = ringPlace r (r .len) in
-    record
-    { card = d .card
-    ; queueData = spliceSome (d .queueData) (slotBytes * p) (carried e)
-    ; journalData = d .journalData
-    ; rec = withQueue r (set (r .queue) p (queuedEntry e)) (r .len + 1)
+    record {
+      card = d .card;
+      queueData = spliceSome (d .queueData) (slotBytes * p) (carried e);
+      journalData = d .journalData;
+      rec = withQueue r (set (r .queue) p (queuedEntry e)) (r .len + 1);
     }
 
 unfoldable pub enqueueAll : List (Entry Content) → Disk → Disk
@@ -65,11 +65,11 @@ enqueueAll (e ∷ es) d = enqueueAll es (enqueue e d)
 unfoldable pub journalAdd : ℕ → Change Content → Disk → Disk
 journalAdd u c d =
     let x = unitOf d u in
-    record
-    { card = d .card
-    ; queueData = d .queueData
-    ; journalData = spliceSome (d .journalData) (slotBytes * journalPlace u (x .len)) (carriedBy c)
-    ; rec = withUnits (d .rec) (set (d .rec .units) (u - 1) (journaled x (logChange c))) (d .rec .holder)
+    record {
+      card = d .card;
+      queueData = d .queueData;
+      journalData = spliceSome (d .journalData) (slotBytes * journalPlace u (x .len)) (carriedBy c);
+      rec = withUnits (d .rec) (set (d .rec .units) (u - 1) (journaled x (logChange c))) (d .rec .holder);
     }
 
 -- "Changes come on stream 0 (simple; queued) or 1 to 4 (journalled, no log entry)."
@@ -141,9 +141,11 @@ flushed a d = flushFrom (segmentsIn (d .card)) a 0 (flowOf d)
 unfoldable pub afterFlush : Disk → Flow → Disk
 afterFlush d f =
     let r = d .rec in
-    record
-    { card = f .card; queueData = d .queueData; journalData = d .journalData
-    ; rec = withFlow r ((r .head + (r .len - length (f .queue))) % queuePlaces) (length (f .queue)) (f .done)
+    record {
+      card = f .card;
+      queueData = d .queueData;
+      journalData = d .journalData;
+      rec = withFlow r ((r .head + (r .len - length (f .queue))) % queuePlaces) (length (f .queue)) (f .done);
     }
 
 -- the card after the first k stores of a formatting
@@ -192,9 +194,9 @@ refusalAnswer n d = elim (eqb n 2) [ true ↦ faultAt (mounted (d .card)) n | fa
 unfoldable pub perform : Call → Disk → Result
 perform c d =
     let n = refusal c d in
-    elim n
-    [ zero ↦ accepted c d
-    | suc m ↦ record { disk = refused c (suc m) d; answer = refusalAnswer (suc m) d; lent = destination c }
+    elim n [
+      | zero ↦ accepted c d
+      | suc m ↦ record { disk = refused c (suc m) d; answer = refusalAnswer (suc m) d; lent = destination c }
     ]
 
 unfoldable pub performAll : List Call → Disk → Disk

@@ -40,8 +40,8 @@ freshUnit = record { opened = false; len = 0; journal = replicate journalPlaces 
 unfoldable pub freshRecord : Record
 unfolding freshUnit
 freshRecord =
-    record
-    { queue = replicate queuePlaces noQueued;
+    record {
+      queue = replicate queuePlaces noQueued;
       head = 0;
       len = 0;
       done = 0;
@@ -49,7 +49,8 @@ freshRecord =
       holder = replicate 64 0;
       «last_block» = 64;
       «last_list» = 16;
-      conflicts = 0 }
+      conflicts = 0;
+    }
 
 -- the place of the queue's entry k: "32 places used in a ring"
 abbrev pub ringPlace : Record → ℕ → ℕ
@@ -72,39 +73,87 @@ shaped r =
 -- the record with another part
 abbrev pub withQueue : Record → List Queued → ℕ → Record
 withQueue r q n =
-    record
-    { queue = q; head = r .head; len = n; done = r .done; units = r .units; holder = r .holder;
-      «last_block» = r .«last_block»; «last_list» = r .«last_list»; conflicts = r .conflicts }
+    record {
+      queue = q;
+      head = r .head;
+      len = n;
+      done = r .done;
+      units = r .units;
+      holder = r .holder;
+      «last_block» = r .«last_block»;
+      «last_list» = r .«last_list»;
+      conflicts = r .conflicts;
+    }
 
 abbrev pub withFlow : Record → ℕ → ℕ → ℕ → Record
 withFlow r h n k =
-    record
-    { queue = r .queue; head = h; len = n; done = k; units = r .units; holder = r .holder;
-      «last_block» = r .«last_block»; «last_list» = r .«last_list»; conflicts = r .conflicts }
+    record {
+      queue = r .queue;
+      head = h;
+      len = n;
+      done = k;
+      units = r .units;
+      holder = r .holder;
+      «last_block» = r .«last_block»;
+      «last_list» = r .«last_list»;
+      conflicts = r .conflicts;
+    }
 
 abbrev pub withUnits : Record → List Unit → List ℕ → Record
 withUnits r us hs =
-    record
-    { queue = r .queue; head = r .head; len = r .len; done = r .done; units = us; holder = hs;
-      «last_block» = r .«last_block»; «last_list» = r .«last_list»; conflicts = r .conflicts }
+    record {
+      queue = r .queue;
+      head = r .head;
+      len = r .len;
+      done = r .done;
+      units = us;
+      holder = hs;
+      «last_block» = r .«last_block»;
+      «last_list» = r .«last_list»;
+      conflicts = r .conflicts;
+    }
 
 abbrev pub withLastBlock : Record → ℕ → Record
 withLastBlock r b =
-    record
-    { queue = r .queue; head = r .head; len = r .len; done = r .done; units = r .units; holder = r .holder;
-      «last_block» = b; «last_list» = r .«last_list»; conflicts = r .conflicts }
+    record {
+      queue = r .queue;
+      head = r .head;
+      len = r .len;
+      done = r .done;
+      units = r .units;
+      holder = r .holder;
+      «last_block» = b;
+      «last_list» = r .«last_list»;
+      conflicts = r .conflicts;
+    }
 
 abbrev pub withLastList : Record → ℕ → Record
 withLastList r l =
-    record
-    { queue = r .queue; head = r .head; len = r .len; done = r .done; units = r .units; holder = r .holder;
-      «last_block» = r .«last_block»; «last_list» = l; conflicts = r .conflicts }
+    record {
+      queue = r .queue;
+      head = r .head;
+      len = r .len;
+      done = r .done;
+      units = r .units;
+      holder = r .holder;
+      «last_block» = r .«last_block»;
+      «last_list» = l;
+      conflicts = r .conflicts;
+    }
 
 abbrev pub withConflicts : Record → ℕ → Record
 withConflicts r n =
-    record
-    { queue = r .queue; head = r .head; len = r .len; done = r .done; units = r .units; holder = r .holder;
-      «last_block» = r .«last_block»; «last_list» = r .«last_list»; conflicts = n }
+    record {
+      queue = r .queue;
+      head = r .head;
+      len = r .len;
+      done = r .done;
+      units = r .units;
+      holder = r .holder;
+      «last_block» = r .«last_block»;
+      «last_list» = r .«last_list»;
+      conflicts = n;
+    }
 
 -- a unit with its journal emptied; the elements stay as they are
 abbrev pub emptied : Bool → Unit → Unit

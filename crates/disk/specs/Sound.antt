@@ -39,7 +39,7 @@ journalSound r u c = legal (raw 0 (member c)) && all (λ b. eqb (holderOf r b) u
 unfoldable pub unitSound : Disk → ℕ → Bool
 unitSound d u =
     each
-    ( leb (unitOf d u .len) journalPlaces
+    (leb (unitOf d u .len) journalPlaces
     ∷ (unitOf d u .opened || eqb (unitOf d u .len) 0)
     ∷ all (journalSound (d .rec) u) (journalOf d u)
     ∷ [])
@@ -67,7 +67,7 @@ unfoldable pub recordSound : Disk → Bool
 recordSound d =
     let r = d .rec in
     each
-    ( shaped r
+    (shaped r
     ∷ leb (r .len) queuePlaces ∷ ltb (r .head) queuePlaces
     ∷ isBlock (r .«last_block») ∷ isList (r .«last_list») ∷ leb (r .conflicts) 65535
     ∷ all (λ e. legal (raw 0 e)) (queued d)

@@ -1,6 +1,5 @@
 // The working record that every call is given and gives back.
 use log::entry::LogEntry;
-
 ghost use mathlib.Core.Path.{_≡_};
 ghost use Rattle.disk.specs.Record.{freshRecord};
 
@@ -44,7 +43,9 @@ pub struct Record {
 impl Record {
     // Units are 1 to UNITS; the queue has QUEUE places; conflicts are counted up to CONFLICTS.
     pub const UNITS: usize = 4;
+
     pub const QUEUE: usize = 32;
+
     pub const CONFLICTS: u16 = 65535;
 
     // The record after an accepted mounting or formatting.
@@ -54,11 +55,28 @@ impl Record {
         let entry = LogEntry::Take { list: 0 };
         let none = Journaled { entry };
         let journal = [none; 15];
-        let closed = Unit { opened: false, len: 0, journal };
-        let blank = Queued { member: false, entry };
+        let closed = Unit {
+            opened: false,
+            len: 0,
+            journal,
+        };
+        let blank = Queued {
+            member: false,
+            entry,
+        };
         let queue = [blank; 32];
         let units = [closed; 4];
         let holder = [0u8; 64];
-        Record { queue, head: 0, len: 0, done: 0, units, holder, last_block: 64, last_list: 16, conflicts: 0 }
+        Record {
+            queue,
+            head: 0,
+            len: 0,
+            done: 0,
+            units,
+            holder,
+            last_block: 64,
+            last_list: 16,
+            conflicts: 0,
+        }
     }
 }

@@ -89,9 +89,9 @@ pub data Item (D : Type 0) : Type 0 where
 unfoldable pub itemsOf : {D : Type 0} → (ℕ → ℕ → D) → ℕ → ℕ → ℕ → ℕ → List ℕ → List (Item D)
 itemsOf f g zero i k bs = []
 itemsOf f g (suc n) i k bs =
-    elim (entryAt k bs)
-    [ none ↦ bad g i ∷ []
-    | some x ↦ good g i (mapEntry (f g) (x .0)) ∷ itemsOf f g n (suc i) (k + usedBy (carried (x .0))) (x .1)
+    elim (entryAt k bs) [
+      | none ↦ bad g i ∷ []
+      | some x ↦ good g i (mapEntry (f g) (x .0)) ∷ itemsOf f g n (suc i) (k + usedBy (carried (x .0))) (x .1)
     ]
 
 unfoldable pub segmentItems : {D : Type 0} → (ℕ → ℕ → D) → List ℕ → ℕ → List (Item D)

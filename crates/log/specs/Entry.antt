@@ -105,8 +105,8 @@ unfoldable pub entryOf : ℕ → ℕ → ℕ → ℕ → Option (Entry ℕ)
 entryOf m x y z =
     cond (eqb m 16) (checked (commit x))
     (cond (leb 128 m)
-      (bind (changeOf (m - 128) x y z) (λ c. checked (member c)))
-      (bind (changeOf m x y z) (λ c. checked (plain c))))
+    (bind (changeOf (m - 128) x y z) (λ c. checked (member c)))
+    (bind (changeOf m x y z) (λ c. checked (plain c))))
 
 -- the entry at the front of bytes that hold the whole of it, and the bytes behind it
 unfoldable pub decode : List ℕ → Option (Entry ℕ × List ℕ)

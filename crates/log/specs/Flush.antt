@@ -30,17 +30,17 @@ storeNext f p e q =
     let ss = entryStores p e in
     let x = getD ss (f .done) (0, 0) in
     let c = set (f .card) (x .0) (x .1) in
-    elim (eqb (suc (f .done)) (length ss))
-    [ true ↦ record { card = c; place = after p e; queue = q; done = 0 }
-    | false ↦ record { card = c; place = f .place; queue = e ∷ q; done = suc (f .done) }
+    elim (eqb (suc (f .done)) (length ss)) [
+      | true ↦ record { card = c; place = after p e; queue = q; done = 0 }
+      | false ↦ record { card = c; place = f .place; queue = e ∷ q; done = suc (f .done) }
     ]
 
 -- the next store on a card of n segments, or an ending
 unfoldable pub nextStore : ℕ → Flow → Next
-nextStore n f = elim (f .queue)
-    [ [] ↦ stopped drained
-    | e ∷ q ↦ elim (home n (f .place) e) [ none ↦ stopped full | some p ↦ stored (storeNext f p e q) ]
-    ]
+nextStore n f = elim (f .queue) [
+  | [] ↦ stopped drained
+  | e ∷ q ↦ elim (home n (f .place) e) [ none ↦ stopped full | some p ↦ stored (storeNext f p e q) ]
+]
 
 pub record Flushed : Type 0 where
   pub flow : Flow

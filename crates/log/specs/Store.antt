@@ -32,12 +32,12 @@ unfoldable pub opened : ℕ → Place
 opened g = record { segment = g; entries = 0; bytes = 0; slotsUsed = 0 }
 
 unfoldable pub after : {D : Type 0} → Place → Entry D → Place
-after p e = record
-  { segment = p .segment
-  ; entries = suc (p .entries)
-  ; bytes = p .bytes + entryLength e
-  ; slotsUsed = p .slotsUsed + usedBy (carried e)
-  }
+after p e = record {
+  segment = p .segment;
+  entries = suc (p .entries);
+  bytes = p .bytes + entryLength e;
+  slotsUsed = p .slotsUsed + usedBy (carried e);
+}
 
 unfoldable pub afterAll : {D : Type 0} → Place → List (Entry D) → Place
 afterAll p [] = p
