@@ -5,3 +5,4 @@ pub mod Call
 pub mod Questions
 pub mod Perform
 pub mod Answers
+pub mod Inventory

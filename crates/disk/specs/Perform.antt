@@ -126,7 +126,7 @@ nextIn p (x ∷ xs) = elim (eqb x p) [ true ↦ getD xs 0 0 | false ↦ nextIn p
 unfoldable pub nextAfter : List (Row Content) → ℕ → ℕ → ℕ
 nextAfter rs l p = nextIn p (0 ∷ blocksOf rs l)
 
--- the lists taken in a state
+-- the lists taken in a state, in the order of their taking: the inventory's order, which its promise (Inventory) leaves open
 unfoldable pub listsOf : State Content → List ℕ
 listsOf s = map (λ (r : Row Content). r .num) (s .lists)
 
