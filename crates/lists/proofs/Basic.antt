@@ -9,7 +9,7 @@ use native.Mathlib.Omega.{arith}
 use native.Mathlib.Nat.{add-zero, add-suc, suc-add, zero-add}
 use lib.Dec.{leb, eqb, ltb, T, eqb-refl, eqb→eq, leb→le, ltb→lt, le→leb, lt→ltb}
 use lib.ListN.{length, drop, getD, set}
-use Rattle.lists.specs.Basic.{guard, bind, isSome, any, all, each, from, joined}
+use Rattle.lists.specs.Basic.{guard, bind, isSome, any, keep, all, each, from, joined}
 
 -- Tests.
 pub true→T : {b : Bool} → b ≡ true → T b
@@ -151,6 +151,25 @@ pub all-each : {A : Type 0} (p q : A → Bool) (l : List A) → ((x : A) → p x
 unfolding all
 all-each p q [] f h = refl
 all-each p q (x ∷ l) f h = let (a, b) = and-true (p x) (all p l) h in rw (f x a) (all-each p q l f b)
+
+-- A map, and the elements that pass a test.
+module _ {A B : Type 0} (f : A → B) where
+  pub cond-map : (b : Bool) (x y : A) → f (cond b x y) ≡ cond b (f x) (f y)
+  cond-map true x y = refl
+  cond-map false x y = refl
+
+  module _ (p : A → Bool) (q : B → Bool) (e : (x : A) → q (f x) ≡ p x) where
+    pub any-map : (xs : List A) → any q (map f xs) ≡ any p xs
+    any-map [] = refl
+    any-map (x ∷ xs) = rw (e x, any-map xs)
+
+    pub keep-map : (xs : List A) → keep q (map f xs) ≡ map f (keep p xs)
+    keep-map [] = refl
+    keep-map (x ∷ xs) = rw (e x, keep-map xs) (keep-step (p x))
+      where
+        keep-step : (b : Bool) → cond b (f x ∷ map f (keep p xs)) (map f (keep p xs)) ≡ map f (cond b (x ∷ keep p xs) (keep p xs))
+        keep-step true = refl
+        keep-step false = refl
 
 -- Elements by number, from k on.
 module _ {A : Type 0} where

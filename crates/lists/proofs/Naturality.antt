@@ -1,0 +1,124 @@
+-- Content is carried along: a map of contents commutes with a change of a state, and no test of a state looks at contents.
+use mathlib.Core.Path.{_≡_, refl, sym, ap, _∙_}
+use mathlib.Core.Bool.{Bool, true, false, _&&_, _||_, not, cond}
+use mathlib.Core.Option.{Option, none, some}
+use mathlib.Core.List.{List, [], _∷_, _++_, map, map-append}
+use Prim.Native.Nat.{ℕ}
+use lib.Dec.{eqb}
+use Rattle.lists.specs.Basic.{guard, bind, orElse, any, keep}
+use Rattle.lists.specs.Change.{Change, takeList, putFirst, putAfter, write, delBlock, delList, mapChange, carriedBy}
+use Rattle.lists.specs.State.{Block, Row, State, block, row, state, isBlockNum, isRow, onRow, isRowWith, taken, placed, onList, applies, insertAfter, onBlocks, at, put, otherBlock, otherRow, changed, apply, applyAll, overlay}
+use Rattle.lists.proofs.Basic.{cond-map, any-map, keep-map}
+
+abbrev pub mapOption : {A B : Type 0} → (A → B) → Option A → Option B
+mapOption f none = none
+mapOption f (some a) = some (f a)
+
+abbrev pub mapBlock : {D E : Type 0} → (D → E) → Block D → Block E
+mapBlock h x = block (x .num) (h (x .content))
+
+abbrev pub mapRow : {D E : Type 0} → (D → E) → Row D → Row E
+mapRow h r = row (r .num) (map (mapBlock h) (r .blocks))
+
+abbrev pub mapState : {D E : Type 0} → (D → E) → State D → State E
+mapState h s = state (map (mapRow h) (s .lists))
+
+pub guard-map : {A B : Type 0} (f : A → B) (b : Bool) (o : Option A) → guard b (mapOption f o) ≡ mapOption f (guard b o)
+guard-map f true o = refl
+guard-map f false o = refl
+
+module _ {D E : Type 0} (h : D → E) where
+  on-map : (b : ℕ) (x : Row D) → onRow b (mapRow h x) ≡ onRow b x
+  on-map b x = any-map (mapBlock h) (isBlockNum b) (isBlockNum b) (λ y. refl) (x .blocks)
+
+  pub taken-map : (l : ℕ) (rs : List (Row D)) → taken l (map (mapRow h) rs) ≡ taken l rs
+  unfolding taken
+  taken-map l rs = any-map (mapRow h) (isRow l) (isRow l) (λ r. refl) rs
+
+  pub placed-map : (b : ℕ) (rs : List (Row D)) → placed b (map (mapRow h) rs) ≡ placed b rs
+  unfolding placed
+  placed-map b rs = any-map (mapRow h) (onRow b) (onRow b) (on-map b) rs
+
+  pub onList-map : (l b : ℕ) (rs : List (Row D)) → onList l b (map (mapRow h) rs) ≡ onList l b rs
+  unfolding onList
+  onList-map l b rs = any-map (mapRow h) (isRowWith l b) (isRowWith l b) (λ r. ap (λ (t : Bool). isRow l r && t) (on-map b r)) rs
+
+  insert-map : (p b : ℕ) (z : D) (xs : List (Block D)) → insertAfter p (block b (h z)) (map (mapBlock h) xs) ≡ map (mapBlock h) (insertAfter p (block b z) xs)
+  insert-map p b z [] = refl
+  insert-map p b z (x ∷ xs) =
+      rw (insert-map p b z xs) (sym (cond-map (map (mapBlock h)) (eqb (x .num) p) (x ∷ block b z ∷ xs) (x ∷ insertAfter p (block b z) xs)))
+
+  put-map : (b : ℕ) (d : D) (xs : List (Block D)) → map (put b (h d)) (map (mapBlock h) xs) ≡ map (mapBlock h) (map (put b d) xs)
+  put-map b d [] = refl
+  put-map b d (x ∷ xs) =
+      rw (put-map b d xs) (ap (λ (y : Block E). y ∷ map (mapBlock h) (map (put b d) xs)) (sym (cond-map (mapBlock h) (eqb (x .num) b) (block b d) x)))
+
+  module _ (f : List (Block D) → List (Block D)) (g : List (Block E) → List (Block E)) (k : (xs : List (Block D)) → g (map (mapBlock h) xs) ≡ map (mapBlock h) (f xs)) where
+    at-map : (l : ℕ) (rs : List (Row D)) → map (at l g) (map (mapRow h) rs) ≡ map (mapRow h) (map (at l f) rs)
+    at-map l [] = refl
+    at-map l (r ∷ rs) =
+        rw (at-map l rs, k (r .blocks)) (ap (λ (y : Row E). y ∷ map (mapRow h) (map (at l f) rs)) (sym (cond-map (mapRow h) (eqb (r .num) l) (onBlocks f r) r)))
+
+    rows-map : (rs : List (Row D)) → map (onBlocks g) (map (mapRow h) rs) ≡ map (mapRow h) (map (onBlocks f) rs)
+    rows-map [] = refl
+    rows-map (r ∷ rs) = rw (rows-map rs, k (r .blocks))
+
+  pub change-comp : {C : Type 0} (f : C → D) (c : Change C) → mapChange h (mapChange f c) ≡ mapChange (λ d. h (f d)) c
+  unfolding mapChange
+  change-comp f (takeList l) = refl
+  change-comp f (putFirst b l) = refl
+  change-comp f (putAfter b l p) = refl
+  change-comp f (write b d) = refl
+  change-comp f (delBlock b) = refl
+  change-comp f (delList l) = refl
+
+  pub carriedBy-map : (c : Change D) → carriedBy (mapChange h c) ≡ mapOption h (carriedBy c)
+  unfolding mapChange carriedBy
+  carriedBy-map (takeList l) = refl
+  carriedBy-map (putFirst b l) = refl
+  carriedBy-map (putAfter b l p) = refl
+  carriedBy-map (write b d) = refl
+  carriedBy-map (delBlock b) = refl
+  carriedBy-map (delList l) = refl
+
+  pub changed-map : (z : D) (c : Change D) (rs : List (Row D)) → changed (h z) (mapChange h c) (map (mapRow h) rs) ≡ map (mapRow h) (changed z c rs)
+  unfolding changed mapChange
+  changed-map z (takeList l) rs = sym (map-append (mapRow h) rs (row l [] ∷ []))
+  changed-map z (putFirst b l) rs = at-map (λ bs. block b z ∷ bs) (λ bs. block b (h z) ∷ bs) (λ xs. refl) l rs
+  changed-map z (putAfter b l p) rs = at-map (insertAfter p (block b z)) (insertAfter p (block b (h z))) (insert-map p b z) l rs
+  changed-map z (write b d) rs = rows-map (map (put b d)) (map (put b (h d))) (put-map b d) rs
+  changed-map z (delBlock b) rs = rows-map (keep (otherBlock b)) (keep (otherBlock b)) (keep-map (mapBlock h) (otherBlock b) (otherBlock b) (λ x. refl)) rs
+  changed-map z (delList l) rs = keep-map (mapRow h) (otherRow l) (otherRow l) (λ r. refl) rs
+
+  pub applies-map : (c : Change D) (rs : List (Row D)) → applies (mapChange h c) (map (mapRow h) rs) ≡ applies c rs
+  unfolding applies mapChange
+  applies-map (takeList l) rs = rw (taken-map l rs)
+  applies-map (putFirst b l) rs = rw (taken-map l rs, placed-map b rs)
+  applies-map (putAfter b l p) rs = rw (taken-map l rs, placed-map b rs, onList-map l p rs)
+  applies-map (write b d) rs = placed-map b rs
+  applies-map (delBlock b) rs = placed-map b rs
+  applies-map (delList l) rs = taken-map l rs
+
+  pub apply-map : (z : D) (c : Change D) (s : State D) → apply (h z) (mapChange h c) (mapState h s) ≡ mapOption (mapState h) (apply z c s)
+  unfolding apply
+  apply-map z c s = rw (applies-map c (s .lists), changed-map z c (s .lists)) (guard-map (mapState h) (applies c (s .lists)) (some (state (changed z c (s .lists)))))
+
+  pub applyAll-map : (z : D) (cs : List (Change D)) (s : State D) → applyAll (h z) (map (mapChange h) cs) (mapState h s) ≡ mapOption (mapState h) (applyAll z cs s)
+  unfolding applyAll
+  applyAll-map z [] s = refl
+  applyAll-map z (c ∷ cs) s = rw (apply-map z c s) (go (λ t. applyAll-map z cs t) (apply z c s))
+    where
+      go : ((t : State D) → applyAll (h z) (map (mapChange h) cs) (mapState h t) ≡ mapOption (mapState h) (applyAll z cs t)) → (o : Option (State D))
+          → bind (mapOption (mapState h) o) (λ t. applyAll (h z) (map (mapChange h) cs) t) ≡ mapOption (mapState h) (bind o (λ t. applyAll z cs t))
+      go ih none = refl
+      go ih (some t) = ih t
+
+  orElse-map : (s : State D) (o : Option (State D)) → orElse (mapState h s) (mapOption (mapState h) o) ≡ mapState h (orElse s o)
+  unfolding orElse
+  orElse-map s none = refl
+  orElse-map s (some t) = refl
+
+  pub overlay-map : (z : D) (cs : List (Change D)) (s : State D) → overlay (h z) (map (mapChange h) cs) (mapState h s) ≡ mapState h (overlay z cs s)
+  unfolding overlay
+  overlay-map z [] s = refl
+  overlay-map z (c ∷ cs) s = rw (overlay, apply-map z c s, orElse-map s (apply z c s)) (overlay-map z cs (orElse s (apply z c s)))
