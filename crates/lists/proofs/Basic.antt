@@ -8,7 +8,7 @@ use Prim.Native.Nat.{ℕ, zero, suc, _+_, _-_, _≤_, _<_}
 use native.Mathlib.Omega.{arith}
 use native.Mathlib.Nat.{add-zero, add-suc, suc-add, zero-add}
 use lib.Dec.{leb, eqb, ltb, T, eqb-refl, eqb→eq, leb→le, ltb→lt, le→leb, lt→ltb}
-use lib.ListN.{length, drop, getD, set}
+use lib.ListN.{length, drop, getD, set, replicate}
 use Rattle.lists.specs.Basic.{guard, bind, isSome, any, keep, all, each, from, joined}
 
 -- Tests.
@@ -214,3 +214,35 @@ module _ {A : Type 0} where
       go : Dec (k ≡ j) → (suc k ≤ j → j < suc k + n → p (f j) ≡ true) → p (f j) ≡ true
       go (yes e) ih = ap (λ (m : ℕ). p (f m)) (sym e) ∙ and-true (p (f k)) (all p (from f (suc k) n)) h .0
       go (no e) ih = ih (omega arith) (omega arith)
+
+-- An element that stands for nothing.
+module _ {A : Type 0} where
+  pub getD-same : (n i : ℕ) (x : A) → getD (replicate n x) i x ≡ x
+  getD-same zero i x = refl
+  getD-same (suc n) zero x = refl
+  getD-same (suc n) (suc i) x = getD-same n i x
+
+  pub getD-set-default : (l : List A) (i : ℕ) (x : A) → getD (set l i x) i x ≡ x
+  getD-set-default [] i x = refl
+  getD-set-default (y ∷ l) zero x = refl
+  getD-set-default (y ∷ l) (suc i) x = getD-set-default l i x
+
+pub map-drop : {A B : Type 0} (f : A → B) (n : ℕ) (l : List A) → map f (drop n l) ≡ drop n (map f l)
+map-drop f zero l = refl
+map-drop f (suc n) [] = refl
+map-drop f (suc n) (x ∷ l) = map-drop f n l
+
+-- Lists joined.
+module _ {A : Type 0} (p : A → Bool) where
+  any-append : (xs ys : List A) → any p (xs ++ ys) ≡ any p xs || any p ys
+  any-append [] ys = refl
+  any-append (x ∷ xs) ys = ap (λ (b : Bool). p x || b) (any-append xs ys) ∙ or-assoc (p x) (any p xs) (any p ys)
+    where
+      or-assoc : (a b c : Bool) → a || (b || c) ≡ (a || b) || c
+      or-assoc true b c = refl
+      or-assoc false b c = refl
+
+  pub any-joined : (xss : List (List A)) → any (any p) xss ≡ any p (joined xss)
+  unfolding joined
+  any-joined [] = refl
+  any-joined (x ∷ xs) = ap (λ (b : Bool). any p x || b) (any-joined xs) ∙ sym (any-append x (joined xs))
