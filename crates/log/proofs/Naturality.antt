@@ -1,0 +1,155 @@
+-- Content is carried along: a map of contents commutes with the reader and with the walk, and no place on the card depends on contents.
+use mathlib.Core.Path.{_≡_, refl, sym, ap, _∙_}
+use mathlib.Core.Bool.{Bool, true, false, cond}
+use mathlib.Core.Option.{Option, none, some}
+use mathlib.Core.List.{List, [], _∷_, _++_, map, map-append}
+use Prim.Native.Nat.{ℕ, zero, suc, _+_, _-_}
+use lib.Dec.{leb, eqb}
+use lib.ListN.{length, drop, length-map}
+use Rattle.lists.specs.Basic.{guard, bind}
+use Rattle.lists.specs.Change.{Change, mapChange}
+use Rattle.lists.specs.State.{State, apply, applyAll}
+use Rattle.lists.proofs.Naturality.{mapOption, mapState, guard-map, change-comp, carriedBy-map, apply-map, applyAll-map}
+use Rattle.log.specs.Entry.{Entry, plain, member, commit, mapEntry, carried, raw, encode, entryLength}
+use Rattle.log.specs.Reader.{Reader, reader, settled, start, lastOf, read, replay}
+use Rattle.log.specs.Card.{Item, good, bad, itemsOf, entryAt, usedBy, segmentItems, segmentEntries, segmentsIn, afterEmpty, items, count, Outcome, sound, fault, walk, walkCard}
+use Rattle.log.specs.Store.{Place, opened, after, behind, behindAll}
+
+abbrev pub mapReader : {D E : Type 0} → (D → E) → Reader D → Reader E
+mapReader h r = reader (map (mapChange h) (r .run)) (mapState h (r .state))
+
+abbrev pub mapItem : {D E : Type 0} → (D → E) → Item D → Item E
+mapItem h (good g i e) = good g i (mapEntry h e)
+mapItem h (bad g i) = bad g i
+
+abbrev pub mapOutcome : {D E : Type 0} → (D → E) → Outcome D → Outcome E
+mapOutcome h (sound r) = sound (mapReader h r)
+mapOutcome h (fault g i) = fault g i
+
+drop-map : {A B : Type 0} (f : A → B) (n : ℕ) (xs : List A) → drop n (map f xs) ≡ map f (drop n xs)
+drop-map f zero xs = refl
+drop-map f (suc n) [] = refl
+drop-map f (suc n) (x ∷ xs) = drop-map f n xs
+
+pub entry-comp : {C D E : Type 0} (h : D → E) (f : C → D) (e : Entry C) → mapEntry h (mapEntry f e) ≡ mapEntry (λ d. h (f d)) e
+unfolding mapEntry
+entry-comp h f (plain c) = ap plain (change-comp h f c)
+entry-comp h f (member c) = ap member (change-comp h f c)
+entry-comp h f (commit n) = refl
+
+module _ {D E : Type 0} (h : D → E) where
+  settle-map : (o : Option (State D)) → bind (mapOption (mapState h) o) (λ s. some (settled s)) ≡ mapOption (mapReader h) (bind o (λ s. some (settled s)))
+  settle-map none = refl
+  settle-map (some s) = refl
+
+  pub read-map : (z : D) (r : Reader D) (e : Entry D) → read (h z) (mapReader h r) (mapEntry h e) ≡ mapOption (mapReader h) (read z r e)
+  unfolding read mapEntry lastOf
+  read-map z r (plain c) = rw (apply-map h z c (r .state)) (settle-map (apply z c (r .state)))
+  read-map z r (member c) = ap (λ (x : List (Change E)). some (reader x (mapState h (r .state)))) (sym (map-append (mapChange h) (r .run) (c ∷ [])))
+  read-map z r (commit n) =
+      rw (
+        length-map (r .run) (mapChange h),
+        drop-map (mapChange h) (length (r .run) - n) (r .run),
+        applyAll-map h z (drop (length (r .run) - n) (r .run)) (r .state),
+        settle-map (applyAll z (drop (length (r .run) - n) (r .run)) (r .state)),
+      )
+      (guard-map (mapReader h) (leb n (length (r .run))) (bind (applyAll z (drop (length (r .run) - n) (r .run)) (r .state)) (λ s. some (settled s))))
+
+  pub replay-map : (z : D) (r : Reader D) (es : List (Entry D)) → replay (h z) (mapReader h r) (map (mapEntry h) es) ≡ mapOption (mapReader h) (replay z r es)
+  unfolding replay
+  replay-map z r [] = refl
+  replay-map z r (e ∷ es) = rw (read-map z r e) (go (λ q. replay-map z q es) (read z r e))
+    where
+      go : ((q : Reader D) → replay (h z) (mapReader h q) (map (mapEntry h) es) ≡ mapOption (mapReader h) (replay z q es)) → (o : Option (Reader D))
+          → bind (mapOption (mapReader h) o) (λ q. replay (h z) q (map (mapEntry h) es)) ≡ mapOption (mapReader h) (bind o (λ q. replay z q es))
+      go ih none = refl
+      go ih (some q) = ih q
+
+  pub walk-map : (z : D) (r : Reader D) (is : List (Item D)) → walk (h z) (mapReader h r) (map (mapItem h) is) ≡ mapOutcome h (walk z r is)
+  unfolding walk
+  walk-map z r [] = refl
+  walk-map z r (good g i e ∷ is) = rw (read-map z r e, walk) (go (λ q. walk-map z q is) (read z r e))
+    where
+      go : ((q : Reader D) → walk (h z) (mapReader h q) (map (mapItem h) is) ≡ mapOutcome h (walk z q is)) → (o : Option (Reader D))
+          → _≡_ {A = Outcome E} (elim (mapOption (mapReader h) o) [ none ↦ fault g i | some q ↦ walk (h z) q (map (mapItem h) is) ]) (mapOutcome h (elim o [ none ↦ fault g i | some q ↦ walk z q is ]))
+      go ih none = refl
+      go ih (some q) = ih q
+  walk-map z r (bad g i ∷ is) = refl
+
+  pub carried-map : (e : Entry D) → carried (mapEntry h e) ≡ mapOption h (carried e)
+  unfolding mapEntry carried
+  carried-map (plain c) = carriedBy-map h c
+  carried-map (member c) = carriedBy-map h c
+  carried-map (commit n) = refl
+
+  module _ (f : ℕ → ℕ → D) where
+    itemsOf-map : (g n i k : ℕ) (bs : List ℕ) → map (mapItem h) (itemsOf f g n i k bs) ≡ itemsOf (λ a b. h (f a b)) g n i k bs
+    unfolding itemsOf
+    itemsOf-map g zero i k bs = refl
+    itemsOf-map g (suc n) i k bs = go (λ k′ bs′. itemsOf-map g n (suc i) k′ bs′) (entryAt k bs)
+      where
+        go : ((k′ : ℕ) (bs′ : List ℕ) → map (mapItem h) (itemsOf f g n (suc i) k′ bs′) ≡ itemsOf (λ a b. h (f a b)) g n (suc i) k′ bs′) → (o : Option (Entry ℕ × List ℕ))
+            → map (mapItem h) (elim o [ none ↦ bad g i ∷ [] | some x ↦ good g i (mapEntry (f g) (x .0)) ∷ itemsOf f g n (suc i) (k + usedBy (carried (x .0))) (x .1) ])
+            ≡ elim o [ none ↦ bad g i ∷ [] | some x ↦ good g i (mapEntry (λ b. h (f g b)) (x .0)) ∷ itemsOf (λ a b. h (f a b)) g n (suc i) (k + usedBy (carried (x .0))) (x .1) ]
+        go ih none = refl
+        go ih (some x) = rw (ih (k + usedBy (carried (x .0))) (x .1), entry-comp h (f g) (x .0))
+
+    afterEmpty-map : (c : List ℕ) (m g : ℕ) → map (mapItem h) (afterEmpty c m g) ≡ afterEmpty c m g
+    unfolding afterEmpty
+    afterEmpty-map c zero g = refl
+    afterEmpty-map c (suc m) g = go (afterEmpty-map c m (suc g)) (count c g)
+      where
+        go : map (mapItem h) (afterEmpty c m (suc g)) ≡ afterEmpty c m (suc g) → (x : ℕ)
+            → map (mapItem h) (elim x [ zero ↦ afterEmpty c m (suc g) | suc n ↦ bad g 0 ∷ [] ]) ≡ elim x [ zero ↦ afterEmpty c m (suc g) | suc n ↦ bad g 0 ∷ [] ]
+        go ih zero = ih
+        go ih (suc n) = refl
+
+    pub items-map : (c : List ℕ) (m g : ℕ) → map (mapItem h) (items f c m g) ≡ items (λ a b. h (f a b)) c m g
+    unfolding items segmentItems
+    items-map c zero g = refl
+    items-map c (suc m) g = go (items-map c m (suc g)) (count c g)
+      where
+        go : map (mapItem h) (items f c m (suc g)) ≡ items (λ a b. h (f a b)) c m (suc g) → (x : ℕ)
+            → map (mapItem h) (elim x [ zero ↦ afterEmpty c m (suc g) | suc n ↦ itemsOf f g (count c g) 0 0 (segmentEntries c g) ++ items f c m (suc g) ])
+            ≡ elim x [ zero ↦ afterEmpty c m (suc g) | suc n ↦ itemsOf (λ a b. h (f a b)) g (count c g) 0 0 (segmentEntries c g) ++ items (λ a b. h (f a b)) c m (suc g) ]
+        go ih zero = afterEmpty-map c m (suc g)
+        go ih (suc n) = map-append (mapItem h) (itemsOf f g (count c g) 0 0 (segmentEntries c g)) (items f c m (suc g)) ∙ rw (itemsOf-map g (count c g) 0 0 (segmentEntries c g), ih)
+
+    pub walkCard-map : (z : D) (c : List ℕ) → walkCard (λ a b. h (f a b)) (h z) c ≡ mapOutcome h (walkCard f z c)
+    unfolding walkCard
+    walkCard-map z c = rw (← items-map c (segmentsIn c) 0) (walk-map z start (items f c (segmentsIn c) 0))
+
+  -- The place behind an item does not depend on content.
+  usedBy-map : (o : Option D) → usedBy (mapOption h o) ≡ usedBy o
+  unfolding usedBy
+  usedBy-map none = refl
+  usedBy-map (some d) = refl
+
+  pub raw-map : (k : ℕ) (e : Entry D) → raw k (mapEntry h e) ≡ raw k e
+  unfolding raw
+  raw-map k e = entry-comp (λ d. k) h e
+
+  pub entryLength-map : (e : Entry D) → entryLength (mapEntry h e) ≡ entryLength e
+  unfolding entryLength
+  entryLength-map e = rw (raw-map 0 e)
+
+  pub after-map : (p : Place) (e : Entry D) → after p (mapEntry h e) ≡ after p e
+  unfolding after
+  after-map p e = rw (entryLength-map e, carried-map e, usedBy-map (carried e))
+
+  behind-map : (p : Place) (i : Item D) → behind p (mapItem h i) ≡ behind p i
+  unfolding behind
+  behind-map p (good g i e) = after-map (cond (eqb (p .segment) g) p (opened g)) e
+  behind-map p (bad g i) = refl
+
+  pub behindAll-map : (p : Place) (is : List (Item D)) → behindAll p (map (mapItem h) is) ≡ behindAll p is
+  unfolding behindAll
+  behindAll-map p [] = refl
+  behindAll-map p (i ∷ is) = rw (behindAll, behind-map p i) (behindAll-map (behind p i) is)
+
+-- the place behind the walk's items, whatever stands for the slots' contents
+pub tail-map : {D E : Type 0} (f : ℕ → ℕ → D) (g : ℕ → ℕ → E) (c : List ℕ) (n : ℕ) → behindAll (opened 0) (items f c n 0) ≡ behindAll (opened 0) (items g c n 0)
+tail-map f g c n = sym (bare f) ∙ bare g
+  where
+    bare : {C : Type 0} (f : ℕ → ℕ → C) → behindAll (opened 0) (items (λ a b. tt {0}) c n 0) ≡ behindAll (opened 0) (items f c n 0)
+    bare f = ap (behindAll (opened 0)) (sym (items-map (λ d. tt {0}) f c n 0)) ∙ behindAll-map (λ d. tt {0}) (opened 0) (items f c n 0)
