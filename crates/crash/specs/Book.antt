@@ -10,7 +10,8 @@ use Rattle.lists.specs.Change.{Change, takeList, write, delBlock, delList}
 use Rattle.lists.specs.State.{State, apply, applyAll}
 use Rattle.log.specs.Entry.{Entry, plain, member, commit, carried, entryLength}
 use Rattle.log.specs.Card.{Content, zeros, usedBy, slotBytes}
-use Rattle.log.specs.Store.{Place, opened, afterAll, home}
+use Rattle.log.specs.Store.{opened, afterAll, home}
+use Rattle.log.specs.declared.place.Place.{Place}
 use Rattle.disk.specs.Record.{unitCount}
 use Rattle.disk.specs.Call.{Call, format, mount, conflictCount, newList, newBlock, writeBlock, readBlock, deleteBlock, deleteList, begin, end, flush, blockAfter, inventory, ends}
 use Rattle.disk.specs.Perform.{Answer, putAt}

@@ -10,7 +10,8 @@ use Rattle.lists.specs.Change.{Change, takeList, putFirst, putAfter, write, del
 use Rattle.lists.specs.State.{placed}
 use Rattle.log.specs.Entry.{Entry, member, raw, legal, isBlock, isList}
 use Rattle.log.specs.Card.{Content, cardLength, segmentsIn}
-use Rattle.log.specs.Store.{Store, Place, home, tail, entryStores}
+use Rattle.log.specs.Store.{Store, home, tail, entryStores}
+use Rattle.log.specs.declared.place.Place.{Place}
 use Rattle.disk.specs.declared.record.Record.{Record}
 use Rattle.disk.specs.Record.{shaped, holderOf, queuePlaces, journalPlaces, unitCount}
 use Rattle.disk.specs.Disk.{Disk, unitOf, queued, journalOf, committed, committedReader}

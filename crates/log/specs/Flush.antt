@@ -7,7 +7,8 @@ use lib.Dec.{eqb}
 use lib.ListN.{length, getD, set}
 use Rattle.log.specs.Entry.{Entry}
 use Rattle.log.specs.Card.{Content}
-use Rattle.log.specs.Store.{Place, home, after, entryStores}
+use Rattle.log.specs.Store.{home, after, entryStores}
+use Rattle.log.specs.declared.place.Place.{Place}
 
 -- between two stores: the card, the place behind the entries whose count stands, the queue, and the stores of its head that are done
 pub record Flow : Type 0 where

@@ -5,6 +5,7 @@ use mathlib.Core.List.{List, [], _∷_, _++_}
 use Prim.Native.Nat.{ℕ, zero, suc, _+_, _*_}
 use lib.Dec.{leb, eqb, ltb}
 use lib.ListN.{set}
+use Rattle.log.specs.declared.place.Place.{Place}
 use Rattle.log.specs.Entry.{Entry, carried, encode, raw, entryLength}
 use Rattle.log.specs.Card.{Content, Item, good, bad, items, cardSlot, segmentsIn, usedBy, segmentBytes, slotBytes, slotCount, countOffset, entriesOffset, entryBytes}
 
@@ -21,22 +22,16 @@ unfoldable pub formatStores : ℕ → List Store
 formatStores zero = []
 formatStores (suc n) = (segmentBytes * n + countOffset, 0) ∷ formatStores n
 
--- a place in the log: segment, entries in it, entry bytes in it, slots used in it
-pub record Place : Type 0 where
-  pub segment : ℕ
-  pub entries : ℕ
-  pub bytes : ℕ
-  pub slotsUsed : ℕ
-
+-- Places in the log are the declared struct: segment, entries in it, entry bytes in it, slots used in it.
 unfoldable pub opened : ℕ → Place
-opened g = record { segment = g; entries = 0; bytes = 0; slotsUsed = 0 }
+opened g = record { segment = g; entries = 0; bytes = 0; slots = 0 }
 
 unfoldable pub after : {D : Type 0} → Place → Entry D → Place
 after p e = record {
   segment = p .segment;
   entries = suc (p .entries);
   bytes = p .bytes + entryLength e;
-  slotsUsed = p .slotsUsed + usedBy (carried e);
+  slots = p .slots + usedBy (carried e);
 }
 
 unfoldable pub afterAll : {D : Type 0} → Place → List (Entry D) → Place
@@ -44,7 +39,7 @@ afterAll p [] = p
 afterAll p (e ∷ es) = afterAll (after p e) es
 
 unfoldable pub fits : {D : Type 0} → Place → Entry D → Bool
-fits p e = leb (p .bytes + entryLength e) entryBytes && leb (p .slotsUsed + usedBy (carried e)) slotCount
+fits p e = leb (p .bytes + entryLength e) entryBytes && leb (p .slots + usedBy (carried e)) slotCount
 
 -- "An entry that doesn't fit (slots, or entry bytes) opens the next segment.": its place on a card of n segments, behind p; none: there is no place
 unfoldable pub home : {D : Type 0} → ℕ → Place → Entry D → Option Place
@@ -75,6 +70,6 @@ dataOf (some d) = d
 -- closing store
 unfoldable pub entryStores : Place → Entry Content → List Store
 entryStores p e =
-    storesFrom (segmentBytes * p .segment + slotBytes * p .slotsUsed) (dataOf (carried e))
-    ++ storesFrom (segmentBytes * p .segment + entriesOffset + p .bytes) (encode (raw (p .slotsUsed) e))
+    storesFrom (segmentBytes * p .segment + slotBytes * p .slots) (dataOf (carried e))
+    ++ storesFrom (segmentBytes * p .segment + entriesOffset + p .bytes) (encode (raw (p .slots) e))
     ++ (segmentBytes * p .segment + countOffset, suc (p .entries)) ∷ []

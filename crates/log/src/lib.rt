@@ -1,2 +1,3 @@
 // The log on the card: entries and their bytes, the layout of segments, the reader's walk, formatting and the stores of a flush.
 pub mod entry;
+pub mod place;
