@@ -13,7 +13,8 @@ use Rattle.lists.proofs.Naturality.{mapOption, mapState, guard-map, change-comp
 use Rattle.log.specs.Entry.{Entry, plain, member, commit, mapEntry, carried, raw, encode, entryLength}
 use Rattle.log.specs.Reader.{Reader, reader, settled, start, lastOf, read, replay}
 use Rattle.log.specs.Card.{Item, good, bad, itemsOf, entryAt, usedBy, segmentItems, segmentEntries, segmentsIn, afterEmpty, items, count, Outcome, sound, fault, walk, walkCard}
-use Rattle.log.specs.Store.{Place, opened, after, behind, behindAll}
+use Rattle.log.specs.Store.{opened, after, behind, behindAll}
+use Rattle.log.specs.declared.place.Place.{Place}
 
 abbrev pub mapReader : {D E : Type 0} → (D → E) → Reader D → Reader E
 mapReader h r = reader (map (mapChange h) (r .run)) (mapState h (r .state))
