@@ -1,0 +1,301 @@
+-- The queue as the record's ring holds it: entries that join it, entries that a flush drains, and what leaves it alone.
+use mathlib.Core.Path.{_≡_, refl, sym, ap, _∙_}
+use mathlib.Core.Logic.{_≢_}
+use mathlib.Core.Bool.{true, false}
+use mathlib.Core.List.{List, [], _∷_, _++_, append-assoc, append-nil}
+use Prim.Native.Nat.{ℕ, zero, suc, _+_, _-_, _*_, _%_, _≤_, _<_}
+use native.Mathlib.Omega.{arith}
+use native.Mathlib.Numerals.{add-one}
+use native.Mathlib.Nat.{zero-add, mod-add-mod}
+use lib.ListN.{length, drop, getD, length-drop, length-set}
+use lib.Seq.{getD-set-same, getD-set-other}
+use Rattle.lists.specs.Basic.{bind, from}
+use Rattle.lists.specs.Change.{Change, takeList, putFirst, putAfter, write, delBlock, delList, mapChange, carriedBy}
+use Rattle.lists.proofs.Basic.{from-length, from-shift, from-ext, from-snoc, from-drop}
+use Rattle.log.specs.Entry.{Entry, plain, member, commit, mapEntry, carried, asEntry, asChange, logChange}
+use Rattle.log.specs.Reader.{replay}
+use Rattle.log.specs.Card.{Content, zeros, slot, mounted}
+use Rattle.log.specs.Flush.{Flow}
+use Rattle.log.proofs.Slot.{Sized, length-slot}
+use Rattle.disk.specs.Record.{ringPlace, noQueued}
+use Rattle.disk.specs.Disk.{Disk, queuedAt, queued, readerOf, committedReader}
+use Rattle.disk.specs.Perform.{spliceSome, queuedEntry, enqueue, enqueueAll, afterFlush, journalAdd, hold, gaveBlock, gaveList, opening, closing, conflicted}
+use Rattle.disk.proofs.Buffer.{FillsWith, length-spliced, filled-place, other-place}
+
+-- An entry with its data taken out and put in again.
+pub change-fill : (x : Content) (c : Change Content) → FillsWith x (carriedBy c) → mapChange (λ s. x) (asChange (logChange c)) ≡ c
+unfolding mapChange asChange logChange carriedBy
+change-fill x (takeList l) h = refl
+change-fill x (putFirst b l) h = refl
+change-fill x (putAfter b l p) h = refl
+change-fill x (write b d) h = ap (write b) h
+change-fill x (delBlock b) h = refl
+change-fill x (delList l) h = refl
+
+plain-fill : (x : Content) (c : Change Content) → mapEntry (λ s. x) (asEntry false (logChange c)) ≡ plain (mapChange (λ s. x) (asChange (logChange c)))
+unfolding mapEntry mapChange asEntry asChange logChange
+plain-fill x (takeList l) = refl
+plain-fill x (putFirst b l) = refl
+plain-fill x (putAfter b l p) = refl
+plain-fill x (write b d) = refl
+plain-fill x (delBlock b) = refl
+plain-fill x (delList l) = refl
+
+member-fill : (x : Content) (c : Change Content) → mapEntry (λ s. x) (asEntry true (logChange c)) ≡ member (mapChange (λ s. x) (asChange (logChange c)))
+unfolding mapEntry mapChange asEntry asChange logChange
+member-fill x (takeList l) = refl
+member-fill x (putFirst b l) = refl
+member-fill x (putAfter b l p) = refl
+member-fill x (write b d) = refl
+member-fill x (delBlock b) = refl
+member-fill x (delList l) = refl
+
+pub entry-fill : (x : Content) (e : Entry Content) → FillsWith x (carried e) → mapEntry (λ s. x) (asEntry (queuedEntry e .member) (queuedEntry e .entry)) ≡ e
+unfolding queuedEntry carried mapEntry asEntry
+entry-fill x (plain c) h = plain-fill x c ∙ ap plain (change-fill x c h)
+entry-fill x (member c) h = member-fill x c ∙ ap member (change-fill x c h)
+entry-fill x (commit n) h = refl
+
+-- Places of the ring.
+ring-apart : (h k n : ℕ) → k < n → n < 32 → (h + k) % 32 ≢ (h + n) % 32
+ring-apart h k n a b = omega arith
+
+ring-small : (n : ℕ) → n % 32 < 32
+ring-small n = omega arith
+
+ring-fits : (n : ℕ) → 256 * (n % 32) + 256 ≤ 8192
+ring-fits n = omega arith
+
+-- The entry joins the queue.
+pub enqueue-length : (e : Entry Content) (d : Disk) → enqueue e d .rec .len ≡ suc (d .rec .len)
+unfolding enqueue
+enqueue-length e d = add-one (d .rec .len)
+
+pub enqueue-places : (e : Entry Content) (d : Disk) → length (enqueue e d .rec .queue) ≡ length (d .rec .queue)
+unfolding enqueue
+enqueue-places e d = length-set (d .rec .queue) _ (queuedEntry e)
+
+pub enqueue-data : (e : Entry Content) (d : Disk) → length (d .queueData) ≡ 8192 → Sized (carried e) → length (enqueue e d .queueData) ≡ 8192
+unfolding enqueue
+enqueue-data e d l z = length-spliced (d .queueData) _ (carried e) (omega (arith, l, ring-fits (d .rec .head + d .rec .len))) z ∙ l
+
+pub queue-length : (d : Disk) → length (queued d) ≡ d .rec .len
+unfolding queued
+queue-length d = from-length (queuedAt d) 0 (d .rec .len)
+
+queued-new : (e : Entry Content) (d : Disk) → length (d .queueData) ≡ 8192 → length (d .rec .queue) ≡ 32 → Sized (carried e) → queuedAt (enqueue e d) (d .rec .len) ≡ e
+unfolding queuedAt enqueue
+queued-new e d l q z =
+    rw (getD-set-same (d .rec .queue) p (queuedEntry e) noQueued (omega (arith, ring-small (d .rec .head + d .rec .len))))
+    (entry-fill (slot (spliceSome (d .queueData) (256 * p) (carried e)) p) e (filled-place (d .queueData) p (carried e) (omega (arith, ring-fits (d .rec .head + d .rec .len))) z))
+  where
+    p : ℕ
+    p = ringPlace (d .rec) (d .rec .len)
+
+queued-old : (e : Entry Content) (d : Disk) (k : ℕ) → length (d .queueData) ≡ 8192 → d .rec .len < 32 → Sized (carried e) → k < d .rec .len
+    → queuedAt (enqueue e d) k ≡ queuedAt d k
+unfolding queuedAt enqueue
+queued-old e d k l m z a =
+    rw (getD-set-other (d .rec .queue) p j (queuedEntry e) noQueued (ring-apart (d .rec .head) k (d .rec .len) a m))
+    (rw (other-place (d .queueData) p j (carried e) (omega (arith, ring-fits (d .rec .head + d .rec .len))) (omega (arith, ring-fits (d .rec .head + k))) z
+    (λ e. ring-apart (d .rec .head) k (d .rec .len) a m (sym e))))
+  where
+    p : ℕ
+    p = ringPlace (d .rec) (d .rec .len)
+
+    j : ℕ
+    j = ringPlace (d .rec) k
+
+pub queued-add : (e : Entry Content) (d : Disk) → length (d .queueData) ≡ 8192 → length (d .rec .queue) ≡ 32 → d .rec .len < 32 → Sized (carried e)
+    → queued (enqueue e d) ≡ queued d ++ e ∷ []
+unfolding queued
+queued-add e d l q m z =
+    ap (from f 0) (enqueue-length e d)
+    ∙ from-snoc f 0 (d .rec .len)
+    ∙ ap (λ (x : Entry Content). from f 0 (d .rec .len) ++ x ∷ []) (ap f (zero-add (d .rec .len)) ∙ queued-new e d l q z)
+    ∙ ap (λ (r : List (Entry Content)). r ++ e ∷ []) (from-ext f (queuedAt d) (d .rec .len) (λ k a. queued-old e d k l m z a))
+  where
+    f : ℕ → Entry Content
+    f = queuedAt (enqueue e d)
+
+-- several entries
+abbrev pub AllSized : List (Entry Content) → Type 0
+AllSized [] = Unit {0}
+AllSized (e ∷ es) = Sized (carried e) × AllSized es
+
+pub queued-all : (es : List (Entry Content)) (d : Disk) → length (d .queueData) ≡ 8192 → length (d .rec .queue) ≡ 32 → d .rec .len + length es ≤ 32 → AllSized es
+    → queued (enqueueAll es d) ≡ queued d ++ es
+unfolding enqueueAll
+queued-all [] d l q m z = sym (append-nil (queued d))
+queued-all (e ∷ es) d l q m z =
+    queued-all es (enqueue e d) (enqueue-data e d l (z .0)) (enqueue-places e d ∙ q) (omega (arith, enqueue-length e d)) (z .1)
+    ∙ ap (λ (x : List (Entry Content)). x ++ es) (queued-add e d l q (omega arith) (z .0))
+    ∙ append-assoc (queued d) (e ∷ []) es
+
+pub enqueueAll-data : (es : List (Entry Content)) (d : Disk) → length (d .queueData) ≡ 8192 → AllSized es → length (enqueueAll es d .queueData) ≡ 8192
+unfolding enqueueAll
+enqueueAll-data [] d l z = l
+enqueueAll-data (e ∷ es) d l z = enqueueAll-data es (enqueue e d) (enqueue-data e d l (z .0)) (z .1)
+
+pub enqueueAll-length : (es : List (Entry Content)) (d : Disk) → enqueueAll es d .rec .len ≡ d .rec .len + length es
+unfolding enqueueAll
+enqueueAll-length [] d = omega arith
+enqueueAll-length (e ∷ es) d = omega (arith, enqueueAll-length es (enqueue e d), enqueue-length e d)
+
+-- the data of the entries that stand in the queue
+pub change-sized : (x : Content) (c : Change ℕ) → length x ≡ 256 → Sized (carriedBy (mapChange (λ s. x) c))
+unfolding mapChange carriedBy
+change-sized x (takeList l) z = tt
+change-sized x (putFirst b l) z = tt
+change-sized x (putAfter b l p) z = tt
+change-sized x (write b s) z = z
+change-sized x (delBlock b) z = tt
+change-sized x (delList l) z = tt
+
+entry-sized : (x : Content) (e : Entry ℕ) → length x ≡ 256 → Sized (carried (mapEntry (λ s. x) e))
+unfolding mapEntry carried
+entry-sized x (plain c) z = change-sized x c z
+entry-sized x (member c) z = change-sized x c z
+entry-sized x (commit n) z = tt
+
+sized-from : (f : ℕ → Entry Content) (k n : ℕ) → ((j : ℕ) → Sized (carried (f j))) → AllSized (from f k n)
+unfolding from
+sized-from f k zero h = tt
+sized-from f k (suc n) h = (h k, sized-from f (suc k) n h)
+
+sized-at : (d : Disk) (k : ℕ) → length (d .queueData) ≡ 8192 → Sized (carried (queuedAt d k))
+unfolding queuedAt
+sized-at d k l = entry-sized _ _ (length-slot (d .queueData) (ringPlace (d .rec) k) (omega (arith, ring-fits (d .rec .head + k))))
+
+pub queued-sized : (d : Disk) → length (d .queueData) ≡ 8192 → AllSized (queued d)
+unfolding queued
+queued-sized d l = sized-from (queuedAt d) 0 (d .rec .len) (λ k. sized-at d k l)
+
+-- what the queue's growth leaves alone
+pub record Beside (d e : Disk) : Type 0 where
+  pub card : e .card ≡ d .card
+  pub journalData : e .journalData ≡ d .journalData
+  pub places : length (e .rec .queue) ≡ length (d .rec .queue)
+  pub head : e .rec .head ≡ d .rec .head
+  pub done : e .rec .done ≡ d .rec .done
+  pub units : e .rec .units ≡ d .rec .units
+  pub holder : e .rec .holder ≡ d .rec .holder
+  pub lastBlock : e .rec .«last_block» ≡ d .rec .«last_block»
+  pub lastList : e .rec .«last_list» ≡ d .rec .«last_list»
+  pub conflicts : e .rec .conflicts ≡ d .rec .conflicts
+
+pub beside-one : (e : Entry Content) (d : Disk) → Beside d (enqueue e d)
+unfolding enqueue
+beside-one e d =
+    record {
+      card = refl;
+      journalData = refl;
+      places = length-set (d .rec .queue) _ (queuedEntry e);
+      head = refl;
+      done = refl;
+      units = refl;
+      holder = refl;
+      lastBlock = refl;
+      lastList = refl;
+      conflicts = refl;
+    }
+
+pub beside-all : (es : List (Entry Content)) (d : Disk) → Beside d (enqueueAll es d)
+unfolding enqueueAll
+beside-all [] d =
+    record {
+      card = refl;
+      journalData = refl;
+      places = refl;
+      head = refl;
+      done = refl;
+      units = refl;
+      holder = refl;
+      lastBlock = refl;
+      lastList = refl;
+      conflicts = refl;
+    }
+beside-all (e ∷ es) d =
+    let x = beside-one e d in
+    let y = beside-all es (enqueue e d) in
+    record {
+      card = y .card ∙ x .card;
+      journalData = y .journalData ∙ x .journalData;
+      places = y .places ∙ x .places;
+      head = y .head ∙ x .head;
+      done = y .done ∙ x .done;
+      units = y .units ∙ x .units;
+      holder = y .holder ∙ x .holder;
+      lastBlock = y .lastBlock ∙ x .lastBlock;
+      lastList = y .lastList ∙ x .lastList;
+      conflicts = y .conflicts ∙ x .conflicts;
+    }
+
+-- A flush that drained n entries.
+ring-shift : (h n k : ℕ) → ((h + n) % 32 + k) % 32 ≡ (h + (n + k)) % 32
+ring-shift h n k = mod-add-mod (h + n) 32 k ∙ ap (λ (m : ℕ). m % 32) (let e : h + n + k ≡ h + (n + k) = omega arith in e)
+
+drained-at : (d : Disk) (f : Flow) (k : ℕ) → queuedAt (afterFlush d f) k ≡ queuedAt d (d .rec .len - length (f .queue) + k)
+unfolding queuedAt afterFlush
+drained-at d f k = rw (ring-shift (d .rec .head) (d .rec .len - length (f .queue)) k)
+
+pub queued-flushed : (d : Disk) (f : Flow) (n : ℕ) → n ≤ d .rec .len → f .queue ≡ drop n (queued d) → queued (afterFlush d f) ≡ f .queue
+unfolding queued afterFlush
+queued-flushed d f n h e =
+    ap (from (queuedAt (afterFlush d f)) 0) left
+    ∙ from-shift (queuedAt (afterFlush d f)) (queuedAt d) 0 (0 + n) m
+    (λ k o. ap (queuedAt (afterFlush d f)) (zero-add k) ∙ drained-at d f k ∙ ap (queuedAt d) (let p : d .rec .len - length (f .queue) + k ≡ 0 + n + k = omega (arith, left) in p))
+    ∙ sym (from-drop (queuedAt d) 0 n m)
+    ∙ ap (λ (j : ℕ). drop n (from (queuedAt d) 0 j)) (let p : n + m ≡ d .rec .len = omega arith in p)
+    ∙ sym e
+  where
+    m : ℕ
+    m = d .rec .len - n
+
+    left : length (f .queue) ≡ m
+    left = ap length e ∙ length-drop n (queued d) ∙ ap (λ (j : ℕ). j - n) (queue-length d)
+
+pub flushed-head : (d : Disk) (f : Flow) → afterFlush d f .rec .head < 32
+unfolding afterFlush
+flushed-head d f = ring-small (d .rec .head + (d .rec .len - length (f .queue)))
+
+-- What leaves the queue alone.
+pub queued-same : (d e : Disk) → e .queueData ≡ d .queueData → e .rec .queue ≡ d .rec .queue → e .rec .head ≡ d .rec .head → e .rec .len ≡ d .rec .len
+    → queued e ≡ queued d
+unfolding queued queuedAt
+queued-same d e a b c n i =
+    from (λ k. let q = getD (b i) ((c i + k) % 32) noQueued in mapEntry (λ s. slot (a i) ((c i + k) % 32)) (asEntry (q .member) (q .entry))) 0 (n i)
+
+pub queued-journal : (u : ℕ) (c : Change Content) (d : Disk) → queued (journalAdd u c d) ≡ queued d
+unfolding journalAdd
+queued-journal u c d = queued-same d (journalAdd u c d) refl refl refl refl
+
+pub queued-hold : (s b : ℕ) (d : Disk) → queued (hold s b d) ≡ queued d
+unfolding hold
+queued-hold zero b d = refl
+queued-hold (suc u) b d = queued-same d (hold (suc u) b d) refl refl refl refl
+
+pub queued-gaveBlock : (b : ℕ) (d : Disk) → queued (gaveBlock b d) ≡ queued d
+unfolding gaveBlock
+queued-gaveBlock b d = queued-same d (gaveBlock b d) refl refl refl refl
+
+pub queued-gaveList : (l : ℕ) (d : Disk) → queued (gaveList l d) ≡ queued d
+unfolding gaveList
+queued-gaveList l d = queued-same d (gaveList l d) refl refl refl refl
+
+pub queued-opening : (u : ℕ) (d : Disk) → queued (opening u d) ≡ queued d
+unfolding opening
+queued-opening u d = queued-same d (opening u d) refl refl refl refl
+
+pub queued-closing : (u : ℕ) (d : Disk) → queued (closing u d) ≡ queued d
+unfolding closing
+queued-closing u d = queued-same d (closing u d) refl refl refl refl
+
+pub queued-conflicted : (d : Disk) → queued (conflicted d) ≡ queued d
+unfolding conflicted
+queued-conflicted d = queued-same d (conflicted d) refl refl refl refl
+
+-- The log followed by the queue, of two disks with the same of both.
+pub reader-same : (d e : Disk) → e .card ≡ d .card → queued e ≡ queued d → committedReader e ≡ committedReader d
+unfolding committedReader
+reader-same d e a b i = bind (readerOf (mounted (a i))) (λ r. replay zeros r (b i))
