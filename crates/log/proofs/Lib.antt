@@ -1,3 +1,4 @@
 pub mod Slot
 pub mod Naturality
 pub mod Decode
+pub mod Replay
