@@ -1,2 +1,4 @@
 pub mod History
 pub mod Book
+pub mod Told
+pub mod Lending

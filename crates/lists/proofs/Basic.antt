@@ -233,6 +233,11 @@ map-drop f (suc n) [] = refl
 map-drop f (suc n) (x ∷ l) = map-drop f n l
 
 -- Lists joined.
+pub joined-nils : {A : Type 0} (n : ℕ) → joined {A = A} (replicate n []) ≡ []
+unfolding joined
+joined-nils zero = refl
+joined-nils (suc n) = joined-nils n
+
 module _ {A : Type 0} (p : A → Bool) where
   any-append : (xs ys : List A) → any p (xs ++ ys) ≡ any p xs || any p ys
   any-append [] ys = refl
