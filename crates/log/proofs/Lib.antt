@@ -2,3 +2,4 @@ pub mod Slot
 pub mod Naturality
 pub mod Decode
 pub mod Replay
+pub mod Segment
