@@ -3,3 +3,4 @@ pub mod Naturality
 pub mod Decode
 pub mod Replay
 pub mod Segment
+pub mod EntryStores
