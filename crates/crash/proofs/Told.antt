@@ -1,13 +1,13 @@
 -- What the book's log tells: the segments with the line behind them are the labelled entries of the history (`Told`), so the segments alone are
 -- those of its longest prefix whose closing stores are on the card (`Shown`). A flush only moves entries, so it keeps `Told` as it is.
 use mathlib.Core.Path.{_≡_, refl, sym, ap, _∙_}
-use mathlib.Core.Option.{Option, none, some}
-use mathlib.Core.List.{List, [], _∷_, _++_, append-assoc, append-nil}
+use mathlib.Core.Option.{some}
+use mathlib.Core.List.{List, [], _++_, append-assoc, append-nil}
 use Prim.Native.Nat.{ℕ, _+_, _-_}
 use native.Mathlib.Nat.{zero-add}
 use lib.ListN.{length, drop, take, replicate, take-append-drop}
 use lib.Seq.{take-at}
-use Rattle.lists.specs.Basic.{bind, joined}
+use Rattle.lists.specs.Basic.{joined}
 use Rattle.lists.specs.Change.{Change}
 use Rattle.lists.proofs.Basic.{bind-some, joined-nils}
 use Rattle.log.specs.Entry.{Entry}
