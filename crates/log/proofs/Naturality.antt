@@ -9,6 +9,7 @@ use lib.ListN.{length, drop, length-map}
 use Rattle.lists.specs.Basic.{guard, bind}
 use Rattle.lists.specs.Change.{Change, mapChange}
 use Rattle.lists.specs.State.{State, apply, applyAll}
+use Rattle.lists.proofs.Basic.{map-drop}
 use Rattle.lists.proofs.Naturality.{mapOption, mapState, guard-map, change-comp, carriedBy-map, apply-map, applyAll-map}
 use Rattle.log.specs.Entry.{Entry, plain, member, commit, mapEntry, carried, raw, encode, entryLength}
 use Rattle.log.specs.Reader.{Reader, reader, settled, start, lastOf, read, replay}
@@ -26,11 +27,6 @@ mapItem h (bad g i) = bad g i
 abbrev pub mapOutcome : {D E : Type 0} → (D → E) → Outcome D → Outcome E
 mapOutcome h (sound r) = sound (mapReader h r)
 mapOutcome h (fault g i) = fault g i
-
-drop-map : {A B : Type 0} (f : A → B) (n : ℕ) (xs : List A) → drop n (map f xs) ≡ map f (drop n xs)
-drop-map f zero xs = refl
-drop-map f (suc n) [] = refl
-drop-map f (suc n) (x ∷ xs) = drop-map f n xs
 
 pub entry-comp : {C D E : Type 0} (h : D → E) (f : C → D) (e : Entry C) → mapEntry h (mapEntry f e) ≡ mapEntry (λ d. h (f d)) e
 unfolding mapEntry
@@ -50,7 +46,7 @@ module _ {D E : Type 0} (h : D → E) where
   read-map z r (commit n) =
       rw (
         length-map (r .run) (mapChange h),
-        drop-map (mapChange h) (length (r .run) - n) (r .run),
+        ← map-drop (mapChange h) (length (r .run) - n) (r .run),
         applyAll-map h z (drop (length (r .run) - n) (r .run)) (r .state),
         settle-map (applyAll z (drop (length (r .run) - n) (r .run)) (r .state)),
       )
