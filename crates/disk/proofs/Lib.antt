@@ -1,3 +1,4 @@
 pub mod Buffer
 pub mod Queue
+pub mod Journal
 pub mod Fresh
