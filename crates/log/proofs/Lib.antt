@@ -4,3 +4,4 @@ pub mod Decode
 pub mod Replay
 pub mod Segment
 pub mod EntryStores
+pub mod Formatting
