@@ -5,3 +5,4 @@ pub mod Replay
 pub mod Segment
 pub mod EntryStores
 pub mod Formatting
+pub mod Distinct
