@@ -9,7 +9,8 @@ use native.Mathlib.Decide.{decLt}
 use lib.ListN.{length, drop, take, getD, length-append, length-drop, List·getD-append}
 use lib.Seq.{getD-take, getD-drop, getD-append-add, length-take-le}
 use Rattle.log.specs.Card.{Content, slot}
-use Rattle.log.proofs.Slot.{Stands, Sized, same-getD, length-slot, getD-slot, slot-stands}
+use Rattle.log.proofs.Segment.{Sized}
+use Rattle.log.proofs.Slot.{Stands, same-getD, length-slot, getD-slot, slot-stands}
 use Rattle.disk.specs.Perform.{splice, spliceSome}
 
 -- Bytes put into a buffer.

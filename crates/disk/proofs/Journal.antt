@@ -16,7 +16,8 @@ use Rattle.lists.proofs.Basic.{from-length, from-ext, from-snoc}
 use Rattle.log.specs.Entry.{Entry, member, commit, carried, asChange, logChange}
 use Rattle.log.specs.Card.{Content, slot}
 use Rattle.log.specs.Flush.{Flow}
-use Rattle.log.proofs.Slot.{Sized, length-slot}
+use Rattle.log.proofs.Segment.{Sized}
+use Rattle.log.proofs.Slot.{length-slot}
 use Rattle.disk.specs.declared.record.Unit.{Unit}
 use Rattle.disk.specs.Record.{noJournaled, noUnit, journaled, emptied}
 use Rattle.disk.specs.Disk.{Disk, unitOf, journalPlace, journalAt, journalOf}

@@ -16,7 +16,8 @@ use Rattle.log.specs.Entry.{Entry, plain, member, commit, mapEntry, carried, as
 use Rattle.log.specs.Reader.{replay}
 use Rattle.log.specs.Card.{Content, zeros, slot, mounted}
 use Rattle.log.specs.Flush.{Flow}
-use Rattle.log.proofs.Slot.{Sized, length-slot}
+use Rattle.log.proofs.Segment.{Sized}
+use Rattle.log.proofs.Slot.{length-slot}
 use Rattle.disk.specs.Record.{ringPlace, noQueued}
 use Rattle.disk.specs.Disk.{Disk, queuedAt, queued, readerOf, committedReader}
 use Rattle.disk.specs.Perform.{spliceSome, queuedEntry, enqueue, enqueueAll, afterFlush, journalAdd, hold, gaveBlock, gaveList, opening, closing, conflicted}

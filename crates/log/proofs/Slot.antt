@@ -1,14 +1,13 @@
 -- Bytes that stand in a buffer from an offset on, and the buffer's slots.
 use mathlib.Core.Path.{_≡_, sym, ap, _∙_}
 use mathlib.Core.Logic.{_⊎_, inl, inr}
-use mathlib.Core.Option.{Option, none, some}
 use mathlib.Core.List.{List, [], _∷_, _++_}
 use Prim.Native.Nat.{ℕ, suc, _+_, _-_, _*_, _≤_, _<_}
 use native.Mathlib.Omega.{arith}
 use native.Mathlib.Decide.{decLt}
 use lib.ListN.{length, drop, take, getD, set, length-append, length-drop, List·getD-append}
 use lib.Seq.{drop-cons, getD-set-other, getD-take, getD-drop, getD-append-add, take-at, length-take-le}
-use Rattle.log.specs.Card.{Content, slot}
+use Rattle.log.specs.Card.{slot}
 
 -- the bytes v stand in l from a on
 abbrev pub Stands : List ℕ → ℕ → List ℕ → Type 0
@@ -43,11 +42,6 @@ stands-drop (x ∷ v) l a h s =
     ∙ ap (λ (r : List ℕ). x ∷ r)
     (stands-drop v l (suc a) (omega arith) (λ j k. same-getD l (suc a + j) (a + suc j) (omega arith) ∙ s (suc j) (omega arith))
     ∙ ap (λ (r : List ℕ). v ++ r) (same-drop l (suc a + length v) (a + suc (length v)) (omega arith)))
-
--- what is carried, if anything, fills a slot
-abbrev pub Sized : Option Content → Type 0
-Sized none = Unit {0}
-Sized (some d) = length d ≡ 256
 
 -- Slot k of a buffer.
 pub length-slot : (l : List ℕ) (k : ℕ) → 256 * k + 256 ≤ length l → length (slot l k) ≡ 256
