@@ -6,3 +6,4 @@ pub mod Segment
 pub mod EntryStores
 pub mod Formatting
 pub mod Distinct
+pub mod Bits
