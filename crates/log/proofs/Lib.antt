@@ -7,3 +7,4 @@ pub mod EntryStores
 pub mod Formatting
 pub mod Distinct
 pub mod Bits
+pub mod Places

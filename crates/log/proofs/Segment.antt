@@ -82,11 +82,6 @@ pub raw-used : (k : ℕ) (e : Entry Content) → usedBy (carried (raw k e)) ≡ 
 unfolding raw
 raw-used k e = used-map (λ d. k) e
 
-pub used-le : (o : Option Content) → usedBy o ≤ 1
-unfolding usedBy
-used-le none = omega arith
-used-le (some d) = omega arith
-
 pub slotsAfter-le : (k : ℕ) (es : List (Entry Content)) → k ≤ slotsAfter k es
 unfolding slotsAfter
 slotsAfter-le k [] = omega arith
@@ -164,7 +159,7 @@ abbrev AllHold : List ℕ → ℕ → List (List (Entry Content)) → Type 0
 AllHold c g [] = Unit {0}
 AllHold c g (es ∷ ess) = Holds c g es × AllHold c (suc g) ess
 
-goods-empties : (g : ℕ) (ess : List (List (Entry Content))) → Empties ess → goodsAll g ess ≡ []
+pub goods-empties : (g : ℕ) (ess : List (List (Entry Content))) → Empties ess → goodsAll g ess ≡ []
 unfolding goodsAll goods
 goods-empties g [] h = refl
 goods-empties g ([] ∷ ess) h = goods-empties (suc g) ess h
