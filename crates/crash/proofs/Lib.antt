@@ -2,3 +2,5 @@ pub mod History
 pub mod Book
 pub mod Told
 pub mod Lending
+pub mod Mounting
+pub mod Formatting
