@@ -5,7 +5,8 @@ use crate::record::Record;
 use crate::record::Unit;
 use log::entry::LogEntry;
 ghost use mathlib.Core.Path.{_≡_};
-ghost use mathlib.Core.Bool.{true, false};
+ghost use mathlib.Core.Bool.{true, false, cond};
+ghost use lib.Dec.{eqb};
 ghost use Prim.Native.Nat.{ℕ, _+_, _-_, _<_, _≤_, min};
 ghost use lib.ListN.{length, getD, set};
 ghost use Rattle.disk.specs.Record.{ringPlace, unitAt, withQueue, withUnits, withConflicts, journaled, emptied, released};
@@ -72,4 +73,24 @@ pub fn count_conflict(rec: Record) -> Record
         next.conflicts = n + 1;
     }
     next
+}
+
+// A holder when unit u gives up what it holds.
+fn freed(h: u8, u: u8) -> u8
+    ensures { λ r. ⌜ r ≡ cond (eqb h u) 0 h ⌝ }
+{
+    if h == u { 0 } else { h }
+}
+
+// The holders when unit u gives up what it holds.
+pub fn release(holder: [u8; 64], u: u8) -> [u8; 64]
+    ensures { λ r. ⌜ r ≡ released u holder ⌝ }
+{
+    let mut left = holder;
+    let mut i = 0;
+    while i < 64 {
+        left[i] = freed(holder[i], u);
+        i += 1;
+    }
+    left
 }
