@@ -1,4 +1,5 @@
 pub mod Buffer
 pub mod Queue
 pub mod Journal
+pub mod Questions
 pub mod Fresh

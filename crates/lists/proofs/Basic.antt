@@ -38,6 +38,10 @@ not-false false h = refl
 pub not-true : (b : Bool) → b ≡ false → not b ≡ true
 not-true b h = rw h
 
+pub false-not : (b : Bool) → not b ≡ false → b ≡ true
+false-not true h = refl
+false-not false h = absurd (true≢false h)
+
 pub eqb-same : (n : ℕ) → eqb n n ≡ true
 eqb-same n = T→true (eqb n n) (eqb-refl n)
 

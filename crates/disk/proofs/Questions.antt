@@ -1,0 +1,182 @@
+-- What an answer says of the call's questions, and what the questions answered yes say of disk and arguments.
+use mathlib.Core.Path.{_≡_, refl, sym, ap, _∙_}
+use mathlib.Core.Logic.{_≢_}
+use mathlib.Core.Bool.{Bool, true, false, _&&_, _||_, not, or-true, false≢true}
+use mathlib.Core.Option.{some, Option·none-ne-some, Option·some-injective}
+use mathlib.Core.List.{List, [], _∷_}
+use Prim.Native.Nat.{ℕ, zero, suc, _+_, _%_, _≤_, _<_}
+use native.Mathlib.Omega.{arith}
+use native.Mathlib.Nat.{mod-lt}
+use lib.Dec.{leb, eqb, eqb·suc-zero}
+use lib.ListN.{length, getD}
+use Rattle.lists.specs.Basic.{isSome, orElse, any}
+use Rattle.lists.specs.State.{taken, placed}
+use Rattle.lists.proofs.Basic.{and-true, or-both, false-not, eqb-same, eqb-true, leb-true, ltb-true, le-true, some-of}
+use Rattle.log.specs.Entry.{isBlock, isList}
+use Rattle.log.specs.Card.{cardLength}
+use Rattle.disk.specs.Record.{holderOf}
+use Rattle.disk.specs.Disk.{Disk, unitOf, committed}
+use Rattle.disk.specs.Sound.{lengthsRight, isOpenUnit}
+use Rattle.disk.specs.Call.{Call, format, mount, conflictCount, newList, newBlock, writeBlock, readBlock, deleteBlock, deleteList, begin, end, flush, blockAfter, inventory}
+use Rattle.disk.specs.Questions.{streamOpen, journalRoom, queueRoom, streamRoom, freeFrom, freeBlock, freeList, questions, ask, firstNo, refusal}
+
+-- Questions in general: each has its number and its answer.
+abbrev pub test : List (ℕ × Bool) → ℕ → Bool
+test qs i = getD qs i (1, true) .1
+
+abbrev Positive : List (ℕ × Bool) → Type 0
+Positive [] = Unit {0}
+Positive (q ∷ qs) = (1 ≤ q .0) × Positive qs
+
+-- the numbers of the first i questions are others than n
+abbrev pub Apart : ℕ → List (ℕ × Bool) → ℕ → Type 0
+Apart i [] n = Unit {0}
+Apart zero (q ∷ qs) n = Unit {0}
+Apart (suc i) (q ∷ qs) n = (q .0 ≢ n) × Apart i qs n
+
+ask-past : (b : Bool) (m k n : ℕ) → m ≢ n → ask b m k ≡ n → (b ≡ true) × (k ≡ n)
+unfolding ask
+ask-past true m k n d h = (refl, h)
+ask-past false m k n d h = absurd (d h)
+
+-- a refusal's number n says yes to the questions before the first of that number
+pub past : (i : ℕ) (qs : List (ℕ × Bool)) (n : ℕ) → Apart i qs n → firstNo qs ≡ n → (j : ℕ) → j < i → test qs j ≡ true
+unfolding firstNo
+past i [] n a h j l = refl
+past zero (q ∷ qs) n a h j l = absurd (omega arith)
+past (suc i) (q ∷ qs) n a h zero l = ask-past (q .1) (q .0) (firstNo qs) n (a .0) h .0
+past (suc i) (q ∷ qs) n a h (suc j) l = past i qs n (a .1) (ask-past (q .1) (q .0) (firstNo qs) n (a .0) h .1) j (omega arith)
+
+all-yes : (qs : List (ℕ × Bool)) → Positive qs → firstNo qs ≡ 0 → (j : ℕ) → test qs j ≡ true
+unfolding firstNo
+all-yes [] a h j = refl
+all-yes (q ∷ qs) a h zero = ask-past (q .1) (q .0) (firstNo qs) 0 (omega (arith, a .0)) h .0
+all-yes (q ∷ qs) a h (suc j) = all-yes qs (a .1) (ask-past (q .1) (q .0) (firstNo qs) 0 (omega (arith, a .0)) h .1) j
+
+positive : (c : Call) (d : Disk) → Positive (questions c d)
+unfolding questions
+positive format d = omega arith
+positive mount d = omega arith
+positive conflictCount d = omega arith
+positive (newList s) d = omega arith
+positive (newBlock s l p) d = omega arith
+positive (writeBlock s b x) d = omega arith
+positive (readBlock v b x) d = omega arith
+positive (deleteBlock s b) d = omega arith
+positive (deleteList s l) d = omega arith
+positive (begin u) d = omega arith
+positive (end u) d = omega arith
+positive (flush a) d = omega arith
+positive (blockAfter v l p) d = omega arith
+positive (inventory v x) d = omega arith
+
+-- an accepted call's questions are all answered yes
+pub yes-all : (c : Call) (d : Disk) → refusal c d ≡ 0 → (i : ℕ) → test (questions c d) i ≡ true
+unfolding refusal
+yes-all c d h i = all-yes (questions c d) (positive c d) h i
+
+-- a refusal's number is one of the call's questions
+pub numbered : (qs : List (ℕ × Bool)) (n : ℕ) → n ≢ 0 → firstNo qs ≡ n → any (λ q. eqb (q .0) n) qs ≡ true
+unfolding firstNo ask
+numbered [] n d h = absurd (d (sym h))
+numbered (q ∷ qs) n d h = go (numbered qs n d) (q .1) refl
+  where
+    go : (firstNo qs ≡ n → any (λ q. eqb (q .0) n) qs ≡ true) → (b : Bool) → q .1 ≡ b → eqb (q .0) n || any (λ q. eqb (q .0) n) qs ≡ true
+    go ih true e = rw (ih (rw (e, ask) at h)) (or-true (eqb (q .0) n))
+    go ih false e = let m : q .0 ≡ n = rw (e, ask) at h in rw m (rw (eqb-same n))
+
+-- only an End is refused 12
+asks-twelve : (c : Call) (d : Disk) → any (λ q. eqb (q .0) 12) (questions c d) ≡ true → (u : ℕ) × (c ≡ end u)
+unfolding questions
+asks-twelve format d k = absurd (false≢true k)
+asks-twelve mount d k = absurd (false≢true k)
+asks-twelve conflictCount d k = absurd (false≢true k)
+asks-twelve (newList s) d k = absurd (false≢true k)
+asks-twelve (newBlock s l p) d k = absurd (false≢true k)
+asks-twelve (writeBlock s b x) d k = absurd (false≢true k)
+asks-twelve (readBlock v b x) d k = absurd (false≢true k)
+asks-twelve (deleteBlock s b) d k = absurd (false≢true k)
+asks-twelve (deleteList s l) d k = absurd (false≢true k)
+asks-twelve (begin u) d k = absurd (false≢true k)
+asks-twelve (end u) d k = (u, refl)
+asks-twelve (flush a) d k = absurd (false≢true k)
+asks-twelve (blockAfter v l p) d k = absurd (false≢true k)
+asks-twelve (inventory v x) d k = absurd (false≢true k)
+
+pub twelve-end : (c : Call) (d : Disk) → refusal c d ≡ 12 → (u : ℕ) × (c ≡ end u)
+unfolding refusal
+twelve-end c d h = asks-twelve c d (numbered (questions c d) 12 (omega arith) h)
+
+-- Questions 1, 4, 11 and 13.
+module _ (d : Disk) (h : lengthsRight d ≡ true) where
+  pub card-length : cardLength (d .card) ≡ true
+  unfolding lengthsRight
+  card-length = and-true (cardLength (d .card)) _ (and-true (cardLength (d .card) && eqb (length (d .queueData)) 8192) _ h .0) .0
+
+  pub queue-data : length (d .queueData) ≡ 8192
+  unfolding lengthsRight
+  queue-data = eqb-true _ 8192 (and-true (cardLength (d .card)) _ (and-true (cardLength (d .card) && eqb (length (d .queueData)) 8192) _ h .0) .1)
+
+  pub journal-data : length (d .journalData) ≡ 15360
+  unfolding lengthsRight
+  journal-data = eqb-true _ 15360 (and-true (cardLength (d .card) && eqb (length (d .queueData)) 8192) _ h .1)
+
+pub unit-range : (d : Disk) (u : ℕ) → isOpenUnit d u ≡ true → (1 ≤ u) × (u ≤ 4) × (unitOf d u .opened ≡ true)
+unfolding isOpenUnit
+unit-range d u h =
+    let (a, o) = and-true (leb 1 u && leb u 4) (unitOf d u .opened) h in
+    let (p, q) = and-true (leb 1 u) (leb u 4) a in
+    (leb-true 1 u p, leb-true u 4 q, o)
+
+pub open-range : (d : Disk) (u : ℕ) → streamOpen d (suc u) ≡ true → (1 ≤ suc u) × (suc u ≤ 4) × (unitOf d (suc u) .opened ≡ true)
+unfolding streamOpen
+open-range d u h = unit-range d (suc u) (rw (eqb·suc-zero u) at h)
+
+pub queue-room : (d : Disk) (n : ℕ) → queueRoom d n ≡ true → d .rec .len + n ≤ 32
+unfolding queueRoom
+queue-room d n h = leb-true (d .rec .len + n) 32 h
+
+pub stream-room : (d : Disk) → streamRoom d 0 ≡ true → d .rec .len < 32
+unfolding streamRoom
+stream-room d h = omega (arith, queue-room d 1 h)
+
+pub journal-room : (d : Disk) (u : ℕ) → journalRoom d (suc u) ≡ true → unitOf d (suc u) .len < 15
+unfolding journalRoom
+journal-room d u h = ltb-true (unitOf d (suc u) .len) 15 (rw (eqb·suc-zero u) at h)
+
+-- Numbers given.
+pub in-range : (m n : ℕ) → 1 ≤ n → n ≤ m → leb 1 n && leb n m ≡ true
+in-range m n a b = rw (le-true 1 n a) (le-true n m b)
+
+pub free-from : (used : ℕ → Bool) (limit k last n : ℕ) → 0 < limit → freeFrom used limit k last ≡ some n → (used n ≡ false) × (1 ≤ n) × (n ≤ limit)
+unfolding freeFrom
+free-from used limit zero last n l h = absurd (Option·none-ne-some _ h)
+free-from used limit (suc k) last n l h = go (λ q. free-from used limit k (suc (last % limit)) n l q) (used (suc (last % limit))) refl
+  where
+    m : ℕ
+    m = suc (last % limit)
+
+    go : (freeFrom used limit k m ≡ some n → (used n ≡ false) × (1 ≤ n) × (n ≤ limit)) → (b : Bool) → used m ≡ b → (used n ≡ false) × (1 ≤ n) × (n ≤ limit)
+    go ih true e = ih (rw (e, freeFrom) at h)
+    go ih false e =
+        let v : m ≡ n = Option·some-injective _ _ (rw (e, freeFrom) at h) in
+        (ap used (sym v) ∙ e, omega arith, omega (arith, mod-lt last l))
+
+-- the list that NewList gives: not taken, and in range
+pub list-number : (d : Disk) → isSome (freeList d) ≡ true
+    → (taken (orElse 0 (freeList d)) (committed d .lists) ≡ false) × (isList (orElse 0 (freeList d)) ≡ true)
+unfolding freeList orElse
+list-number d h =
+    let (n, e) = some-of (freeList d) h in
+    let f = free-from (λ l. taken l (committed d .lists)) 16 16 (d .rec .«last_list») n (omega arith) e in
+    rw e (f .0, in-range 16 n (f .1) (f .2))
+
+-- the block that NewBlock gives: on no list, held by no unit, and in range
+pub block-number : (d : Disk) → isSome (freeBlock d) ≡ true
+    → (placed (orElse 0 (freeBlock d)) (committed d .lists) ≡ false) × (holderOf (d .rec) (orElse 0 (freeBlock d)) ≡ 0) × (isBlock (orElse 0 (freeBlock d)) ≡ true)
+unfolding freeBlock orElse
+block-number d h =
+    let (n, e) = some-of (freeBlock d) h in
+    let f = free-from (λ b. placed b (committed d .lists) || not (eqb (holderOf (d .rec) b) 0)) 64 64 (d .rec .«last_block») n (omega arith) e in
+    let (a, b) = or-both (placed n (committed d .lists)) (not (eqb (holderOf (d .rec) n) 0)) (f .0) in
+    rw e (a, eqb-true _ 0 (false-not (eqb (holderOf (d .rec) n) 0) b), in-range 64 n (f .1) (f .2))
