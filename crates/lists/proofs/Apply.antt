@@ -3,7 +3,7 @@ use mathlib.Core.Path.{_≡_, refl, sym, subst}
 use mathlib.Core.Bool.{true}
 use mathlib.Core.Option.{Option, none, some, Option·some-injective}
 use mathlib.Core.List.{List, [], _∷_}
-use Rattle.lists.specs.Basic.{bind, orElse}
+use Rattle.lists.specs.Basic.{orElse}
 use Rattle.lists.specs.Change.{Change}
 use Rattle.lists.specs.State.{Row, State, state, applies, changed, apply, applyAll, overlay}
 use Rattle.lists.proofs.Basic.{guard-some, bind-some}

@@ -1,11 +1,11 @@
 -- Content is carried along: a map of contents commutes with a change of a state, and no test of a state looks at contents.
-use mathlib.Core.Path.{_≡_, refl, sym, ap, _∙_}
-use mathlib.Core.Bool.{Bool, true, false, _&&_, _||_, not, cond}
+use mathlib.Core.Path.{_≡_, refl, sym, ap}
+use mathlib.Core.Bool.{Bool, true, false, _&&_}
 use mathlib.Core.Option.{Option, none, some}
-use mathlib.Core.List.{List, [], _∷_, _++_, map, map-append}
+use mathlib.Core.List.{List, [], _∷_, map, map-append}
 use Prim.Native.Nat.{ℕ}
 use lib.Dec.{eqb}
-use Rattle.lists.specs.Basic.{guard, bind, orElse, any, keep}
+use Rattle.lists.specs.Basic.{guard, bind, orElse, keep}
 use Rattle.lists.specs.Change.{Change, takeList, putFirst, putAfter, write, delBlock, delList, mapChange, carriedBy}
 use Rattle.lists.specs.State.{Block, Row, State, block, row, state, isBlockNum, isRow, onRow, isRowWith, taken, placed, onList, applies, insertAfter, onBlocks, at, put, otherBlock, otherRow, changed, apply, applyAll, overlay}
 use Rattle.lists.proofs.Basic.{cond-map, any-map, keep-map}

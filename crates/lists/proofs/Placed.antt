@@ -1,6 +1,6 @@
 -- Which blocks a change can place: none but the one that it puts.
 use mathlib.Core.Path.{_≡_, subst}
-use mathlib.Core.Bool.{Bool, false, _||_}
+use mathlib.Core.Bool.{false}
 use mathlib.Core.Option.{some, Option·some-injective}
 use mathlib.Core.List.{List, [], _∷_}
 use Prim.Native.Nat.{ℕ, _+_, _*_, _≤_}

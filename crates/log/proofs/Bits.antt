@@ -1,7 +1,6 @@
 -- "An entry's length is 1 plus the number of ones in bits 0 to 4": the count of ones of the masked map is the sum of its standing bits, by one test
 -- computed at each of the 256 maps; and an entry is as long as its map says.
 use mathlib.Core.Path.{_≡_, refl}
-use mathlib.Core.Bool.{true}
 use Prim.Native.Nat.{ℕ, _+_, _<_}
 use native.Mathlib.Omega.{arith}
 use lib.Bits.{bitAnd}
@@ -9,7 +8,7 @@ use lib.Count.{ones}
 use lib.Dec.{eqb}
 use lib.ListN.{length, getD}
 use Rattle.lists.specs.Basic.{all, from}
-use Rattle.lists.specs.Change.{Change, takeList, putFirst, putAfter, write, delBlock, delList}
+use Rattle.lists.specs.Change.{takeList, putFirst, putAfter, write, delBlock, delList}
 use Rattle.lists.proofs.Basic.{eqb-true, all-from}
 use Rattle.log.specs.Entry.{Entry, plain, member, commit, changeBytes, encode, sizeOf}
 

@@ -1,18 +1,17 @@
 -- In every state that a log leads to, each list taken stands once, and each block at most once.
 use mathlib.Core.Path.{_≡_, refl, subst}
 use mathlib.Core.Option.{Option, none, some, Option·some-injective}
-use mathlib.Core.List.{List, [], _∷_, _++_}
+use mathlib.Core.List.{List, [], _∷_}
 use Prim.Native.Nat.{ℕ}
 use native.Mathlib.Omega.{arith}
 use lib.Dec.{leb}
 use lib.ListN.{length}
-use Rattle.lists.specs.Basic.{guard, bind}
-use Rattle.lists.specs.Change.{Change}
+use Rattle.lists.specs.Basic.{bind}
 use Rattle.lists.specs.State.{State, apply, applyAll}
 use Rattle.lists.proofs.Basic.{guard-some, bind-some}
 use Rattle.lists.proofs.Distinct.{Distinct, empty-distinct, apply-distinct, applyAll-distinct}
 use Rattle.log.specs.Entry.{Entry, plain, member, commit}
-use Rattle.log.specs.Reader.{Reader, reader, settled, start, lastOf, read, replay}
+use Rattle.log.specs.Reader.{Reader, settled, start, lastOf, read, replay}
 use Rattle.log.specs.Card.{Item, good, bad, items, segmentsIn, Outcome, sound, fault, walk, walkCard}
 
 module _ {D : Type 0} (z : D) where

@@ -1,17 +1,17 @@
 -- Content is carried along: a map of contents commutes with the reader and with the walk, and no place on the card depends on contents.
 use mathlib.Core.Path.{_≡_, refl, sym, ap, _∙_}
-use mathlib.Core.Bool.{Bool, true, false, cond}
+use mathlib.Core.Bool.{cond}
 use mathlib.Core.Option.{Option, none, some}
 use mathlib.Core.List.{List, [], _∷_, _++_, map, map-append}
 use Prim.Native.Nat.{ℕ, zero, suc, _+_, _-_}
 use lib.Dec.{leb, eqb}
 use lib.ListN.{length, drop, length-map}
-use Rattle.lists.specs.Basic.{guard, bind}
+use Rattle.lists.specs.Basic.{bind}
 use Rattle.lists.specs.Change.{Change, mapChange}
 use Rattle.lists.specs.State.{State, apply, applyAll}
 use Rattle.lists.proofs.Basic.{map-drop}
 use Rattle.lists.proofs.Naturality.{mapOption, mapState, guard-map, change-comp, carriedBy-map, apply-map, applyAll-map}
-use Rattle.log.specs.Entry.{Entry, plain, member, commit, mapEntry, carried, raw, encode, entryLength}
+use Rattle.log.specs.Entry.{Entry, plain, member, commit, mapEntry, carried, raw, entryLength}
 use Rattle.log.specs.Reader.{Reader, reader, settled, start, lastOf, read, replay}
 use Rattle.log.specs.Card.{Item, good, bad, itemsOf, entryAt, usedBy, segmentItems, segmentEntries, segmentsIn, afterEmpty, items, count, Outcome, sound, fault, walk, walkCard}
 use Rattle.log.specs.Store.{opened, after, behind, behindAll}
