@@ -8,3 +8,4 @@ pub mod Formatting
 pub mod Distinct
 pub mod Bits
 pub mod Places
+pub mod Regain
