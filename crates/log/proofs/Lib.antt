@@ -9,3 +9,4 @@ pub mod Distinct
 pub mod Bits
 pub mod Places
 pub mod Regain
+pub mod Allowance
