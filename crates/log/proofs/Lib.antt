@@ -10,3 +10,4 @@ pub mod Bits
 pub mod Places
 pub mod Regain
 pub mod Allowance
+pub mod Flows
