@@ -2,4 +2,5 @@ pub mod Buffer
 pub mod Queue
 pub mod Journal
 pub mod Questions
+pub mod Clauses
 pub mod Fresh

@@ -1,0 +1,240 @@
+-- Questions 1 and 3 taken apart into facts, and put together again.
+use mathlib.Core.Path.{_≡_, refl, ap}
+use mathlib.Core.Logic.{_⊎_, inl, inr}
+use mathlib.Core.Bool.{Bool, true, false, _&&_, _||_, not, or-true, true≢false}
+use mathlib.Core.Option.{some}
+use Prim.Native.Nat.{ℕ, zero, suc, _≤_, _<_}
+use native.Mathlib.Omega.{arith}
+use lib.Dec.{eqb}
+use lib.ListN.{length}
+use Rattle.lists.specs.Basic.{all, from}
+use Rattle.lists.specs.State.{State, placed}
+use Rattle.lists.proofs.Basic.{and-true, or-cases, not-false, eqb-true, leb-true, ltb-true, le-true, lt-true, eq-true, some-of, is-some, each-at, each-true, all-from, from-all}
+use Rattle.log.specs.Entry.{legal, raw, isBlock, isList}
+use Rattle.log.specs.Reader.{Reader}
+use Rattle.log.specs.Card.{Content, cardLength}
+use Rattle.disk.specs.declared.record.Record.{Record}
+use Rattle.disk.specs.Record.{unitAt, holderOf, shaped}
+use Rattle.disk.specs.Disk.{Disk, queued, unitOf, journalOf, committedReader, stateOf, committed}
+use Rattle.disk.specs.Sound.{lengthsRight, isOpenUnit, journalSound, unitSound, holderSound, headStanding, recordSound}
+use Rattle.disk.proofs.Questions.{card-length, queue-data, journal-data}
+
+-- the card, and the queue behind it, which replays to z
+pub record LogRight (d : Disk) (z : Reader Content) : Type 0 where
+  pub card : cardLength (d .card) ≡ true
+  pub queueData : length (d .queueData) ≡ 8192
+  pub places : length (d .rec .queue) ≡ 32
+  pub room : d .rec .len ≤ 32
+  pub head : d .rec .head < 32
+  pub lawful : all (λ e. legal (raw 0 e)) (queued d) ≡ true
+  pub replays : committedReader d ≡ some z
+  pub stands : headStanding (d .card) (d .rec .done) (queued d) ≡ true
+
+-- unit u and its journal
+pub record UnitRight (d : Disk) (u : ℕ) : Type 0 where
+  pub places : length (unitOf d u .journal) ≡ 15
+  pub room : unitOf d u .len ≤ 15
+  pub closed : unitOf d u .opened ≡ false → unitOf d u .len ≡ 0
+  pub sound : all (journalSound (d .rec) u) (journalOf d u) ≡ true
+
+-- block b is held by no unit, or by an open one and stands on no list of s
+abbrev pub HolderRight : Disk → State Content → ℕ → Type 0
+HolderRight d s b = (holderOf (d .rec) b ≡ 0) ⊎ ((isOpenUnit d (holderOf (d .rec) b) ≡ true) × (placed b (s .lists) ≡ false))
+
+-- the units, over the committed state s
+pub record UnitsRight (d : Disk) (s : State Content) : Type 0 where
+  pub four : length (d .rec .units) ≡ 4
+  pub table : length (d .rec .holder) ≡ 64
+  pub units : (u : ℕ) → 1 ≤ u → u ≤ 4 → UnitRight d u
+  pub holders : (b : ℕ) → 1 ≤ b → b ≤ 64 → HolderRight d s b
+
+pub record Right (d : Disk) : Type 0 where
+  pub reader : Reader Content
+  pub log : LogRight d reader
+  pub units : UnitsRight d (reader .state)
+  pub journalData : length (d .journalData) ≡ 15360
+  pub lastBlock : isBlock (d .rec .«last_block») ≡ true
+  pub lastList : isList (d .rec .«last_list») ≡ true
+  pub conflicts : d .rec .conflicts ≤ 65535
+
+pub committed-is : (d : Disk) (z : Reader Content) → committedReader d ≡ some z → committed d ≡ z .state
+unfolding committed stateOf
+committed-is d z e = ap {B = State Content} (λ o. stateOf o) e
+
+-- Clauses of the shape.
+record Shape (r : Record) : Type 0 where
+  queue : length (r .queue) ≡ 32
+  units : length (r .units) ≡ 4
+  holder : length (r .holder) ≡ 64
+  journals : (u : ℕ) → 1 ≤ u → u ≤ 4 → length (unitAt r u .journal) ≡ 15
+
+for-four : (P : ℕ → Type 0) → P 1 → P 2 → P 3 → P 4 → (u : ℕ) → 1 ≤ u → u ≤ 4 → P u
+for-four P a b c e zero p q = absurd (omega arith)
+for-four P a b c e (suc zero) p q = a
+for-four P a b c e (suc (suc zero)) p q = b
+for-four P a b c e (suc (suc (suc zero))) p q = c
+for-four P a b c e (suc (suc (suc (suc zero)))) p q = e
+for-four P a b c e (suc (suc (suc (suc (suc u))))) p q = absurd (omega arith)
+
+shape : (r : Record) → shaped r ≡ true → Shape r
+unfolding shaped
+shape r h =
+    let (h4, j4) = and-true _ (eqb (length (unitAt r 4 .journal)) 15) h in
+    let (h3, j3) = and-true _ (eqb (length (unitAt r 3 .journal)) 15) h4 in
+    let (h2, j2) = and-true _ (eqb (length (unitAt r 2 .journal)) 15) h3 in
+    let (h1, j1) = and-true _ (eqb (length (unitAt r 1 .journal)) 15) h2 in
+    let (h0, k) = and-true _ (eqb (length (r .holder)) 64) h1 in
+    let (q, u) = and-true (eqb (length (r .queue)) 32) (eqb (length (r .units)) 4) h0 in
+    record {
+      queue = eqb-true _ 32 q;
+      units = eqb-true _ 4 u;
+      holder = eqb-true _ 64 k;
+      journals = for-four (λ n. length (unitAt r n .journal) ≡ 15) (eqb-true _ 15 j1) (eqb-true _ 15 j2) (eqb-true _ 15 j3) (eqb-true _ 15 j4);
+    }
+
+shape-shaped : (r : Record) → Shape r → shaped r ≡ true
+unfolding shaped
+shape-shaped r s =
+    rw (s .queue, s .units, s .holder, s .journals 1 (omega arith) (omega arith), s .journals 2 (omega arith) (omega arith), s .journals 3 (omega arith) (omega arith), s .journals 4 (omega arith) (omega arith))
+
+-- Clauses of a unit.
+unit-closed : (o : Bool) (n : ℕ) → o || eqb n 0 ≡ true → o ≡ false → n ≡ 0
+unit-closed true n h e = absurd (true≢false e)
+unit-closed false n h e = eqb-true n 0 h
+
+closed-unit : (o : Bool) (n : ℕ) → (o ≡ false → n ≡ 0) → o || eqb n 0 ≡ true
+closed-unit true n h = refl
+closed-unit false n h = eq-true n 0 (h refl)
+
+unit-right : (d : Disk) (u : ℕ) → length (unitOf d u .journal) ≡ 15 → unitSound d u ≡ true → UnitRight d u
+unfolding unitSound
+unit-right d u l h =
+    record {
+      places = l;
+      room = leb-true (unitOf d u .len) 15 (each-at _ h 0);
+      closed = unit-closed (unitOf d u .opened) (unitOf d u .len) (each-at _ h 1);
+      sound = each-at _ h 2;
+    }
+
+right-unit : (d : Disk) (u : ℕ) → UnitRight d u → unitSound d u ≡ true
+unfolding unitSound
+right-unit d u r =
+    each-true _ (
+      le-true (unitOf d u .len) 15 (r .room),
+      (
+        closed-unit (unitOf d u .opened) (unitOf d u .len) (r .closed),
+        (
+          r .sound,
+          tt,
+        ),
+      ),
+    )
+
+-- Clauses of a block's holder.
+holder-right : (d : Disk) (s : State Content) (b : ℕ) → committed d ≡ s → holderSound d b ≡ true → HolderRight d s b
+unfolding holderSound
+holder-right d s b e h = go (or-cases (eqb (holderOf (d .rec) b) 0) _ h)
+  where
+    go : (eqb (holderOf (d .rec) b) 0 ≡ true) ⊎ (isOpenUnit d (holderOf (d .rec) b) && not (placed b (committed d .lists)) ≡ true) → HolderRight d s b
+    go (inl h) = inl (eqb-true _ 0 h)
+    go (inr h) =
+        let (o, n) = and-true (isOpenUnit d (holderOf (d .rec) b)) _ h in
+        inr (o, rw (← e) (not-false (placed b (committed d .lists)) n))
+
+right-holder : (d : Disk) (s : State Content) (b : ℕ) → committed d ≡ s → HolderRight d s b → holderSound d b ≡ true
+unfolding holderSound
+right-holder d s b e (inl h) = rw h
+right-holder d s b e (inr h) = rw (e, h .0, h .1) (or-true (eqb (holderOf (d .rec) b) 0))
+
+-- Clauses of the units and the holders' table.
+units-right : (d : Disk) (s : State Content) → committed d ≡ s → shaped (d .rec) ≡ true
+    → all (unitSound d) (from (λ u. u) 1 4) ≡ true → all (holderSound d) (from (λ b. b) 1 64) ≡ true → UnitsRight d s
+unfolding unitOf
+units-right d s e h us hs =
+    let t = shape (d .rec) h in
+    record {
+      four = t .units;
+      table = t .holder;
+      units = λ u p q. unit-right d u (t .journals u p q) (all-from (unitSound d) (λ u. u) 1 4 us u p (omega arith));
+      holders = λ b p q. holder-right d s b e (all-from (holderSound d) (λ b. b) 1 64 hs b p (omega arith));
+    }
+
+right-shaped : (d : Disk) (s : State Content) → length (d .rec .queue) ≡ 32 → UnitsRight d s → shaped (d .rec) ≡ true
+unfolding unitOf
+right-shaped d s q k = shape-shaped (d .rec) (record { queue = q; units = k .four; holder = k .table; journals = λ u a b. k .units u a b .places })
+
+right-units : (d : Disk) (s : State Content) → UnitsRight d s → all (unitSound d) (from (λ u. u) 1 4) ≡ true
+right-units d s k = from-all (unitSound d) (λ u. u) 1 4 (λ u p q. right-unit d u (k .units u p (omega arith)))
+
+right-holders : (d : Disk) (s : State Content) → committed d ≡ s → UnitsRight d s → all (holderSound d) (from (λ b. b) 1 64) ≡ true
+right-holders d s e k = from-all (holderSound d) (λ b. b) 1 64 (λ b p q. right-holder d s b e (k .holders b p (omega arith)))
+
+-- The questions.
+pub right : (d : Disk) → lengthsRight d ≡ true → recordSound d ≡ true → Right d
+unfolding recordSound
+right d l h =
+    let r = d .rec in
+    let (z, e) = some-of (committedReader d) (each-at _ h 8) in
+    record {
+      reader = z;
+      log = record {
+        card = card-length d l;
+        queueData = queue-data d l;
+        places = shape r (each-at _ h 0) .queue;
+        room = leb-true (r .len) 32 (each-at _ h 1);
+        head = ltb-true (r .head) 32 (each-at _ h 2);
+        lawful = each-at _ h 6;
+        replays = e;
+        stands = each-at _ h 9;
+      };
+      units = units-right d (z .state) (committed-is d z e) (each-at _ h 0) (each-at _ h 7) (each-at _ h 10);
+      journalData = journal-data d l;
+      lastBlock = each-at _ h 3;
+      lastList = each-at _ h 4;
+      conflicts = leb-true (r .conflicts) 65535 (each-at _ h 5);
+    }
+
+pub right-sound : (d : Disk) → Right d → recordSound d ≡ true
+unfolding recordSound
+right-sound d k =
+    let r = d .rec in
+    let l = k .log in
+    let z = k .reader in
+    each-true _ (
+      right-shaped d (z .state) (l .places) (k .units),
+      (
+        le-true (r .len) 32 (l .room),
+        (
+          lt-true (r .head) 32 (l .head),
+          (
+            k .lastBlock,
+            (
+              k .lastList,
+              (
+                le-true (r .conflicts) 65535 (k .conflicts),
+                (
+                  l .lawful,
+                  (
+                    right-units d (z .state) (k .units),
+                    (
+                      is-some (committedReader d) z (l .replays),
+                      (
+                        l .stands,
+                        (
+                          right-holders d (z .state) (committed-is d z (l .replays)) (k .units),
+                          tt,
+                        ),
+                      ),
+                    ),
+                  ),
+                ),
+              ),
+            ),
+          ),
+        ),
+      ),
+    )
+
+pub right-lengths : (d : Disk) → Right d → lengthsRight d ≡ true
+unfolding lengthsRight
+right-lengths d k = rw (k .log .card, k .log .queueData, k .journalData)
