@@ -11,3 +11,4 @@ pub mod Places
 pub mod Regain
 pub mod Allowance
 pub mod Flows
+pub mod EntryBytes

@@ -1,0 +1,104 @@
+-- Each arm has the bits of its kind's fields; the mark of a member is 128 more, as in `changeBytes`. Assumes nothing.
+use mathlib.Core.Path.{sym}
+use Prim.Native.Nat.{ℕ}
+use lib.ListN.{getD}
+use Rattle.lists.proofs.Basic.{cond-map}
+use Rattle.log.specs.Entry.{Entry, encode, changeBytes, asEntry}
+use borrow.Author.Needs.{needs}
+use Rattle.log.proofs.encode.map_of.Statement.{statement}
+use Rattle.log.proofs.encode.map_of.Tie as tie
+
+abbrev first : Entry ℕ → ℕ
+first e = getD (encode e) 0 0
+
+enum-told : tie.Need-enum-told
+enum-told c = search needs
+
+marked-requires : tie.Need-marked-requires
+marked-requires c κs = search needs
+
+enum-told-2 : tie.Need-enum-told-2
+enum-told-2 c = search needs
+
+marked-requires-2 : tie.Need-marked-requires-2
+marked-requires-2 c κs = search needs
+
+enum-told-3 : tie.Need-enum-told-3
+enum-told-3 c = search needs
+
+marked-requires-3 : tie.Need-marked-requires-3
+marked-requires-3 c κs = search needs
+
+enum-told-4 : tie.Need-enum-told-4
+enum-told-4 c = search needs
+
+marked-requires-4 : tie.Need-marked-requires-4
+marked-requires-4 c κs = search needs
+
+enum-told-5 : tie.Need-enum-told-5
+enum-told-5 c = search needs
+
+marked-requires-5 : tie.Need-marked-requires-5
+marked-requires-5 c κs = search needs
+
+enum-told-6 : tie.Need-enum-told-6
+enum-told-6 c = search needs
+
+marked-requires-6 : tie.Need-marked-requires-6
+marked-requires-6 c κs = search needs
+
+enum-told-7 : tie.Need-enum-told-7
+enum-told-7 c = search needs
+
+returns : tie.Need-returns
+unfolding encode changeBytes asEntry
+returns c = rw (c .before .enum-told .given .1, c .marked .ensures) (sym (cond-map first (c .before .before .before .args .member) _ _))
+
+returns-2 : tie.Need-returns-2
+unfolding encode changeBytes asEntry
+returns-2 c = rw (c .before .enum-told2 .given .1, c .marked2 .ensures) (sym (cond-map first (c .before .before .before .args .member) _ _))
+
+returns-3 : tie.Need-returns-3
+unfolding encode changeBytes asEntry
+returns-3 c = rw (c .before .enum-told3 .given .1, c .marked3 .ensures) (sym (cond-map first (c .before .before .before .args .member) _ _))
+
+returns-4 : tie.Need-returns-4
+unfolding encode changeBytes asEntry
+returns-4 c = rw (c .before .enum-told4 .given .1, c .marked4 .ensures) (sym (cond-map first (c .before .before .before .args .member) _ _))
+
+returns-5 : tie.Need-returns-5
+unfolding encode changeBytes asEntry
+returns-5 c = rw (c .before .enum-told5 .given .1, c .marked5 .ensures) (sym (cond-map first (c .before .before .before .args .member) _ _))
+
+returns-6 : tie.Need-returns-6
+unfolding encode changeBytes asEntry
+returns-6 c = rw (c .before .enum-told6 .given .1, c .marked6 .ensures) (sym (cond-map first (c .before .before .before .args .member) _ _))
+
+returns-7 : tie.Need-returns-7
+unfolding encode changeBytes asEntry
+returns-7 c = rw (c .enum-told7 .given .1)
+
+pub map-of-spec : {M : Type 1} → statement M
+map-of-spec =
+    tie.close
+    (tie.spec
+    enum-told
+    marked-requires
+    enum-told-2
+    marked-requires-2
+    enum-told-3
+    marked-requires-3
+    enum-told-4
+    marked-requires-4
+    enum-told-5
+    marked-requires-5
+    enum-told-6
+    marked-requires-6
+    enum-told-7
+    returns
+    returns-2
+    returns-3
+    returns-4
+    returns-5
+    returns-6
+    returns-7)

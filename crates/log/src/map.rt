@@ -1,0 +1,38 @@
+// An entry's map: a bit for each field that has a byte, and two marks that have none.
+ghost use mathlib.Core.Path.{_≡_};
+ghost use mathlib.Core.Bool.{cond};
+ghost use Prim.Native.Nat.{_+_, _<_};
+ghost use Rattle.log.specs.Entry.{sizeOf};
+
+pub const BLOCK: u8 = 1 << 0;
+
+pub const LIST: u8 = 1 << 1;
+
+pub const PREDECESSOR: u8 = 1 << 2;
+
+pub const SLOT: u8 = 1 << 3;
+
+pub const COUNT: u8 = 1 << 4;
+
+pub const REMOVAL: u8 = 1 << 5;
+
+// The number of the bit that marks a member.
+pub const MEMBER: u32 = 7;
+
+// The fields that have a byte.
+pub const FIELDS: u8 = BLOCK | LIST | PREDECESSOR | SLOT | COUNT;
+
+// The length of an entry: its map, and one byte for each field.
+pub fn length(map: u8) -> usize
+    ensures { λ r. ⌜ r ≡ sizeOf map ⌝ }
+{
+    1 + u8::count_ones(map & FIELDS) as usize
+}
+
+// The map of a change: the bits of its kind, and whether it is a member.
+pub fn marked(kind: u8, member: bool) -> u8
+    requires { ⌜ kind < 128 ⌝ }
+    ensures { λ r. ⌜ r ≡ cond member (128 + kind) kind ⌝ }
+{
+    kind | (member as u8) << MEMBER
+}
