@@ -7,9 +7,9 @@ use Prim.Native.Nat.{ℕ, zero, suc, _≤_, _<_}
 use native.Mathlib.Omega.{arith}
 use lib.Dec.{eqb}
 use lib.ListN.{length}
-use Rattle.lists.specs.Basic.{all, from}
+use Rattle.lists.specs.Basic.{all, each, from}
 use Rattle.lists.specs.State.{State, placed}
-use Rattle.lists.proofs.Basic.{and-true, or-cases, not-false, eqb-true, leb-true, ltb-true, le-true, lt-true, eq-true, some-of, is-some, each-at, each-true, all-from, from-all}
+use Rattle.lists.proofs.Basic.{and-true, or-cases, not-false, eqb-true, leb-true, ltb-true, le-true, lt-true, eq-true, some-of, is-some, each-at, all-from, from-all}
 use Rattle.log.specs.Entry.{legal, raw, isBlock, isList}
 use Rattle.log.specs.Reader.{Reader}
 use Rattle.log.specs.Card.{Content, cardLength}
@@ -117,18 +117,8 @@ unit-right d u l h =
     }
 
 right-unit : (d : Disk) (u : ℕ) → UnitRight d u → unitSound d u ≡ true
-unfolding unitSound
-right-unit d u r =
-    each-true _ (
-      le-true (unitOf d u .len) 15 (r .room),
-      (
-        closed-unit (unitOf d u .opened) (unitOf d u .len) (r .closed),
-        (
-          r .sound,
-          tt,
-        ),
-      ),
-    )
+unfolding unitSound each
+right-unit d u r = rw (le-true (unitOf d u .len) 15 (r .room), closed-unit (unitOf d u .opened) (unitOf d u .len) (r .closed), r .sound)
 
 -- Clauses of a block's holder.
 holder-right : (d : Disk) (s : State Content) (b : ℕ) → committed d ≡ s → holderSound d b ≡ true → HolderRight d s b
@@ -195,45 +185,15 @@ right d l h =
     }
 
 pub right-sound : (d : Disk) → Right d → recordSound d ≡ true
-unfolding recordSound
+unfolding recordSound each
 right-sound d k =
     let r = d .rec in
     let l = k .log in
     let z = k .reader in
-    each-true _ (
-      right-shaped d (z .state) (l .places) (k .units),
-      (
-        le-true (r .len) 32 (l .room),
-        (
-          lt-true (r .head) 32 (l .head),
-          (
-            k .lastBlock,
-            (
-              k .lastList,
-              (
-                le-true (r .conflicts) 65535 (k .conflicts),
-                (
-                  l .lawful,
-                  (
-                    right-units d (z .state) (k .units),
-                    (
-                      is-some (committedReader d) z (l .replays),
-                      (
-                        l .stands,
-                        (
-                          right-holders d (z .state) (committed-is d z (l .replays)) (k .units),
-                          tt,
-                        ),
-                      ),
-                    ),
-                  ),
-                ),
-              ),
-            ),
-          ),
-        ),
-      ),
-    )
+    rw (right-shaped d (z .state) (l .places) (k .units), le-true (r .len) 32 (l .room), lt-true (r .head) 32 (l .head))
+    (rw (k .lastBlock, k .lastList, le-true (r .conflicts) 65535 (k .conflicts))
+    (rw (l .lawful, right-units d (z .state) (k .units), is-some (committedReader d) z (l .replays), l .stands)
+    (rw (right-holders d (z .state) (committed-is d z (l .replays)) (k .units)))))
 
 pub right-lengths : (d : Disk) → Right d → lengthsRight d ≡ true
 unfolding lengthsRight
