@@ -12,3 +12,4 @@ pub mod Regain
 pub mod Allowance
 pub mod Flows
 pub mod EntryBytes
+pub mod LegalEntry

@@ -3,5 +3,6 @@ pub mod encode;
 pub mod entry;
 pub mod layout;
 pub mod map;
+pub mod legal;
 pub mod place;
 pub mod store;

@@ -1,0 +1,42 @@
+// Which numbers and entries may stand in a log.
+use crate::entry::LogEntry;
+ghost use mathlib.Core.Path.{_≡_};
+ghost use mathlib.Core.Bool.{true, false, _&&_};
+ghost use Rattle.log.specs.Entry.{isBlock, isList, legal, raw, asEntry};
+
+pub fn both(a: bool, b: bool) -> bool
+    ensures { λ r. ⌜ r ≡ (a && b) ⌝ }
+{
+    if a { b } else { false }
+}
+
+pub fn is_block(b: u8) -> bool
+    ensures { λ r. ⌜ r ≡ isBlock b ⌝ }
+{
+    both(1 <= b, b <= LogEntry::BLOCKS)
+}
+
+pub fn is_list(l: u8) -> bool
+    ensures { λ r. ⌜ r ≡ isList l ⌝ }
+{
+    both(1 <= l, l <= LogEntry::LISTS)
+}
+
+// May the entry stand in a log, a write in slot 0?
+pub fn is_legal(member: bool, e: LogEntry) -> bool
+    ensures { λ r. ⌜ r ≡ legal (raw 0 (asEntry member e)) ⌝ }
+{
+    match e {
+        LogEntry::Take { list } => both(!member, is_list(list)),
+        LogEntry::PutFirst { block, list } => both(is_block(block), is_list(list)),
+        LogEntry::PutAfter {
+            block,
+            list,
+            predecessor,
+        } => both(both(is_block(block), is_list(list)), is_block(predecessor)),
+        LogEntry::Write { block, slot: _ } => is_block(block),
+        LogEntry::DeleteBlock { block } => is_block(block),
+        LogEntry::DeleteList { list } => is_list(list),
+        LogEntry::Commit { count } => count <= LogEntry::MEMBERS,
+    }
+}
