@@ -4,3 +4,5 @@ pub mod Told
 pub mod Lending
 pub mod Mounting
 pub mod Formatting
+pub mod PlaceOf
+pub mod Simulation

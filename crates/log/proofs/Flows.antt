@@ -15,9 +15,10 @@ use Rattle.log.specs.declared.place.Place.{Place}
 use Rattle.log.specs.Entry.{Entry, carried}
 use Rattle.log.specs.Card.{Content}
 use Rattle.log.specs.Store.{opened, after, afterAll, home, tail, dataOf, entryStores}
-use Rattle.log.specs.Flush.{Flow, drained, full, Next, stored, stopped, storeNext, nextStore, flushFrom}
+use Rattle.log.specs.Flush.{Flow, drained, full, stored, stopped, storeNext, nextStore, flushFrom}
 use Rattle.log.proofs.Segment.{Empties, Packed, Carries}
 use Rattle.log.proofs.EntryStores.{code, Which, inData, inCode, closing, which, storeOf, entry-stores-length}
+use Rattle.log.proofs.Allowance.{none-left}
 use Rattle.log.proofs.Places.{used, addTo, used-le, getD-used, used-add, Good, At, home-behind, behind-add, carries-store, Begun, begun-store, carries-close, tail-none, tail-used}
 
 -- The place behind the entries of segments: in the last one in use, or in segment 0.
@@ -212,19 +213,10 @@ flushes-last f ess p e q at h x = record {
   rest = x .rest;
 }
 
--- no store allowed
-pub flush-zero : (n k : ℕ) (f : Flow) → flushFrom n zero k f .flow ≡ f
-unfolding flushFrom
-flush-zero n k f = go (nextStore n f) refl
-  where
-    go : (x : Next) → nextStore n f ≡ x → flushFrom n zero k f .flow ≡ f
-    go (stored g) h = rw (h, flushFrom)
-    go (stopped x) h = rw (h, flushFrom)
-
 pub flush-flows : (a m : ℕ) (c : List ℕ) (ess : List (List (Entry Content))) (q : List (Entry Content)) (k : ℕ) → Flows c ess q k
     → Flushes (flushFrom (length ess) a m (flowFor c ess q k) .flow) ess q
 unfolding flushFrom
-flush-flows zero m c ess q k f = rw (flush-zero (length ess) m (flowFor c ess q k)) (flushes-none c ess q k f)
+flush-flows zero m c ess q k f = rw (none-left (length ess) m (flowFor c ess q k) .0) (flushes-none c ess q k f)
 flush-flows (suc a) m c ess [] k f = rw (next-none c ess k, flushFrom) (flushes-none c ess [] k f)
 flush-flows (suc a) m c ess (e ∷ q) k f = go (λ c′ ess′ q′ k′ f′. flush-flows a (suc m) c′ ess′ q′ k′ f′) (home (length ess) (endOf ess) e) refl
   where
