@@ -31,6 +31,15 @@ pub or-cases : (a b : Bool) → a || b ≡ true → (a ≡ true) ⊎ (b ≡ true
 or-cases true b h = inl refl
 or-cases false b h = inr h
 
+pub or-right : (a b : Bool) → b ≡ true → a || b ≡ true
+or-right true b h = refl
+or-right false b h = h
+
+-- a test has one of two answers
+pub either : (b : Bool) → (b ≡ true) ⊎ (b ≡ false)
+either true = inl refl
+either false = inr refl
+
 pub not-false : (b : Bool) → not b ≡ true → b ≡ false
 not-false true h = absurd (false≢true h)
 not-false false h = refl
@@ -41,6 +50,23 @@ not-true b h = rw h
 pub false-not : (b : Bool) → not b ≡ false → b ≡ true
 false-not true h = refl
 false-not false h = absurd (true≢false h)
+
+pub not-not : (b : Bool) → not (not b) ≡ b
+not-not true = refl
+not-not false = refl
+
+pub and-swap : (a b : Bool) → a && b ≡ b && a
+and-swap true true = refl
+and-swap true false = refl
+and-swap false true = refl
+and-swap false false = refl
+
+-- a test that another one implies
+pub and-implied : (a b c : Bool) → (c ≡ true → a ≡ true) → b && c ≡ a && b && c
+and-implied true b c k = refl
+and-implied false b true k = absurd (false≢true (k refl))
+and-implied false true false k = refl
+and-implied false false false k = refl
 
 pub eqb-same : (n : ℕ) → eqb n n ≡ true
 eqb-same n = T→true (eqb n n) (eqb-refl n)
@@ -72,6 +98,20 @@ le-true m n h = T→true (leb m n) (le→leb m n h)
 
 pub lt-true : (m n : ℕ) → m < n → ltb m n ≡ true
 lt-true m n h = T→true (ltb m n) (lt→ltb m n h)
+
+pub gt-false : (m n : ℕ) → n < m → leb m n ≡ false
+gt-false m n h = go (leb m n) refl
+  where
+    go : (b : Bool) → leb m n ≡ b → leb m n ≡ false
+    go true e = absurd (let k = leb-true m n e in omega arith)
+    go false e = e
+
+pub ge-false : (m n : ℕ) → n ≤ m → ltb m n ≡ false
+ge-false m n h = go (ltb m n) refl
+  where
+    go : (b : Bool) → ltb m n ≡ b → ltb m n ≡ false
+    go true e = absurd (let k = ltb-true m n e in omega arith)
+    go false e = e
 
 pub eq-true : (m n : ℕ) → m ≡ n → eqb m n ≡ true
 eq-true m n h = rw h (eqb-same n)

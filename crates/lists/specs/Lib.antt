@@ -1,3 +1,5 @@
 pub mod Basic
 pub mod Change
+pub mod Lookup
 pub mod State
+pub mod Tables

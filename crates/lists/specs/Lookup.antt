@@ -1,0 +1,38 @@
+-- What is looked up in a state: the content of a block, the block after another on its list, the lists in the order of their taking.
+use mathlib.Core.Bool.{true, false}
+use mathlib.Core.Option.{Option, none, some}
+use mathlib.Core.List.{List, [], _∷_, map}
+use Prim.Native.Nat.{ℕ}
+use lib.Dec.{eqb}
+use lib.ListN.{getD}
+use Rattle.lists.specs.State.{Block, Row}
+
+-- the content of block b
+unfoldable pub contentIn : {D : Type 0} → List (Block D) → ℕ → Option D
+contentIn [] b = none
+contentIn (x ∷ xs) b = elim (eqb (x .num) b) [ true ↦ some (x .content) | false ↦ contentIn xs b ]
+
+unfoldable pub contentOf : {D : Type 0} → List (Row D) → ℕ → Option D
+contentOf [] b = none
+contentOf (r ∷ rs) b = elim (contentIn (r .blocks) b) [ none ↦ contentOf rs b | some x ↦ some x ]
+
+-- the numbers of list l's blocks, in order
+unfoldable pub blocksOf : {D : Type 0} → List (Row D) → ℕ → List ℕ
+blocksOf [] l = []
+blocksOf (r ∷ rs) l = elim (eqb (r .num) l) [ true ↦ map (λ x. x .num) (r .blocks) | false ↦ blocksOf rs l ]
+
+-- the number after p, 0 at the end
+unfoldable pub nextIn : ℕ → List ℕ → ℕ
+nextIn p [] = 0
+nextIn p (x ∷ xs) = elim (eqb x p) [ true ↦ getD xs 0 0 | false ↦ nextIn p xs ]
+
+-- "the block after a given one on a list (0 for the first; 0 is returned at the end [..])"
+unfoldable pub nextAfter : {D : Type 0} → List (Row D) → ℕ → ℕ → ℕ
+nextAfter rs l p = nextIn p (0 ∷ blocksOf rs l)
+
+-- the lists taken, in the order of their taking, and the list taken next after list l (0 for the first; 0 at the end)
+unfoldable pub listNums : {D : Type 0} → List (Row D) → List ℕ
+listNums rs = map (λ r. r .num) rs
+
+unfoldable pub takenAfter : {D : Type 0} → List (Row D) → ℕ → ℕ
+takenAfter rs l = nextIn l (0 ∷ listNums rs)

@@ -1,0 +1,209 @@
+-- A state's lists in four tables of 256 numbers: what a change does to them, and which lists they show.
+--
+-- Nodes: block b is node b, list l is node 64 + l; node 0 stands before all others and node 255 behind all.
+-- One chain holds everything: each list taken, in the order of their taking, followed by its blocks in order. So a list's node is the predecessor of
+-- its first block, and neither end of a list is a special case.
+use mathlib.Core.Path.{_≡_}
+use mathlib.Core.Logic.{_≢_}
+use mathlib.Core.Bool.{Bool, true, false, _&&_, not, cond}
+use mathlib.Core.Option.{Option, none, some}
+use mathlib.Core.List.{List, [], _∷_, _++_}
+use Prim.Native.Nat.{ℕ, zero, suc, _+_, _%_, _≤_}
+use lib.Dec.{eqb}
+use lib.ListN.{length, getD, set}
+use Rattle.lists.specs.Change.{Change, takeList, putFirst, putAfter, write, delBlock, delList}
+use Rattle.lists.specs.State.{Block, Row, State}
+
+-- The next node and the one before; the list that a block is on, or that a list's node stands for, 0 for a node that is free; the location of a
+-- block's content. Location 0 holds what a block just put holds.
+pub record Tables : Type 0 where
+  pub next : List ℕ
+  pub prev : List ℕ
+  pub owner : List ℕ
+  pub place : List ℕ
+
+abbrev pub tables : List ℕ → List ℕ → List ℕ → List ℕ → Tables
+tables a b c d = record { next = a; prev = b; owner = c; place = d }
+
+abbrev pub nextOf : Tables → ℕ → ℕ
+nextOf t n = getD (t .next) n 0
+
+abbrev pub prevOf : Tables → ℕ → ℕ
+prevOf t n = getD (t .prev) n 0
+
+abbrev pub ownerOf : Tables → ℕ → ℕ
+ownerOf t n = getD (t .owner) n 0
+
+-- 64 + l for each list; a node of the tables for every other number
+abbrev pub listNode : ℕ → ℕ
+listNode l = 64 + l % 64
+
+-- What a change does.
+
+-- node n of list l goes in behind node x
+unfoldable pub insertNode : ℕ → ℕ → ℕ → Tables → Tables
+insertNode x n l t =
+    tables (set (set (t .next) x n) n (nextOf t x)) (set (set (t .prev) n x) (nextOf t x) n) (set (t .owner) n l) (t .place)
+
+-- the nodes between x and y go, o being the owners then
+unfoldable pub cutBetween : ℕ → ℕ → List ℕ → Tables → Tables
+cutBetween x y o t = tables (set (t .next) x y) (set (t .prev) y x) o (t .place)
+
+-- the content of block b stands at location d
+unfoldable pub placeAt : ℕ → ℕ → Tables → Tables
+placeAt b d t = tables (t .next) (t .prev) (t .owner) (set (t .place) b d)
+
+-- how often l stands in a list
+unfoldable pub times : ℕ → List ℕ → ℕ
+times l [] = 0
+times l (x ∷ xs) = cond (eqb x l) (suc (times l xs)) (times l xs)
+
+-- from node n on, the nodes of list l are freed, at most k of them: the node behind them, and the owners then
+pub record Freed : Type 0 where
+  pub behind : ℕ
+  pub owners : List ℕ
+
+unfoldable pub freeUpTo : ℕ → List ℕ → ℕ → ℕ → List ℕ → Freed
+freeUpTo zero nx l n o = record { behind = n; owners = o }
+freeUpTo (suc k) nx l n o = elim (eqb (getD o n 0) l) [ true ↦ freeUpTo k nx l (getD nx n 0) (set o n 0) | false ↦ record { behind = n; owners = o } ]
+
+-- as many as there are of list l
+unfoldable pub freeFrom : List ℕ → ℕ → ℕ → List ℕ → Freed
+freeFrom nx l n o = freeUpTo (times l o) nx l n o
+
+-- the tables without the list whose node is n
+unfoldable pub cutList : ℕ → Tables → Tables
+cutList n t = let f = freeFrom (t .next) (ownerOf t n) n (t .owner) in cutBetween (prevOf t n) (f .behind) (f .owners) t
+
+-- is block b free, and x a node of list l?
+unfoldable pub putFits : ℕ → ℕ → ℕ → Tables → Bool
+putFits b l x t = eqb (ownerOf t b) 0 && eqb (ownerOf t x) l
+
+unfoldable pub putDone : ℕ → ℕ → ℕ → Tables → Tables
+putDone b l x t = placeAt b 0 (insertNode x b l t)
+
+-- does the change apply?
+unfoldable pub fits : Change ℕ → Tables → Bool
+fits (takeList l) t = eqb (ownerOf t (listNode l)) 0
+fits (putFirst b l) t = putFits b l (listNode l) t
+fits (putAfter b l p) t = putFits b l p t
+fits (write b d) t = not (eqb (ownerOf t b) 0)
+fits (delBlock b) t = not (eqb (ownerOf t b) 0)
+fits (delList l) t = not (eqb (ownerOf t (listNode l)) 0)
+
+-- the tables after it
+unfoldable pub done : Change ℕ → Tables → Tables
+done (takeList l) t = insertNode (prevOf t 255) (listNode l) l t
+done (putFirst b l) t = putDone b l (listNode l) t
+done (putAfter b l p) t = putDone b l p t
+done (write b d) t = placeAt b d t
+done (delBlock b) t = cutBetween (prevOf t b) (nextOf t b) (set (t .owner) b 0) t
+done (delList l) t = cutList (listNode l) t
+
+-- What a function answers and leaves that is to make a change: whether it applies, and the tables after it, or as they were if it does not.
+pub record Did (c : Change ℕ) (t : Tables) (r : Bool) (u : Tables) : Type 0 where
+  pub answer : r ≡ fits c t
+  pub left : u ≡ cond (fits c t) (done c t) t
+
+-- the change of a kind, with its block, list, predecessor and location, of which it takes what it needs; the module `kind` names the six
+unfoldable pub ofKind : ℕ → ℕ → ℕ → ℕ → ℕ → Option (Change ℕ)
+ofKind k b l p d =
+    cond (eqb k 1) (some (takeList l))
+    (cond (eqb k 2) (some (putFirst b l))
+    (cond (eqb k 3) (some (putAfter b l p))
+    (cond (eqb k 4) (some (write b d))
+    (cond (eqb k 5) (some (delBlock b))
+    (cond (eqb k 6) (some (delList l)) none)))))
+
+-- a change, or none, which is refused
+abbrev pub DidSome : Option (Change ℕ) → Tables → Bool → Tables → Type 0
+DidSome none t r u = (r ≡ false) × (u ≡ t)
+DidSome (some c) t r u = Did c t r u
+
+-- Which lists tables show.
+
+-- n is none of these; no two of these are the same
+abbrev pub Away : ℕ → List ℕ → Type 0
+Away n [] = Unit {0}
+Away n (x ∷ xs) = (x ≢ n) × Away n xs
+
+abbrev pub Apart : List ℕ → Type 0
+Apart [] = Unit {0}
+Apart (x ∷ xs) = Away x xs × Apart xs
+
+-- from node a on these nodes follow, each leading back to the one before
+abbrev pub Linked : List ℕ → List ℕ → ℕ → List ℕ → Type 0
+Linked nx pv a [] = Unit {0}
+Linked nx pv a (x ∷ xs) = (getD nx a 0 ≡ x) × (getD pv x 0 ≡ a) × Linked nx pv x xs
+
+abbrev pub blockNodes : List (Block ℕ) → List ℕ
+blockNodes [] = []
+blockNodes (x ∷ xs) = x .num ∷ blockNodes xs
+
+abbrev pub nodes : List (Row ℕ) → List ℕ
+nodes [] = []
+nodes (r ∷ rs) = (64 + r .num) ∷ (blockNodes (r .blocks) ++ nodes rs)
+
+abbrev pub chain : List (Row ℕ) → List ℕ
+chain rs = nodes rs ++ 255 ∷ []
+
+abbrev pub IsBlock : ℕ → Type 0
+IsBlock b = (1 ≤ b) × (b ≤ 64)
+
+abbrev pub IsList : ℕ → Type 0
+IsList l = (1 ≤ l) × (l ≤ 16)
+
+-- a block of list l, and a list, as the owners o and the places p have them
+pub record HasBlock (o p : List ℕ) (l : ℕ) (x : Block ℕ) : Type 0 where
+  pub range : IsBlock (x .num)
+  pub owned : getD o (x .num) 0 ≡ l
+  pub stands : getD p (x .num) 0 ≡ x .content
+
+pub record HasList (o : List ℕ) (r : Row ℕ) : Type 0 where
+  pub range : IsList (r .num)
+  pub owned : getD o (64 + r .num) 0 ≡ r .num
+
+abbrev pub HasBlocks : List ℕ → List ℕ → ℕ → List (Block ℕ) → Type 0
+HasBlocks o p l [] = Unit {0}
+HasBlocks o p l (x ∷ xs) = HasBlock o p l x × HasBlocks o p l xs
+
+abbrev pub HasLists : List ℕ → List ℕ → List (Row ℕ) → Type 0
+HasLists o p [] = Unit {0}
+HasLists o p (r ∷ rs) = HasList o r × HasBlocks o p (r .num) (r .blocks) × HasLists o p rs
+
+pub record Sized (t : Tables) : Type 0 where
+  pub next : length (t .next) ≡ 256
+  pub prev : length (t .prev) ≡ 256
+  pub owner : length (t .owner) ≡ 256
+  pub place : length (t .place) ≡ 256
+
+pub record Shows (t : Tables) (rs : List (Row ℕ)) : Type 0 where
+  pub sized : Sized t
+  pub apart : Apart (0 ∷ chain rs)
+  pub linked : Linked (t .next) (t .prev) 0 (chain rs)
+  pub has : HasLists (t .owner) (t .place) rs
+  pub free : (n : ℕ) → Away n (nodes rs) → ownerOf t n ≡ 0
+
+-- numbers in range: only of such changes the tables speak as the state does
+abbrev pub Ranged : Change ℕ → Type 0
+Ranged (takeList l) = IsList l
+Ranged (putFirst b l) = IsBlock b × IsList l
+Ranged (putAfter b l p) = IsBlock b × IsList l × IsBlock p
+Ranged (write b d) = IsBlock b
+Ranged (delBlock b) = IsBlock b
+Ranged (delList l) = IsList l
+
+-- what an answer and the tables left say of changes made in a state: refused, or the tables show the state after them
+abbrev pub Represents : Option (State ℕ) → Bool → Tables → Type 0
+Represents none r u = r ≡ false
+Represents (some s) r u = (r ≡ true) × Shows u (s .lists)
+
+-- Of one table alone: what holds of all lists that tables with it show.
+abbrev pub OfNext : List ℕ → (List (Row ℕ) → Type 0) → Type 0
+OfNext nx P = (pv ow pl : List ℕ) (rs : List (Row ℕ)) → Shows (tables nx pv ow pl) rs → P rs
+
+abbrev pub OfOwners : List ℕ → (List (Row ℕ) → Type 0) → Type 0
+OfOwners ow P = (nx pv pl : List ℕ) (rs : List (Row ℕ)) → Shows (tables nx pv ow pl) rs → P rs
+
+abbrev pub OfPlaces : List ℕ → (List (Row ℕ) → Type 0) → Type 0
+OfPlaces pl P = (nx pv ow : List ℕ) (rs : List (Row ℕ)) → Shows (tables nx pv ow pl) rs → P rs
