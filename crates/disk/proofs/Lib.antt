@@ -4,3 +4,4 @@ pub mod Journal
 pub mod Questions
 pub mod Clauses
 pub mod Fresh
+pub mod Held
