@@ -1,17 +1,16 @@
 -- The table of holders: who holds a block after a unit takes it or gives up what it holds, and what a sound journal says of the blocks that it puts.
 use mathlib.Core.Path.{_≡_, refl, sym, ap, _∙_}
-use mathlib.Core.Logic.{_⊎_, inl, inr, _≢_}
-use mathlib.Core.Bool.{Bool, true, false, _&&_, cond, false≢true}
+use mathlib.Core.Logic.{_≢_}
+use mathlib.Core.Bool.{Bool, true, false, cond, false≢true}
 use mathlib.Core.List.{List, [], _∷_, map}
-use Prim.Native.Nat.{ℕ, zero, suc, _-_, _≤_, _<_}
+use Prim.Native.Nat.{ℕ, zero, suc, _-_, _≤_}
 use native.Mathlib.Omega.{arith}
-use native.Mathlib.Decide.{ℕ-discrete}
 use lib.Dec.{eqb}
-use lib.ListN.{length, getD, set}
+use lib.ListN.{length, getD}
 use lib.Seq.{getD-set-same, getD-set-other}
 use Rattle.lists.specs.Basic.{any, all}
 use Rattle.lists.specs.Change.{Change, takeList, putFirst, putAfter, write, delBlock, delList}
-use Rattle.lists.proofs.Basic.{and-true, eqb-same, eqb-true, eqb-false, eqb-neq, eq-true, all-each}
+use Rattle.lists.proofs.Basic.{and-true, eqb-same, eqb-true, eqb-false, eq-true, all-each}
 use Rattle.lists.proofs.Count.{puts}
 use Rattle.log.specs.Entry.{member, raw, legal}
 use Rattle.log.specs.Card.{Content}

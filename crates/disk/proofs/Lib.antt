@@ -5,3 +5,4 @@ pub mod Questions
 pub mod Clauses
 pub mod Fresh
 pub mod Held
+pub mod Changes
