@@ -3,7 +3,7 @@ pub mod encode;
 pub mod entry;
 pub mod format;
 pub mod layout;
-pub mod map;
 pub mod legal;
+pub mod map;
 pub mod place;
 pub mod store;
