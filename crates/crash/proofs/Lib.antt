@@ -6,3 +6,6 @@ pub mod Mounting
 pub mod Formatting
 pub mod PlaceOf
 pub mod Simulation
+pub mod Invariant
+pub mod Cuts
+pub mod Flushing
