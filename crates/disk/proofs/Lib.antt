@@ -7,3 +7,5 @@ pub mod Holder
 pub mod Fresh
 pub mod Held
 pub mod Changes
+pub mod Computing
+pub mod KnownRuns

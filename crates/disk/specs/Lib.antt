@@ -5,4 +5,5 @@ pub mod Call
 pub mod Questions
 pub mod Perform
 pub mod Answers
+pub mod KnownRuns
 pub mod Inventory

@@ -1,0 +1,136 @@
+-- "Runs with known outcome": the ten that document 01 marks P, as one table and one statement. A row that starts from the disk that another
+-- row's calls leave says so by that disk's name.
+use mathlib.Core.Path.{_≡_}
+use mathlib.Core.List.{List, [], _∷_, _++_, map}
+use Prim.Native.Nat.{ℕ}
+use lib.ListN.{length, take, drop, replicate}
+use Rattle.lists.specs.Basic.{from, joined}
+use Rattle.log.specs.Entry.{Entry, encode, raw}
+use Rattle.log.specs.Card.{Content, zeros, countOffset}
+use Rattle.log.specs.Flush.{Ending, drained, spent}
+use Rattle.disk.specs.Record.{freshRecord, withFlow}
+use Rattle.disk.specs.Disk.{Disk, queued}
+use Rattle.disk.specs.Call.{Call, format, mount, conflictCount, newList, newBlock, writeBlock, readBlock, deleteBlock, begin, end, flush, blockAfter}
+use Rattle.disk.specs.Perform.{Result, perform, performAll, endingNumber}
+
+-- A step of a run, with what must come of it: a call, answered by its code, its two results and the lent bytes that it leaves; a look at the
+-- card's summary, which begins so; a look at the queue, whose entries have these bytes.
+pub data Step : Type 0 where
+  call : Call → List ℕ → Step
+  summary : List ℕ → Step
+  queue : List ℕ → Step
+
+-- the disk that a run starts from, and its steps
+pub record Run : Type 0 where
+  pub start : Disk
+  pub steps : List Step
+
+abbrev pub answerOf : Result → List ℕ
+answerOf r = r .answer .code ∷ r .answer .value ∷ r .answer .second ∷ r .lent
+
+abbrev pub bytesOf : Entry Content → List ℕ
+bytesOf e = encode (raw 0 e)
+
+-- what comes of steps, one by one
+unfoldable pub outcome : Disk → List Step → List (List ℕ)
+outcome d [] = []
+outcome d (call c x ∷ ss) = let r = perform c d in answerOf r ∷ outcome (r .disk) ss
+outcome d (summary x ∷ ss) = take (length x) (drop countOffset (d .card)) ∷ outcome d ss
+outcome d (queue x ∷ ss) = joined (map bytesOf (queued d)) ∷ outcome d ss
+
+-- what must come of a step
+unfoldable pub wanted : Step → List ℕ
+wanted (call c x) = x
+wanted (summary x) = x
+wanted (queue x) = x
+
+-- the call is accepted; it returns n; it is refused with n
+abbrev accepts : Call → Step
+accepts c = call c (0 ∷ 0 ∷ 0 ∷ [])
+
+abbrev gives : Call → ℕ → Step
+gives c n = call c (0 ∷ n ∷ 0 ∷ [])
+
+abbrev refuses : Call → ℕ → Step
+refuses c n = call c (n ∷ 0 ∷ 0 ∷ [])
+
+-- a flush with allowance a does n stores and ends so
+abbrev flushes : ℕ → ℕ → Ending → Step
+flushes a n e = call (flush a) (0 ∷ n ∷ endingNumber e ∷ [])
+
+-- the persistent view's block b is read into bytes of 170; or there is none, and they stay
+abbrev untouched : Content
+untouched = replicate 256 170
+
+abbrev holds : ℕ → Content → Step
+holds b x = call (readBlock 5 b untouched) (0 ∷ 0 ∷ 0 ∷ x)
+
+abbrev missing : ℕ → Step
+missing b = call (readBlock 5 b untouched) (8 ∷ 0 ∷ 0 ∷ untouched)
+
+abbrev run : Disk → List Step → Run
+run d ss = record { start = d; steps = ss }
+
+-- one segment and both data buffers full of 170, and a record that no call would take but a formatting or a mounting
+unfoldable pub blank : Disk
+blank = record {
+  card = replicate 4096 170;
+  queueData = replicate 8192 170;
+  journalData = replicate 15360 170;
+  rec = withFlow freshRecord 170 170 170;
+}
+
+-- a 7 and 255 zeros
+abbrev seven : Content
+seven = 7 ∷ replicate 255 0
+
+-- what the units write: 0, 1, …, 255
+abbrev ascending : Content
+ascending = from (λ k. k) 0 256
+
+-- the disks that rows start from: with the write queued; with it flushed; with unit 1 open; with unit 1 ended
+unfoldable pub written : Disk
+written = performAll (format ∷ newList 0 ∷ newBlock 0 1 0 ∷ writeBlock 0 1 seven ∷ []) blank
+
+unfoldable pub stored : Disk
+stored = perform (flush 267) written .disk
+
+unfoldable pub unitOpen : Disk
+unitOpen = performAll (begin 1 ∷ newBlock 1 1 1 ∷ writeBlock 1 2 ascending ∷ []) stored
+
+unfoldable pub unitEnded : Disk
+unitEnded = perform (end 1) unitOpen .disk
+
+-- "then unit 1: NewBlock after 1 gives 2, Write to 2, End"
+abbrev unit : List Step
+unit = accepts (begin 1) ∷ gives (newBlock 1 1 1) 2 ∷ accepts (writeBlock 1 2 ascending) ∷ accepts (end 1) ∷ []
+
+unfoldable pub runs : List Run
+runs =
+    -- "From a formatted one-segment card: NewList gives 1; NewBlock first on 1 gives 1; Write to 1 of a 7 and 255 zeros."
+    run blank (accepts format ∷ gives (newList 0) 1 ∷ gives (newBlock 0 1 0) 1 ∷ accepts (writeBlock 0 1 seven) ∷ [])
+    -- P "the flush takes 3+4+260 = 267 stores; the summary begins 3, 2 1, 3 1 1, 9 1 0"
+    ∷ run written (flushes 65535 267 drained ∷ summary (3 ∷ 2 ∷ 1 ∷ 3 ∷ 1 ∷ 1 ∷ 9 ∷ 1 ∷ 0 ∷ []) ∷ [])
+    -- P "allowance 266: mounting has block 1 holding zeros"
+    ∷ run written (flushes 266 266 spent ∷ accepts mount ∷ holds 1 zeros ∷ [])
+    -- P "267: holding the 7"
+    ∷ run written (flushes 267 267 drained ∷ accepts mount ∷ holds 1 seven ∷ [])
+    -- P "entries 135 2 1 1, 137 2 1, 16 2"
+    ∷ run stored (unit ++ flushes 65535 268 drained ∷ summary (6 ∷ 2 ∷ 1 ∷ 3 ∷ 1 ∷ 1 ∷ 9 ∷ 1 ∷ 0 ∷ 135 ∷ 2 ∷ 1 ∷ 1 ∷ 137 ∷ 2 ∷ 1 ∷ 16 ∷ 2 ∷ []) ∷ [])
+    -- P "those take 268 stores: after 267 mounting has block 1 only"
+    ∷ run unitEnded (flushes 267 267 spent ∷ accepts mount ∷ holds 1 seven ∷ missing 2 ∷ [])
+    -- P "after 268 both"
+    ∷ run unitEnded (flushes 268 268 drained ∷ accepts mount ∷ holds 1 seven ∷ holds 2 ascending ∷ [])
+    -- P "before End, view 0 has no block after 1"
+    ∷ run unitOpen (gives (blockAfter 0 1 1) 0 ∷ [])
+    -- P "view 1 has 2"
+    ∷ run unitOpen (gives (blockAfter 1 1 1) 2 ∷ [])
+    -- P "unit 2 writes block 1, stream 0 deletes it, End 2: refused 12"; the unit is then closed, and the conflict counted
+    ∷ run stored (accepts (begin 2) ∷ accepts (writeBlock 2 1 ascending) ∷ accepts (deleteBlock 0 1) ∷ refuses (end 2) 12 ∷ refuses (end 2) 4 ∷ gives conflictCount 1 ∷ [])
+    -- P "an empty unit's End queues 16 0"
+    ∷ run stored (accepts (begin 1) ∷ accepts (end 1) ∷ queue (16 ∷ 0 ∷ []) ∷ [])
+    ∷ []
+
+-- each step of each run comes out as it must
+abbrev pub KnownOutcomes : Type 0
+KnownOutcomes = map (λ (r : Run). outcome (r .start) (r .steps)) runs ≡ map (λ (r : Run). map wanted (r .steps)) runs
