@@ -3,7 +3,6 @@ pub mod Queue
 pub mod Journal
 pub mod Questions
 pub mod Clauses
-pub mod Holder
 pub mod Fresh
 pub mod Held
 pub mod Changes

@@ -196,15 +196,6 @@ unfolding all
 all-each p q [] f h = refl
 all-each p q (x ∷ l) f h = let (a, b) = and-true (p x) (all p l) h in rw (f x a) (all-each p q l f b)
 
-pub all-both : {A : Type 0} (p q r : A → Bool) (l : List A) → ((x : A) → p x ≡ true → q x ≡ true → r x ≡ true)
-    → all p l ≡ true → all q l ≡ true → all r l ≡ true
-unfolding all
-all-both p q r [] f h k = refl
-all-both p q r (x ∷ l) f h k =
-    let (a, b) = and-true (p x) (all p l) h in
-    let (c, d) = and-true (q x) (all q l) k in
-    rw (f x a c) (all-both p q r l f b d)
-
 -- A map, and the elements that pass a test.
 module _ {A B : Type 0} (f : A → B) where
   pub cond-map : (b : Bool) (x y : A) → f (cond b x y) ≡ cond b (f x) (f y)
