@@ -2,7 +2,7 @@
 use crate::entry::LogEntry;
 ghost use mathlib.Core.Path.{_≡_};
 ghost use mathlib.Core.Bool.{true, false, _&&_};
-ghost use Rattle.log.specs.Entry.{isBlock, isList, legal, raw, asEntry};
+ghost use Rattle.log.specs.Entry.{isBlock, isList, member, legal, raw, asEntry, asChange};
 
 pub fn both(a: bool, b: bool) -> bool
     ensures { λ r. ⌜ r ≡ (a && b) ⌝ }
@@ -22,12 +22,12 @@ pub fn is_list(l: u8) -> bool
     both(1 <= l, l <= LogEntry::LISTS)
 }
 
-// May the entry stand in a log, a write in slot 0?
-pub fn is_legal(member: bool, e: LogEntry) -> bool
-    ensures { λ r. ⌜ r ≡ legal (raw 0 (asEntry member e)) ⌝ }
+// May the entry stand in a log as a unit's member, a write in slot 0?
+pub fn is_member(e: LogEntry) -> bool
+    ensures { λ r. ⌜ r ≡ legal (raw 0 (member (asChange e))) ⌝ }
 {
     match e {
-        LogEntry::Take { list } => both(!member, is_list(list)),
+        LogEntry::Take { list: _ } => false,
         LogEntry::PutFirst { block, list } => both(is_block(block), is_list(list)),
         LogEntry::PutAfter {
             block,
@@ -37,6 +37,25 @@ pub fn is_legal(member: bool, e: LogEntry) -> bool
         LogEntry::Write { block, slot: _ } => is_block(block),
         LogEntry::DeleteBlock { block } => is_block(block),
         LogEntry::DeleteList { list } => is_list(list),
+        LogEntry::Commit { count: _ } => false,
+    }
+}
+
+// May the entry stand in a log, a write in slot 0?
+pub fn is_legal(member: bool, e: LogEntry) -> bool
+    ensures { λ r. ⌜ r ≡ legal (raw 0 (asEntry member e)) ⌝ }
+{
+    match e {
+        LogEntry::Take { list } => both(!member, is_list(list)),
+        LogEntry::PutFirst { block: _, list: _ } => is_member(e),
+        LogEntry::PutAfter {
+            block: _,
+            list: _,
+            predecessor: _,
+        } => is_member(e),
+        LogEntry::Write { block: _, slot: _ } => is_member(e),
+        LogEntry::DeleteBlock { block: _ } => is_member(e),
+        LogEntry::DeleteList { list: _ } => is_member(e),
         LogEntry::Commit { count } => count <= LogEntry::MEMBERS,
     }
 }
