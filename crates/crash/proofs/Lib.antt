@@ -9,3 +9,4 @@ pub mod Simulation
 pub mod Invariant
 pub mod Cuts
 pub mod Flushing
+pub mod Joining

@@ -108,6 +108,18 @@ pub head-zero : (c : List ℕ) (ess : List (List (Entry Content))) (q : List (En
 head-zero c ess [] = refl
 head-zero c ess (e ∷ q) = (λ p h. (λ j l. absurd (omega arith), omega (arith, entry-stores-length p e)), λ h. refl)
 
+-- entries that join the queue
+good-append : (q r : List (Entry Content)) → AllGood q → AllGood r → AllGood (q ++ r)
+good-append [] r g h = h
+good-append (e ∷ q) r g h = (g .0, good-append q r (g .1) h)
+
+head-append : (c : List ℕ) (ess : List (List (Entry Content))) (q r : List (Entry Content)) (k : ℕ) → Head c ess q k → Head c ess (q ++ r) k
+head-append c ess [] r k h = subst (Head c ess r) (sym h) (head-zero c ess r)
+head-append c ess (e ∷ q) r k h = h
+
+pub flows-append : (c : List ℕ) (ess : List (List (Entry Content))) (q r : List (Entry Content)) (k : ℕ) → Flows c ess q k → AllGood r → Flows c ess (q ++ r) k
+flows-append c ess q r k f g = record { carries = f .carries; good = good-append q r (f .good) g; head = head-append c ess q r k (f .head) }
+
 last-store : (p : Place) (e : Entry Content) (k : ℕ) → suc k ≡ length (entryStores p e)
     → (storeOf p e k .0 ≡ 4096 * p .segment + 3584) × (storeOf p e k .1 ≡ suc (p .entries))
 last-store p e k h = go (which p e k (omega arith))
