@@ -1,0 +1,53 @@
+//! What the lister prints for a card: document 01, "Runs with known outcome".
+
+use std::fmt::Write;
+
+use crate::limits::{BLOCKS, BLOCK_BYTES, LISTER_SEGMENTS, LISTS};
+use crate::log::{segments, slot_at, Log};
+use crate::state::{Content, State};
+
+const LENGTH_REFUSED: &str = "refused 1\n";
+const LOG_REFUSED: &str = "refused 2\n";
+
+/// The lister's lines for the bytes of a card.
+pub fn lines(card: &[u8]) -> String {
+    let Some(segments) = segments(card).filter(|&segments| segments <= LISTER_SEGMENTS) else {
+        return LENGTH_REFUSED.to_string();
+    };
+    let Ok(log) = Log::read(card) else {
+        return LOG_REFUSED.to_string();
+    };
+    let state = &log.reading.state;
+    let mut lines = format!("segments {segments} used {} entries {}\n", log.used, log.entries);
+    for list in (1..=LISTS).filter(|&list| state.is_taken(list)) {
+        lines.push_str(&list_line(state, list));
+    }
+    for block in 1..=BLOCKS {
+        if let Some(content) = state.content(block) {
+            // Writing to a string cannot fail.
+            let _ = writeln!(lines, "block {block}: {}", sum(card, content));
+        }
+    }
+    lines
+}
+
+/// The line of a list: its number, then its blocks in order, "a blank before each (an empty list ends at its colon)".
+pub fn list_line(state: &State, list: u8) -> String {
+    let mut line = format!("list {list}:");
+    for block in state.blocks_on(list) {
+        let _ = write!(line, " {block}");
+    }
+    line.push('\n');
+    line
+}
+
+/// The sum of the bytes of a block of the persistent state, which are zeros or stand in a slot.
+fn sum(card: &[u8], content: Content) -> u32 {
+    match content {
+        Content::Slot { segment, slot } => card[slot_at(usize::from(segment), slot)..][..BLOCK_BYTES]
+            .iter()
+            .map(|&byte| u32::from(byte))
+            .sum(),
+        Content::Zeros | Content::Queue { .. } | Content::Journal { .. } => 0,
+    }
+}

@@ -1,0 +1,283 @@
+//! The record that is lent to every call: the queue, the journals, the numbers held and given.
+
+use crate::entry::{Change, Entry};
+use crate::limits::{BLOCKS, BLOCK_BYTES, JOURNAL, LISTS, QUEUE, SEGMENT_BYTES, UNITS};
+use crate::log::{stores_of, Log, Stores};
+use crate::state::{Content, Reading, State};
+
+/// A set of block numbers.
+#[derive(Clone, Copy, PartialEq, Eq, Debug)]
+pub struct BlockSet(u64);
+
+impl BlockSet {
+    /// No block.
+    pub const EMPTY: BlockSet = BlockSet(0);
+
+    fn bit(block: u8) -> u64 {
+        1 << (block - 1)
+    }
+
+    /// Adds `block`, 1 to 64.
+    pub fn add(&mut self, block: u8) {
+        self.0 |= BlockSet::bit(block);
+    }
+
+    /// Whether it has `block`, 1 to 64.
+    pub fn has(self, block: u8) -> bool {
+        self.0 & BlockSet::bit(block) != 0
+    }
+
+    /// Whether it has a block that `other` has.
+    pub fn meets(self, other: BlockSet) -> bool {
+        self.0 & other.0 != 0
+    }
+
+    /// The blocks of both.
+    pub fn union(self, other: BlockSet) -> BlockSet {
+        BlockSet(self.0 | other.0)
+    }
+}
+
+/// An atomic recovery unit.
+#[derive(Clone, Copy, PartialEq, Eq, Debug)]
+pub struct Unit {
+    /// Whether it has begun and not ended.
+    pub is_open: bool,
+    journal: [Change; JOURNAL],
+    journal_length: u8,
+    /// Blocks made in it: "A block made in a unit is held by it until it ends."
+    pub held: BlockSet,
+}
+
+impl Unit {
+    /// A unit that is closed: its journal is empty and it holds nothing.
+    pub const CLOSED: Unit = Unit {
+        is_open: false,
+        journal: [Change::TakeList { list: 1 }; JOURNAL],
+        journal_length: 0,
+        held: BlockSet::EMPTY,
+    };
+
+    /// Its changes in order.
+    pub fn journal(&self) -> &[Change] {
+        &self.journal[..usize::from(self.journal_length)]
+    }
+
+    /// Adds a change; question 11 has been asked.
+    pub fn add(&mut self, change: Change) {
+        self.journal[usize::from(self.journal_length)] = change;
+        self.journal_length += 1;
+    }
+
+    /// Makes the journal of unit `number` act on the committed state, what doesn't apply left out. Says whether all
+    /// of it applied.
+    pub fn replay(&self, number: u8, committed: &mut State) -> bool {
+        let mut all_apply = true;
+        for (entry, &change) in self.journal().iter().enumerate() {
+            let content = Content::Journal {
+                unit: number,
+                entry: entry as u8,
+            };
+            all_apply &= committed.apply(change, content);
+        }
+        all_apply
+    }
+
+    /// Its part of question 3.
+    fn is_sound(&self) -> bool {
+        usize::from(self.journal_length) <= JOURNAL
+            && (self.is_open || (self.journal_length == 0 && self.held == BlockSet::EMPTY))
+            && self
+                .journal()
+                .iter()
+                .all(|&change| change.in_range() && change.has_member_map() && self.holds_what_is_put(change))
+    }
+
+    /// "Each block a journal puts held by that unit."
+    fn holds_what_is_put(&self, change: Change) -> bool {
+        match change {
+            Change::PutFirst { block, .. } | Change::PutAfter { block, .. } => self.held.has(block),
+            _ => true,
+        }
+    }
+}
+
+/// The record. A caller gets one from [`Record::FRESH`] and lends it to every call.
+#[derive(Clone, Copy, PartialEq, Eq, Debug)]
+pub struct Record {
+    /// The queue's entries, each in its place of the ring.
+    queue: [Entry; QUEUE],
+    queue_length: u8,
+    /// The place of the head.
+    head: u8,
+    /// Stores of the head that are done.
+    done: u16,
+    units: [Unit; UNITS as usize],
+    /// The block number given last.
+    pub block_given: u8,
+    /// The list number given last.
+    pub list_given: u8,
+    /// "One for all, stops at 65,535, 0 after mounting."
+    pub conflicts: u16,
+}
+
+/// The versions of the state that every unit shares.
+#[derive(Clone, Copy, Debug)]
+pub struct Versions {
+    /// The log, whose state is the persistent one.
+    pub log: Log,
+    /// The state of the log followed by the queue.
+    pub committed: State,
+}
+
+impl Record {
+    /// As mounting and formatting set it: "queue empty, units closed, nothing held".
+    pub const FRESH: Record = Record {
+        queue: [Entry::Commit { members: 0 }; QUEUE],
+        queue_length: 0,
+        head: 0,
+        done: 0,
+        units: [Unit::CLOSED; UNITS as usize],
+        block_given: BLOCKS,
+        list_given: LISTS,
+        conflicts: 0,
+    };
+
+    /// A record that question 3 refuses on every card: no number 0 is ever given.
+    pub const UNSOUND: Record = Record {
+        block_given: 0,
+        list_given: 0,
+        ..Record::FRESH
+    };
+
+    /// Unit `number`, 1 to 4.
+    pub fn unit(&self, number: u8) -> &Unit {
+        &self.units[usize::from(number) - 1]
+    }
+
+    /// Unit `number`, 1 to 4, to be changed.
+    pub fn unit_mut(&mut self, number: u8) -> &mut Unit {
+        &mut self.units[usize::from(number) - 1]
+    }
+
+    /// Blocks that open units hold.
+    pub fn held(&self) -> BlockSet {
+        let held = self.units.iter().map(|unit| unit.held);
+        held.fold(BlockSet::EMPTY, BlockSet::union)
+    }
+
+    /// Entries in the queue.
+    pub fn queue_length(&self) -> usize {
+        usize::from(self.queue_length)
+    }
+
+    /// Entries that the queue still takes.
+    pub fn queue_room(&self) -> usize {
+        QUEUE - self.queue_length()
+    }
+
+    /// The place in the ring of the queue's entry `number`, from 0 at the head.
+    fn place(&self, number: usize) -> usize {
+        (usize::from(self.head) + number) % QUEUE
+    }
+
+    /// The place in the ring of the head.
+    pub fn head_place(&self) -> usize {
+        self.place(0)
+    }
+
+    /// The head, the entry that is drained first.
+    pub fn head(&self) -> Option<Entry> {
+        (self.queue_length > 0).then_some(self.queue[self.place(0)])
+    }
+
+    /// Stores of the head that are done.
+    pub fn done(&self) -> usize {
+        usize::from(self.done)
+    }
+
+    /// Notes how many stores of the head are done.
+    pub fn set_done(&mut self, done: usize) {
+        self.done = done as u16;
+    }
+
+    /// Adds an entry to the queue and returns its place; question 13 has been asked.
+    pub fn enqueue(&mut self, entry: Entry) -> usize {
+        let place = self.place(self.queue_length());
+        self.queue[place] = entry;
+        self.queue_length += 1;
+        place
+    }
+
+    /// The head leaves the queue.
+    pub fn drop_head(&mut self) {
+        self.head = self.place(1) as u8;
+        self.queue_length -= 1;
+        self.done = 0;
+    }
+
+    /// Question 3: whether the record is sound over this card and these queue data. If so, the versions.
+    pub fn judge(&self, card: &[u8], queue_data: &[u8]) -> Option<Versions> {
+        if !self.has_sound_numbers() || !self.units.iter().all(Unit::is_sound) {
+            return None;
+        }
+        let log = Log::read(card).ok()?;
+        let committed = self.read_queue(log.reading)?;
+        let is_sound = self.done_stands(card, queue_data, &log) && self.has_sound_holders(&committed);
+        is_sound.then_some(Versions { log, committed })
+    }
+
+    /// "Counts and numbers in range."
+    fn has_sound_numbers(&self) -> bool {
+        self.queue_length() <= QUEUE
+            && usize::from(self.head) < QUEUE
+            && (1..=BLOCKS).contains(&self.block_given)
+            && (1..=LISTS).contains(&self.list_given)
+    }
+
+    /// "Card acceptable followed by the queue": the committed state, if it is.
+    fn read_queue(&self, mut reading: Reading) -> Option<State> {
+        for number in 0..self.queue_length() {
+            let place = self.place(number);
+            let entry = self.queue[place];
+            if !entry.is_legal() {
+                return None;
+            }
+            let content = Content::Queue { place: place as u8 };
+            reading.read(entry, content).ok()?;
+        }
+        Some(reading.state)
+    }
+
+    /// "Stores already done of the head (none if it has no place) standing on the card."
+    fn done_stands(&self, card: &[u8], queue_data: &[u8], log: &Log) -> bool {
+        if self.done == 0 {
+            return true;
+        }
+        let Some(head) = self.head() else {
+            return false;
+        };
+        let Some(place) = log.end.place(head, card.len() / SEGMENT_BYTES) else {
+            return false;
+        };
+        let data = &queue_data[self.head_place() * BLOCK_BYTES..][..BLOCK_BYTES];
+        let stores = Stores::new(head, place, data);
+        self.done() < stores_of(head)
+            && (0..self.done()).all(|number| {
+                let store = stores.nth(number);
+                card[store.at] == store.byte
+            })
+    }
+
+    /// "Held blocks on no committed list and held once."
+    fn has_sound_holders(&self, committed: &State) -> bool {
+        let mut held = BlockSet::EMPTY;
+        for unit in &self.units {
+            if unit.held.meets(held) {
+                return false;
+            }
+            held = held.union(unit.held);
+        }
+        (1..=BLOCKS).all(|block| !(held.has(block) && committed.is_on_a_list(block)))
+    }
+}
