@@ -8,3 +8,6 @@ pub mod Held
 pub mod Changes
 pub mod Computing
 pub mod KnownRuns
+pub mod Growth
+pub mod Units
+pub mod KeepsSound

@@ -13,3 +13,4 @@ pub mod Allowance
 pub mod Flows
 pub mod EntryBytes
 pub mod LegalEntry
+pub mod CardLength

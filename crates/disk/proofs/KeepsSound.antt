@@ -1,0 +1,419 @@
+-- Every accepted call but flush, and refusal 12, leaves a record that is sound by question 3. Each step of a call keeps all clauses by itself: a block
+-- is held before its put is journalled, and a unit closes before its entries join the queue, which leaves the same disk.
+use mathlib.Core.Path.{_≡_, refl, sym, ap, _∙_, subst}
+use mathlib.Core.Logic.{inl, _≢_}
+use mathlib.Core.Bool.{Bool, true, false, false≢true}
+use mathlib.Core.Option.{some}
+use mathlib.Core.List.{List, [], _∷_}
+use Prim.Native.Nat.{ℕ, zero, suc, _+_, _-_, _*_, _≤_, _<_}
+use native.Mathlib.Omega.{arith}
+use lib.Dec.{leb, eqb, eqb·suc-zero}
+use lib.ListN.{length, length-replicate, getD-replicate}
+use lib.Seq.{take-all}
+use Rattle.lists.specs.Basic.{orElse, all, joined}
+use Rattle.lists.specs.Change.{Change, takeList, putFirst, putAfter, write, delBlock, delList, mapChange, carriedBy}
+use Rattle.lists.specs.State.{State, state, taken, placed, applies, changed, apply, applyAll}
+use Rattle.lists.proofs.Basic.{and-true, not-false, eqb-true, leb-true, some-of, getD-same, joined-nils}
+use Rattle.lists.proofs.Count.{puts}
+use Rattle.lists.proofs.Placed.{placed-changed, placed-all}
+use Rattle.log.specs.Entry.{Entry, plain, member, mapEntry, carried, raw, legal, hasMember, isBlock, isList}
+use Rattle.log.specs.Reader.{Reader, settled, start, read, replay}
+use Rattle.log.specs.Card.{Content, zeros, cardLength, segmentsIn, sound, mounted}
+use Rattle.log.specs.Store.{formatStores}
+use Rattle.log.proofs.CardLength.{card-size, same-length}
+use Rattle.log.proofs.Segment.{Sized, Carries, carries-walk}
+use Rattle.log.proofs.Formatting.{nils, format-length, formatted-carries}
+use Rattle.log.proofs.Places.{Good}
+use Rattle.log.proofs.Flows.{AllGood}
+use Rattle.disk.specs.Record.{noUnit, freshUnit, freshRecord, holderOf}
+use Rattle.disk.specs.Disk.{Disk, withRecord, unitOf, journalOf, readerOf, committed}
+use Rattle.disk.specs.Sound.{isOpenUnit, headStanding}
+use Rattle.disk.specs.Call.{format, mount, newList, newBlock, writeBlock, deleteBlock, deleteList, begin, end, ends}
+use Rattle.disk.specs.Questions.{mountable, streamOpen, predecessorRight, freeBlock, freeList, journalRoom, endApplies, queueRoom, streamRoom, questions, refusal}
+use Rattle.disk.specs.Perform.{enqueue, enqueueAll, journalAdd, change, hold, gaveBlock, gaveList, opening, closing, conflicted, unitEntries, putAt, formatted, accepted, refused}
+use Rattle.disk.proofs.Queue.{beside-one, beside-all}
+use Rattle.disk.proofs.Journal.{journal-data-add, journal-size, unit-entries, unit-sized}
+use Rattle.disk.proofs.Questions.{yes-all, past, card-length, queue-data, journal-data, unit-range, queue-room, stream-room, journal-room, list-number, block-number}
+use Rattle.disk.proofs.Fresh.{fresh-queue, fresh-journal, fresh-reader}
+use Rattle.disk.proofs.Clauses.{UnitsRight, Right, committed-is, right}
+use Rattle.disk.proofs.Held.{closing-released, hold-holder, journals-apart}
+use Rattle.disk.proofs.Changes.{take-good, put-good, write-good, delBlock-good, delList-good, apply-applies, take-applies, put-applies, at-zero, unit-good, replay-unit}
+use Rattle.disk.proofs.Growth.{enqueue-log, enqueueAll-log, log-same}
+use Rattle.disk.proofs.Units.{units-state, units-same, hold-units, journal-units, opening-units, closing-units}
+
+-- Steps that leave the log and its queue alone.
+gave-block : (b : ℕ) (d : Disk) → isBlock b ≡ true → Right d → Right (gaveBlock b d)
+unfolding gaveBlock
+gave-block b d h k = record {
+  reader = k .reader;
+  log = log-same d (gaveBlock b d) (k .reader) refl refl refl refl refl refl (k .log);
+  units = units-same d (gaveBlock b d) (k .reader .state) refl refl refl (k .units);
+  journalData = k .journalData;
+  lastBlock = h;
+  lastList = k .lastList;
+  conflicts = k .conflicts;
+}
+
+gave-list : (l : ℕ) (d : Disk) → isList l ≡ true → Right d → Right (gaveList l d)
+unfolding gaveList
+gave-list l d h k = record {
+  reader = k .reader;
+  log = log-same d (gaveList l d) (k .reader) refl refl refl refl refl refl (k .log);
+  units = units-same d (gaveList l d) (k .reader .state) refl refl refl (k .units);
+  journalData = k .journalData;
+  lastBlock = k .lastBlock;
+  lastList = h;
+  conflicts = k .conflicts;
+}
+
+conflicted-right : (d : Disk) → Right d → Right (conflicted d)
+unfolding conflicted
+conflicted-right d k = record {
+  reader = k .reader;
+  log = log-same d (conflicted d) (k .reader) refl refl refl refl refl refl (k .log);
+  units = units-same d (conflicted d) (k .reader .state) refl refl refl (k .units);
+  journalData = k .journalData;
+  lastBlock = k .lastBlock;
+  lastList = k .lastList;
+  conflicts = omega arith;
+}
+
+opening-right : (u : ℕ) (d : Disk) → 1 ≤ u → u ≤ 4 → unitOf d u .opened ≡ false → Right d → Right (opening u d)
+unfolding opening
+opening-right u d p q c k = record {
+  reader = k .reader;
+  log = log-same d (opening u d) (k .reader) refl refl refl refl refl refl (k .log);
+  units = opening-units u d (k .reader .state) p q (k .units) c;
+  journalData = k .journalData;
+  lastBlock = k .lastBlock;
+  lastList = k .lastList;
+  conflicts = k .conflicts;
+}
+
+closing-right : (u : ℕ) (d : Disk) → 1 ≤ u → u ≤ 4 → Right d → Right (closing u d)
+unfolding closing
+closing-right u d p q k = record {
+  reader = k .reader;
+  log = log-same d (closing u d) (k .reader) refl refl refl refl refl refl (k .log);
+  units = closing-units u d (k .reader .state) p q (k .units);
+  journalData = k .journalData;
+  lastBlock = k .lastBlock;
+  lastList = k .lastList;
+  conflicts = k .conflicts;
+}
+
+-- a free block is taken to hold
+hold-right : (s b : ℕ) (d : Disk) → streamOpen d s ≡ true → isBlock b ≡ true → holderOf (d .rec) b ≡ 0 → placed b (committed d .lists) ≡ false → Right d → Right (hold s b d)
+unfolding hold streamOpen
+hold-right zero b d o i z n k = k
+hold-right (suc u) b d o i z n k =
+    let (x, y) = and-true (leb 1 b) (leb b 64) i in
+    record {
+      reader = k .reader;
+      log = log-same d (hold (suc u) b d) (k .reader) refl refl refl refl refl refl (k .log);
+      units = hold-units u b d (k .reader .state) (rw (eqb·suc-zero u) at o) (leb-true 1 b x) (leb-true b 64 y) z
+          (rw (committed-is d (k .reader) (k .log .replays)) at n) (k .units);
+      journalData = k .journalData;
+      lastBlock = k .lastBlock;
+      lastList = k .lastList;
+      conflicts = k .conflicts;
+    }
+
+-- A change in a unit; what it puts is held by the unit.
+member-legal : (c : Change Content) → hasMember c ≡ true → Good (plain c) → legal (raw 0 (member c)) ≡ true
+unfolding legal raw mapEntry mapChange hasMember
+member-legal (takeList l) m g = absurd (false≢true m)
+member-legal (putFirst b l) m g = g .lawful
+member-legal (putAfter b l p) m g = g .lawful
+member-legal (write b d) m g = g .lawful
+member-legal (delBlock b) m g = g .lawful
+member-legal (delList l) m g = g .lawful
+
+plain-sized : (c : Change Content) → Good (plain c) → Sized (carriedBy c)
+unfolding carried
+plain-sized c g = g .sized
+
+journal-right : (u : ℕ) (c : Change Content) (d : Disk) → isOpenUnit d u ≡ true → unitOf d u .len < 15 → hasMember c ≡ true → Good (plain c)
+    → ((b : ℕ) → puts c b ≡ true → holderOf (d .rec) b ≡ u) → Right d → Right (journalAdd u c d)
+unfolding journalAdd
+journal-right u c d o m x g f k =
+    let (p, q, _) = unit-range d u o in
+    record {
+      reader = k .reader;
+      log = log-same d (journalAdd u c d) (k .reader) refl refl refl refl refl refl (k .log);
+      units = journal-units u c d (k .reader .state) o (k .journalData) m (plain-sized c g) (member-legal c x g) f (k .units);
+      journalData = journal-data-add u c d p q (k .journalData) m (plain-sized c g);
+      lastBlock = k .lastBlock;
+      lastList = k .lastList;
+      conflicts = k .conflicts;
+    }
+
+-- Entries that join the queue.
+enqueueAll-right : (es : List (Entry Content)) (d : Disk) (k : Right d) (z : Reader Content) → d .rec .len + length es ≤ 32 → AllGood es
+    → replay zeros (k .reader) es ≡ some z → UnitsRight d (z .state) → Right (enqueueAll es d)
+enqueueAll-right es d k z m g r u =
+    let b = beside-all es d in
+    record {
+      reader = z;
+      log = enqueueAll-log es d (k .reader) z (k .log) m g r;
+      units = units-same d (enqueueAll es d) (z .state) (b .journalData) (b .units) (b .holder) u;
+      journalData = rw (b .journalData) (k .journalData);
+      lastBlock = rw (b .lastBlock) (k .lastBlock);
+      lastList = rw (b .lastList) (k .lastList);
+      conflicts = rw (b .conflicts) (k .conflicts);
+    }
+
+plain-read : (z : Reader Content) (c : Change Content) (s : State Content) → apply zeros c (z .state) ≡ some s → read zeros z (plain c) ≡ some (settled s)
+unfolding read
+plain-read z c s a = rw a
+
+-- a change on stream 0; what it puts is held by no unit
+plain-right : (c : Change Content) (d : Disk) → d .rec .len < 32 → Good (plain c) → applies c (committed d .lists) ≡ true
+    → ((b : ℕ) → puts c b ≡ true → holderOf (d .rec) b ≡ 0) → Right d → Right (enqueue (plain c) d)
+plain-right c d m g a f k =
+    let b = beside-one (plain c) d in
+    record {
+      reader = settled t;
+      log = enqueue-log (plain c) d (k .reader) (settled t) (k .log) m g (plain-read (k .reader) c t (apply-applies c s (rw e at a)));
+      units = units-same d (enqueue (plain c) d) t (b .journalData) (b .units) (b .holder) (units-state d s t (λ n p q o h. placed-changed zeros c (s .lists) n (apart n o (puts c n) refl) h) (k .units));
+      journalData = rw (b .journalData) (k .journalData);
+      lastBlock = rw (b .lastBlock) (k .lastBlock);
+      lastList = rw (b .lastList) (k .lastList);
+      conflicts = rw (b .conflicts) (k .conflicts);
+    }
+  where
+    s : State Content
+    s = k .reader .state
+
+    t : State Content
+    t = state (changed zeros c (s .lists))
+
+    e : committed d ≡ s
+    e = committed-is d (k .reader) (k .log .replays)
+
+    apart : (n : ℕ) → isOpenUnit d (holderOf (d .rec) n) ≡ true → (x : Bool) → puts c n ≡ x → puts c n ≡ false
+    apart n o true x = let (p, q, _) = unit-range d (holderOf (d .rec) n) o in absurd (omega (arith, f n x))
+    apart n o false x = x
+
+-- A change on a stream: what it puts is held by that unit, or by none on stream 0.
+change-right : (s : ℕ) (c : Change Content) (d : Disk) → streamOpen d s ≡ true → journalRoom d s ≡ true → streamRoom d s ≡ true → hasMember c ≡ true → Good (plain c)
+    → (s ≡ 0 → applies c (committed d .lists) ≡ true) → ((b : ℕ) → puts c b ≡ true → holderOf (d .rec) b ≡ s) → Right d → Right (change s c d)
+unfolding change streamOpen
+change-right zero c d o j r m g a f k = plain-right c d (stream-room d r) g (a refl) f k
+change-right (suc u) c d o j r m g a f k = journal-right (suc u) c d (rw (eqb·suc-zero u) at o) (journal-room d u j) m g f k
+
+none-put : {A : Type 0} → false ≡ true → A
+none-put h = absurd (false≢true h)
+
+pub newList-right : (s : ℕ) (d : Disk) → refusal (newList s) d ≡ 0 → Right (accepted (newList s) d .disk)
+unfolding questions accepted
+newList-right s d h =
+    let y = yes-all (newList s) d h in
+    let l = orElse 0 (freeList d) in
+    let (n, i) = list-number d (y 3) in
+    gave-list l (enqueue (plain (takeList l)) d) i
+    (plain-right (takeList l) d (omega (arith, queue-room d 1 (y 4))) (take-good l i) (take-applies l (committed d .lists) n) (λ b e. none-put e) (right d (y 0) (y 1)))
+
+-- the block is held first
+hold-change : (s b : ℕ) (c : Change Content) (d : Disk) → hold s b (change s c d) ≡ change s c (hold s b d)
+unfolding hold change journalAdd unitOf
+hold-change zero b c d = refl
+hold-change (suc u) b c d = refl
+
+hold-open : (s b : ℕ) (d : Disk) → streamOpen (hold s b d) s ≡ streamOpen d s
+unfolding hold streamOpen isOpenUnit unitOf
+hold-open zero b d = refl
+hold-open (suc u) b d = refl
+
+hold-journal : (s b : ℕ) (d : Disk) → journalRoom (hold s b d) s ≡ journalRoom d s
+unfolding hold journalRoom unitOf
+hold-journal zero b d = refl
+hold-journal (suc u) b d = refl
+
+hold-stream : (s b : ℕ) (d : Disk) → streamRoom (hold s b d) s ≡ streamRoom d s
+unfolding hold streamRoom queueRoom
+hold-stream zero b d = refl
+hold-stream (suc u) b d = refl
+
+hold-zero : (s b : ℕ) (d : Disk) → s ≡ 0 → hold s b d ≡ d
+unfolding hold
+hold-zero zero b d e = refl
+hold-zero (suc u) b d e = absurd (omega arith)
+
+put-member : (b l p : ℕ) → hasMember (putAt b l p) ≡ true
+unfolding hasMember putAt
+put-member b l zero = refl
+put-member b l (suc p) = refl
+
+put-puts : (b l p n : ℕ) → puts (putAt b l p) n ≡ true → b ≡ n
+unfolding putAt
+put-puts b l zero n h = eqb-true b n h
+put-puts b l (suc p) n h = eqb-true b n h
+
+pub newBlock-right : (s l p : ℕ) (d : Disk) → refusal (newBlock s l p) d ≡ 0 → Right (accepted (newBlock s l p) d .disk)
+unfolding questions accepted
+newBlock-right s l p d h =
+    let y = yes-all (newBlock s l p) d h in
+    let k = right d (y 0) (y 1) in
+    let b = orElse 0 (freeBlock d) in
+    let (n, z, i) = block-number d (y 6) in
+    let (a5, b5) = and-true (isList l) (leb p 64) (y 3) in
+    let (lo, hi) = and-true (leb 1 b) (leb b 64) i in
+    let w : holderOf (hold s b d .rec) b ≡ s = hold-holder s b d (leb-true 1 b lo) (omega (arith, leb-true b 64 hi, k .units .table)) z in
+    gave-block b (hold s b (change s (putAt b l p) d)) i
+    (subst Right (sym (hold-change s b (putAt b l p) d))
+    (change-right s (putAt b l p) (hold s b d) (hold-open s b d ∙ y 2) (hold-journal s b d ∙ y 7) (hold-stream s b d ∙ y 8) (put-member b l p)
+    (put-good b l p i a5 (leb-true p 64 b5))
+    (λ e. rw (hold-zero s b d e) (put-applies b l p (committed d .lists) (at-zero (λ x. taken l (x .lists) ≡ true) s d e (y 4)) n
+    (at-zero (λ x. predecessorRight (x .lists) l p ≡ true) s d e (y 5))))
+    (λ x e. subst (λ (m : ℕ). holderOf (hold s b d .rec) m ≡ s) (put-puts b l p x e) w)
+    (hold-right s b d (y 2) i z n k)))
+
+pub write-right : (s b : ℕ) (x : List ℕ) (d : Disk) → refusal (writeBlock s b x) d ≡ 0 → Right (accepted (writeBlock s b x) d .disk)
+unfolding questions accepted hasMember applies
+write-right s b x d h =
+    let y = yes-all (writeBlock s b x) d h in
+    let (a5, b5) = and-true (isBlock b) (eqb (length x) 256) (y 3) in
+    change-right s (write b x) d (y 2) (y 5) (y 6) refl (write-good b x a5 (eqb-true (length x) 256 b5))
+    (λ e. at-zero (λ t. placed b (t .lists) ≡ true) s d e (y 4)) (λ n e. none-put e) (right d (y 0) (y 1))
+
+pub deleteBlock-right : (s b : ℕ) (d : Disk) → refusal (deleteBlock s b) d ≡ 0 → Right (accepted (deleteBlock s b) d .disk)
+unfolding questions accepted hasMember applies
+deleteBlock-right s b d h =
+    let y = yes-all (deleteBlock s b) d h in
+    change-right s (delBlock b) d (y 2) (y 5) (y 6) refl (delBlock-good b (y 3))
+    (λ e. at-zero (λ t. placed b (t .lists) ≡ true) s d e (y 4)) (λ n e. none-put e) (right d (y 0) (y 1))
+
+pub deleteList-right : (s l : ℕ) (d : Disk) → refusal (deleteList s l) d ≡ 0 → Right (accepted (deleteList s l) d .disk)
+unfolding questions accepted hasMember applies
+deleteList-right s l d h =
+    let y = yes-all (deleteList s l) d h in
+    change-right s (delList l) d (y 2) (y 5) (y 6) refl (delList-good l (y 3))
+    (λ e. at-zero (λ t. taken l (t .lists) ≡ true) s d e (y 4)) (λ n e. none-put e) (right d (y 0) (y 1))
+
+pub begin-right : (u : ℕ) (d : Disk) → refusal (begin u) d ≡ 0 → Right (accepted (begin u) d .disk)
+unfolding questions accepted
+begin-right u d h =
+    let y = yes-all (begin u) d h in
+    let (a, b) = and-true (leb 1 u) (leb u 4) (y 2) in
+    opening-right u d (leb-true 1 u a) (leb-true u 4 b) (not-false (unitOf d u .opened) (y 3)) (right d (y 0) (y 1))
+
+-- Refusal 12.
+pub conflict-right : (u : ℕ) (d : Disk) → refusal (end u) d ≡ 12 → Right (refused (end u) 12 d)
+unfolding refusal questions refused ends
+conflict-right u d h =
+    let y = past 3 (questions (end u) d) 12 (omega arith) h in
+    let (p, q, _) = unit-range d u (y 2 (omega arith)) in
+    conflicted-right (closing u d) (closing-right u d p q (right d (y 0 (omega arith)) (y 1 (omega arith))))
+
+-- End: the unit closes first, and then its journal and the commit join the queue.
+closing-enqueue : (u : ℕ) (e : Entry Content) (d : Disk) → closing u (enqueue e d) ≡ enqueue e (closing u d)
+unfolding closing enqueue unitOf
+closing-enqueue u e d = refl
+
+closing-enqueueAll : (u : ℕ) (es : List (Entry Content)) (d : Disk) → closing u (enqueueAll es d) ≡ enqueueAll es (closing u d)
+unfolding enqueueAll
+closing-enqueueAll u [] d = refl
+closing-enqueueAll u (e ∷ es) d = closing-enqueueAll u es (enqueue e d) ∙ ap (enqueueAll es) (closing-enqueue u e d)
+
+closing-len : (u : ℕ) (d : Disk) → closing u d .rec .len ≡ d .rec .len
+unfolding closing
+closing-len u d = refl
+
+-- the other units hold nothing that this one's journal puts
+ended-units : (u : ℕ) (d : Disk) (s t : State Content) → 1 ≤ u → u ≤ 4 → applyAll zeros (journalOf d u) s ≡ some t → UnitsRight d s → UnitsRight (closing u d) t
+ended-units u d s t p q a k =
+    units-state (closing u d) s t
+    (λ b x y o n. placed-all zeros (journalOf d u) s t b (journals-apart (d .rec) u (journalOf d u) b (other b o) (k .units u p q .sound)) n a)
+    (closing-units u d s p q k)
+  where
+    other : (b : ℕ) → isOpenUnit (closing u d) (holderOf (closing u d .rec) b) ≡ true → holderOf (d .rec) b ≢ u
+    other b o e = let (x, y, _) = unit-range (closing u d) (holderOf (closing u d .rec) b) o in omega (arith, closing-released u d b e)
+
+pub end-right : (u : ℕ) (d : Disk) → refusal (end u) d ≡ 0 → Right (accepted (end u) d .disk)
+unfolding questions accepted endApplies closing-right
+end-right u d h =
+    let y = yes-all (end u) d h in
+    let k = right d (y 0) (y 1) in
+    let (p, q, _) = unit-range d u (y 2) in
+    let cs = journalOf d u in
+    let (t, a) = some-of (applyAll zeros cs (committed d)) (y 3) in
+    let e : applyAll zeros cs (k .reader .state) ≡ some t = ap (applyAll zeros cs) (sym (committed-is d (k .reader) (k .log .replays))) ∙ a in
+    let x = k .units .units u p q in
+    subst Right (sym (closing-enqueueAll u (unitEntries cs) d))
+    (enqueueAll-right (unitEntries cs) (closing u d) (closing-right u d p q k) (settled t)
+    (omega (arith, closing-len u d, queue-room d (unitOf d u .len + 1) (y 4), unit-entries cs, journal-size d u))
+    (unit-good (d .rec) u cs (x .sound) (omega (arith, journal-size d u, x .room)) (unit-sized d u p q (k .journalData) (x .room)))
+    (replay-unit (k .reader) cs t e) (ended-units u d (k .reader .state) t p q e (k .units)))
+
+-- Mounting and formatting: the record is set anew.
+module _ (d : Disk) (r : d .rec ≡ freshRecord) where
+  fresh-unit : (u : ℕ) → 1 ≤ u → u ≤ 4 → unitOf d u ≡ freshUnit
+  unfolding unitOf freshRecord
+  fresh-unit u p q = rw r (getD-replicate 4 (u - 1) freshUnit noUnit (omega arith))
+
+  fresh-units : (s : State Content) → UnitsRight d s
+  unfolding freshRecord freshUnit all
+  fresh-units s = record {
+    four = rw r;
+    table = rw r;
+    units = λ u p q. let e = fresh-unit u p q in record { places = rw e; room = rw e (omega arith); closed = λ h. rw e; sound = rw (fresh-journal d r u) };
+    holders = λ b p q. inl (rw r (getD-same 64 (b - 1) 0));
+  }
+
+  fresh-right : (z : Reader Content) → cardLength (d .card) ≡ true → length (d .queueData) ≡ 8192 → length (d .journalData) ≡ 15360
+      → readerOf (mounted (d .card)) ≡ some z → Right d
+  unfolding freshRecord all headStanding
+  fresh-right z c q j w = record {
+    reader = z;
+    log = record {
+      card = c;
+      queueData = q;
+      places = rw r;
+      room = rw r (omega arith);
+      head = rw r (omega arith);
+      lawful = rw (fresh-queue d r);
+      replays = fresh-reader d r ∙ w;
+      stands = rw (fresh-queue d r, r);
+    };
+    units = fresh-units (z .state);
+    journalData = j;
+    lastBlock = rw r;
+    lastList = rw r;
+    conflicts = rw r (omega arith);
+  }
+
+pub mount-right : (d : Disk) → refusal mount d ≡ 0 → Right (accepted mount d .disk)
+unfolding questions accepted mountable
+mount-right d h =
+    let y = yes-all mount d h in
+    let (z, e) = some-of (readerOf (mounted (d .card))) (y 1) in
+    fresh-right (withRecord d freshRecord) refl z (card-length d (y 0)) (queue-data d (y 0)) (journal-data d (y 0)) e
+
+-- a formatted card holds nothing
+pub sound-reader : (c : List ℕ) (z : Reader Content) → mounted c ≡ sound z → readerOf (mounted c) ≡ some z
+unfolding readerOf
+sound-reader c z e = rw e
+
+none-replayed : (n : ℕ) → replay zeros start (joined (nils n)) ≡ some start
+unfolding replay
+none-replayed n = rw (joined-nils n)
+
+formatted-empty : (c : List ℕ) → cardLength c ≡ true → Carries (formatted (segmentsIn c) c) (nils (segmentsIn c))
+unfolding formatted
+formatted-empty c h =
+    let n = segmentsIn c in
+    let (a, b) = card-size c h in
+    rw (take-all n (formatStores n) (omega (arith, format-length n))) (formatted-carries n c b a)
+
+pub format-right : (d : Disk) → refusal format d ≡ 0 → Right (accepted format d .disk)
+unfolding questions accepted
+format-right d h =
+    let y = yes-all format d h in
+    let l = card-length d (y 0) in
+    let n = segmentsIn (d .card) in
+    let c = formatted n (d .card) in
+    let k : Carries c (nils n) = formatted-empty (d .card) l in
+    fresh-right (record { card = c; queueData = d .queueData; journalData = d .journalData; rec = freshRecord }) refl start
+    (same-length (d .card) c (k .size ∙ ap (λ (m : ℕ). 4096 * m) (length-replicate n []) ∙ sym (card-size (d .card) l .0)) l)
+    (queue-data d (y 0)) (journal-data d (y 0)) (sound-reader c start (carries-walk c (nils n) start k (none-replayed n)))

@@ -1,0 +1,252 @@
+-- The clauses of the units and of the holders' table, kept: by a block taken to hold, a change journalled, a unit that opens or closes, and a state
+-- that places no held block.
+use mathlib.Core.Path.{_≡_, refl, sym, ap, _∙_, subst}
+use mathlib.Core.Logic.{inl, inr}
+use mathlib.Core.Bool.{true, false, true≢false}
+use mathlib.Core.List.{List, [], _∷_}
+use Prim.Native.Nat.{ℕ, suc, _-_, _≤_, _<_}
+use native.Mathlib.Omega.{arith}
+use native.Mathlib.Decide.{ℕ-discrete}
+use lib.Dec.{eqb}
+use lib.ListN.{length, getD, length-set, length-map}
+use lib.Seq.{getD-set-other}
+use Rattle.lists.specs.Basic.{all}
+use Rattle.lists.specs.Change.{Change, carriedBy}
+use Rattle.lists.specs.State.{State, placed}
+use Rattle.lists.proofs.Basic.{le-true, eq-true, all-append}
+use Rattle.lists.proofs.Count.{puts}
+use Rattle.log.specs.Entry.{member, raw, legal, logChange}
+use Rattle.log.specs.Card.{Content}
+use Rattle.log.proofs.Segment.{Sized}
+use Rattle.disk.specs.declared.record.Unit.{Unit}
+use Rattle.disk.specs.Record.{holderOf, journaled, emptied, released}
+use Rattle.disk.specs.Disk.{Disk, unitOf, journalOf}
+use Rattle.disk.specs.Sound.{isOpenUnit, journalSound}
+use Rattle.disk.specs.Perform.{journalAdd, hold, opening, closing}
+use Rattle.disk.proofs.Questions.{unit-range}
+use Rattle.disk.proofs.Journal.{unit-same, unit-added, unit-added-other, unit-opening, unit-opening-other, unit-closing, unit-closing-other, journal-same, journal-add, journal-other, journal-opening, journal-closing, journal-closing-other, journal-hold}
+use Rattle.disk.proofs.Held.{closing-holder, closing-released, hold-holder, hold-other, puts-all, journals-more}
+use Rattle.disk.proofs.Clauses.{UnitRight, HolderRight, UnitsRight}
+
+open-unit : (d : Disk) (u : ℕ) → 1 ≤ u → u ≤ 4 → unitOf d u .opened ≡ true → isOpenUnit d u ≡ true
+unfolding isOpenUnit
+open-unit d u p q o = rw (le-true 1 u p, le-true u 4 q, o)
+
+-- units that were open are open still
+open-more : (d e : Disk) (u : ℕ) → (1 ≤ u → u ≤ 4 → unitOf d u .opened ≡ true → unitOf e u .opened ≡ true) → isOpenUnit d u ≡ true → isOpenUnit e u ≡ true
+open-more d e u f h = let (p, q, o) = unit-range d u h in open-unit e u p q (f p q o)
+
+-- a unit that stays as it is, and still holds what it held
+unit-kept : (d e : Disk) (u : ℕ) → unitOf e u ≡ unitOf d u → journalOf e u ≡ journalOf d u
+    → ((b : ℕ) → holderOf (d .rec) b ≡ u → holderOf (e .rec) b ≡ u) → UnitRight d u → UnitRight e u
+unit-kept d e u x j f k = record {
+  places = rw x (k .places);
+  room = rw x (k .room);
+  closed = rw x (k .closed);
+  sound = rw j (journals-more (d .rec) (e .rec) u (journalOf d u) f (k .sound));
+}
+
+holder-kept : (d e : Disk) (s : State Content) (b : ℕ) → holderOf (e .rec) b ≡ holderOf (d .rec) b
+    → ((u : ℕ) → holderOf (d .rec) b ≡ u → isOpenUnit d u ≡ true → isOpenUnit e u ≡ true) → HolderRight d s b → HolderRight e s b
+holder-kept d e s b h f (inl z) = inl (h ∙ z)
+holder-kept d e s b h f (inr (o, n)) = inr (rw h (f (holderOf (d .rec) b) refl o), n)
+
+-- The same units, over another state that places no held block.
+pub units-state : (d : Disk) (s t : State Content) → ((b : ℕ) → 1 ≤ b → b ≤ 64 → isOpenUnit d (holderOf (d .rec) b) ≡ true → placed b (s .lists) ≡ false → placed b (t .lists) ≡ false)
+    → UnitsRight d s → UnitsRight d t
+units-state d s t f k = record { four = k .four; table = k .table; units = k .units; holders = λ b p q. go b p q (k .holders b p q) }
+  where
+    go : (b : ℕ) → 1 ≤ b → b ≤ 64 → HolderRight d s b → HolderRight d t b
+    go b p q (inl z) = inl z
+    go b p q (inr (o, n)) = inr (o, f b p q o n)
+
+-- Another disk with the same units and holders.
+pub units-same : (d e : Disk) (s : State Content) → e .journalData ≡ d .journalData → e .rec .units ≡ d .rec .units → e .rec .holder ≡ d .rec .holder → UnitsRight d s → UnitsRight e s
+units-same d e s j u h k = record {
+  four = rw u (k .four);
+  table = rw h (k .table);
+  units = λ v p q. unit-kept d e v (unit v) (journal-same d e v j (unit v)) (λ b x. holder b ∙ x) (k .units v p q);
+  holders = λ b p q. holder-kept d e s b (holder b) (λ v x o. open-more d e v (λ a c y. ap (λ (z : Unit). z .opened) (unit v) ∙ y) o) (k .holders b p q);
+}
+  where
+    unit : (v : ℕ) → unitOf e v ≡ unitOf d v
+    unit v = unit-same d e v u
+
+    holder : (b : ℕ) → holderOf (e .rec) b ≡ holderOf (d .rec) b
+    holder b = ap (λ (hs : List ℕ). getD hs (b - 1) 0) h
+
+-- A free block is taken to hold.
+pub hold-units : (u b : ℕ) (d : Disk) (s : State Content) → isOpenUnit d (suc u) ≡ true → 1 ≤ b → b ≤ 64 → holderOf (d .rec) b ≡ 0 → placed b (s .lists) ≡ false
+    → UnitsRight d s → UnitsRight (hold (suc u) b d) s
+unfolding hold
+hold-units u b d s o p q z n k = record {
+  four = k .four;
+  table = length-set (d .rec .holder) (b - 1) (suc u) ∙ k .table;
+  units = λ v x y. unit-kept d e v (unit v) (journal-hold (suc u) b d v) (λ c h. hold-other (suc u) b c d z (λ w. omega arith) ∙ h) (k .units v x y);
+  holders = λ c x y. go c x y (ℕ-discrete c b);
+}
+  where
+    e : Disk
+    e = hold (suc u) b d
+
+    unit : (v : ℕ) → unitOf e v ≡ unitOf d v
+    unit v = unit-same d e v refl
+
+    still : (v : ℕ) → isOpenUnit d v ≡ true → isOpenUnit e v ≡ true
+    still v h = open-more d e v (λ a c y. ap (λ (z : Unit). z .opened) (unit v) ∙ y) h
+
+    go : (c : ℕ) → 1 ≤ c → c ≤ 64 → Dec (c ≡ b) → HolderRight e s c
+    go c x y (yes w) = inr (rw w (rw (hold-holder (suc u) b d p (omega (arith, k .table)) z) (still (suc u) o)), rw w n)
+    go c x y (no w) =
+        holder-kept d e s c (getD-set-other (d .rec .holder) (b - 1) (c - 1) (suc u) 0 (omega arith)) (λ v h. still v) (k .holders c x y)
+
+-- A change joins unit u's journal: what it puts is held by u.
+module _ (u : ℕ) (c : Change Content) (d : Disk) (s : State Content) (o : isOpenUnit d u ≡ true) (l : length (d .journalData) ≡ 15360) (m : unitOf d u .len < 15)
+    (z : Sized (carriedBy c)) (w : legal (raw 0 (member c)) ≡ true) (f : (b : ℕ) → puts c b ≡ true → holderOf (d .rec) b ≡ u) where
+  abbrev added : Disk
+  added = journalAdd u c d
+
+  added-four : length (d .rec .units) ≡ 4 → length (added .rec .units) ≡ 4
+  unfolding journalAdd
+  added-four h = length-set (d .rec .units) (u - 1) _ ∙ h
+
+  added-holder : added .rec .holder ≡ d .rec .holder
+  unfolding journalAdd
+  added-holder = refl
+
+  added-sound : journalSound (added .rec) u c ≡ true
+  unfolding journalSound
+  added-sound = rw (w, added-holder) (puts-all (λ b. eqb (holderOf (d .rec) b) u) c (λ b e. eq-true (holderOf (d .rec) b) u (f b e)))
+
+  pub journal-units : UnitsRight d s → UnitsRight (journalAdd u c d) s
+  unfolding all
+  journal-units k = record {
+    four = added-four (k .four);
+    table = rw added-holder (k .table);
+    units = λ v x y. unit v x y (ℕ-discrete u v);
+    holders = λ b x y. holder-kept d added s b (holder b) (λ v h. open-more d added v (λ a c y. still v a y (ℕ-discrete u v))) (k .holders b x y);
+  }
+    where
+      p : 1 ≤ u
+      p = unit-range d u o .0
+
+      q : u ≤ 4
+      q = unit-range d u o .1
+
+      e : unitOf added u ≡ journaled (unitOf d u) (logChange c)
+      e = unit-added u c d p q (k .four)
+
+      holder : (b : ℕ) → holderOf (added .rec) b ≡ holderOf (d .rec) b
+      holder b = ap (λ (hs : List ℕ). getD hs (b - 1) 0) added-holder
+
+      still : (v : ℕ) → 1 ≤ v → unitOf d v .opened ≡ true → Dec (u ≡ v) → unitOf added v .opened ≡ true
+      still v a h (yes n) = rw (← n) (ap (λ (x : Unit). x .opened) e ∙ rw n h)
+      still v a h (no n) = ap (λ (x : Unit). x .opened) (unit-added-other u v p a n c d) ∙ h
+
+      own : UnitRight added u
+      own =
+          let x = k .units u p q in
+          record {
+            places = rw e (length-set (unitOf d u .journal) (unitOf d u .len) _ ∙ x .places);
+            room = rw e (omega arith);
+            closed = λ h. absurd (true≢false (sym (unit-range d u o .2) ∙ sym (ap (λ (y : Unit). y .opened) e) ∙ h));
+            sound = rw (journal-add u c d p q l m z (k .four) (x .places))
+                (all-append (journalSound (added .rec) u) (journalOf d u) (c ∷ []) (journals-more (d .rec) (added .rec) u (journalOf d u) (λ b h. holder b ∙ h) (x .sound)) (rw added-sound));
+          }
+
+      unit : (v : ℕ) → 1 ≤ v → v ≤ 4 → Dec (u ≡ v) → UnitRight added v
+      unit v a b (yes n) = subst (UnitRight added) n own
+      unit v a b (no n) =
+          unit-kept d added v (unit-added-other u v p a n c d) (journal-other u c d p q l m z v a b n (k .units v a b .room)) (λ x h. holder x ∙ h) (k .units v a b)
+
+-- A closed unit opens.
+module _ (u : ℕ) (d : Disk) (s : State Content) (p : 1 ≤ u) (q : u ≤ 4) (k : UnitsRight d s) where
+  abbrev begun : Disk
+  begun = opening u d
+
+  begun-four : length (begun .rec .units) ≡ 4
+  unfolding opening
+  begun-four = length-set (d .rec .units) (u - 1) _ ∙ k .four
+
+  begun-holder : begun .rec .holder ≡ d .rec .holder
+  unfolding opening
+  begun-holder = refl
+
+  begun-unit : unitOf begun u ≡ emptied true (unitOf d u)
+  begun-unit = unit-opening u d p q (k .four)
+
+  begun-open : unitOf begun u .opened ≡ true
+  begun-open = ap (λ (x : Unit). x .opened) begun-unit
+
+  pub opening-units : unitOf d u .opened ≡ false → UnitsRight (opening u d) s
+  opening-units c = record {
+    four = begun-four;
+    table = rw begun-holder (k .table);
+    units = λ v x y. unit v x y (ℕ-discrete u v);
+    holders = λ b x y. holder-kept d begun s b (holder b) (λ v h. open-more d begun v (λ a c y. still v a y (ℕ-discrete u v))) (k .holders b x y);
+  }
+    where
+      holder : (b : ℕ) → holderOf (begun .rec) b ≡ holderOf (d .rec) b
+      holder b = ap (λ (hs : List ℕ). getD hs (b - 1) 0) begun-holder
+
+      still : (v : ℕ) → 1 ≤ v → unitOf d v .opened ≡ true → Dec (u ≡ v) → unitOf begun v .opened ≡ true
+      still v a h (yes n) = rw (← n) begun-open
+      still v a h (no n) = ap (λ (x : Unit). x .opened) (unit-opening-other u v p a n d) ∙ h
+
+      own : UnitRight begun u
+      own =
+          let x = k .units u p q in
+          record {
+            places = rw begun-unit (x .places);
+            room = rw begun-unit (omega arith);
+            closed = λ h. absurd (true≢false (sym begun-open ∙ h));
+            sound = rw (journal-opening u u d (x .closed c)) (journals-more (d .rec) (begun .rec) u (journalOf d u) (λ b h. holder b ∙ h) (x .sound));
+          }
+
+      unit : (v : ℕ) → 1 ≤ v → v ≤ 4 → Dec (u ≡ v) → UnitRight begun v
+      unit v a b (yes n) = subst (UnitRight begun) n own
+      unit v a b (no n) =
+          unit-kept d begun v (unit-opening-other u v p a n d) (journal-opening u v d (k .units u p q .closed c)) (λ x h. holder x ∙ h) (k .units v a b)
+
+  -- A unit closes, and gives up what it holds.
+  abbrev ended : Disk
+  ended = closing u d
+
+  ended-four : length (ended .rec .units) ≡ 4
+  unfolding closing
+  ended-four = length-set (d .rec .units) (u - 1) _ ∙ k .four
+
+  ended-table : length (ended .rec .holder) ≡ 64
+  unfolding closing released
+  ended-table = length-map (d .rec .holder) _ ∙ k .table
+
+  ended-unit : unitOf ended u ≡ emptied false (unitOf d u)
+  ended-unit = unit-closing u d p q (k .four)
+
+  pub closing-units : UnitsRight (closing u d) s
+  unfolding all
+  closing-units = record {
+    four = ended-four;
+    table = ended-table;
+    units = λ v x y. unit v x y (ℕ-discrete u v);
+    holders = λ b x y. holder b (k .holders b x y) (ℕ-discrete (holderOf (d .rec) b) u);
+  }
+    where
+      own : UnitRight ended u
+      own = record {
+        places = rw ended-unit (k .units u p q .places);
+        room = rw ended-unit (omega arith);
+        closed = λ h. ap (λ (x : Unit). x .len) ended-unit;
+        sound = rw (journal-closing u d);
+      }
+
+      unit : (v : ℕ) → 1 ≤ v → v ≤ 4 → Dec (u ≡ v) → UnitRight ended v
+      unit v a b (yes n) = subst (UnitRight ended) n own
+      unit v a b (no n) =
+          unit-kept d ended v (unit-closing-other u v p a n d) (journal-closing-other u v d p a n) (λ x h. closing-holder u d x (λ w. n (sym w ∙ h)) ∙ h) (k .units v a b)
+
+      holder : (b : ℕ) → HolderRight d s b → Dec (holderOf (d .rec) b ≡ u) → HolderRight ended s b
+      holder b h (yes w) = inl (closing-released u d b w)
+      holder b h (no w) =
+          holder-kept d ended s b (closing-holder u d b w)
+          (λ v x. open-more d ended v (λ a c o. ap (λ (y : Unit). y .opened) (unit-closing-other u v p a (λ e. w (x ∙ sym e)) d) ∙ o)) h
