@@ -202,9 +202,6 @@ unfolding change streamOpen
 change-right zero c d o j r m g a f k = plain-right c d (stream-room d r) g (a refl) f k
 change-right (suc u) c d o j r m g a f k = journal-right (suc u) c d (rw (eqb·suc-zero u) at o) (journal-room d u j) m g f k
 
-none-put : {A : Type 0} → false ≡ true → A
-none-put h = absurd (false≢true h)
-
 pub newList-right : (s : ℕ) (d : Disk) → refusal (newList s) d ≡ 0 → Right (accepted (newList s) d .disk)
 unfolding questions accepted
 newList-right s d h =
@@ -212,7 +209,7 @@ newList-right s d h =
     let l = orElse 0 (freeList d) in
     let (n, i) = list-number d (y 3) in
     gave-list l (enqueue (plain (takeList l)) d) i
-    (plain-right (takeList l) d (omega (arith, queue-room d 1 (y 4))) (take-good l i) (take-applies l (committed d .lists) n) (λ b e. none-put e) (right d (y 0) (y 1)))
+    (plain-right (takeList l) d (omega (arith, queue-room d 1 (y 4))) (take-good l i) (take-applies l (committed d .lists) n) (λ b e. absurd (false≢true e)) (right d (y 0) (y 1)))
 
 -- the block is held first
 hold-change : (s b : ℕ) (c : Change Content) (d : Disk) → hold s b (change s c d) ≡ change s c (hold s b d)
@@ -275,21 +272,21 @@ write-right s b x d h =
     let y = yes-all (writeBlock s b x) d h in
     let (a5, b5) = and-true (isBlock b) (eqb (length x) 256) (y 3) in
     change-right s (write b x) d (y 2) (y 5) (y 6) refl (write-good b x a5 (eqb-true (length x) 256 b5))
-    (λ e. at-zero (λ t. placed b (t .lists) ≡ true) s d e (y 4)) (λ n e. none-put e) (right d (y 0) (y 1))
+    (λ e. at-zero (λ t. placed b (t .lists) ≡ true) s d e (y 4)) (λ n e. absurd (false≢true e)) (right d (y 0) (y 1))
 
 pub deleteBlock-right : (s b : ℕ) (d : Disk) → refusal (deleteBlock s b) d ≡ 0 → Right (accepted (deleteBlock s b) d .disk)
 unfolding questions accepted hasMember applies
 deleteBlock-right s b d h =
     let y = yes-all (deleteBlock s b) d h in
     change-right s (delBlock b) d (y 2) (y 5) (y 6) refl (delBlock-good b (y 3))
-    (λ e. at-zero (λ t. placed b (t .lists) ≡ true) s d e (y 4)) (λ n e. none-put e) (right d (y 0) (y 1))
+    (λ e. at-zero (λ t. placed b (t .lists) ≡ true) s d e (y 4)) (λ n e. absurd (false≢true e)) (right d (y 0) (y 1))
 
 pub deleteList-right : (s l : ℕ) (d : Disk) → refusal (deleteList s l) d ≡ 0 → Right (accepted (deleteList s l) d .disk)
 unfolding questions accepted hasMember applies
 deleteList-right s l d h =
     let y = yes-all (deleteList s l) d h in
     change-right s (delList l) d (y 2) (y 5) (y 6) refl (delList-good l (y 3))
-    (λ e. at-zero (λ t. taken l (t .lists) ≡ true) s d e (y 4)) (λ n e. none-put e) (right d (y 0) (y 1))
+    (λ e. at-zero (λ t. taken l (t .lists) ≡ true) s d e (y 4)) (λ n e. absurd (false≢true e)) (right d (y 0) (y 1))
 
 pub begin-right : (u : ℕ) (d : Disk) → refusal (begin u) d ≡ 0 → Right (accepted (begin u) d .disk)
 unfolding questions accepted
