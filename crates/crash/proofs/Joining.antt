@@ -17,7 +17,7 @@ use Rattle.log.proofs.Segment.{Sized, carries-walk}
 use Rattle.log.proofs.Places.{Good}
 use Rattle.log.proofs.Flows.{AllGood, flows-append}
 use Rattle.disk.specs.Disk.{Disk, queued, unitOf, journalOf, readerOf, committedReader, committed}
-use Rattle.disk.specs.Perform.{enqueue, enqueueAll, journalAdd, unitEntries}
+use Rattle.disk.specs.Perform.{enqueue, enqueueAll, journalAdd, closing as closingUnit, unitEntries}
 use Rattle.disk.proofs.Queue.{queued-add, AllSized, queued-all, beside-one, beside-all, queued-journal, queued-closing}
 use Rattle.disk.proofs.Journal.{journal-add, journal-other, journal-enqueue, journal-enqueueAll, journal-closing, journal-closing-other, unit-entries}
 use Rattle.disk.proofs.Clauses.{Right, committed-is}

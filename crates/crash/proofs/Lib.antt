@@ -10,3 +10,4 @@ pub mod Invariant
 pub mod Cuts
 pub mod Flushing
 pub mod Joining
+pub mod Calls
