@@ -14,3 +14,4 @@ pub mod Flows
 pub mod EntryBytes
 pub mod LegalEntry
 pub mod CardLength
+pub mod Parsing

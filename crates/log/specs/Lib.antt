@@ -3,3 +3,4 @@ pub mod Reader
 pub mod Card
 pub mod Store
 pub mod Flush
+pub mod Parse

@@ -5,5 +5,6 @@ pub mod format;
 pub mod layout;
 pub mod legal;
 pub mod map;
+pub mod parse;
 pub mod place;
 pub mod store;
