@@ -11,3 +11,5 @@ pub mod KnownRuns
 pub mod Growth
 pub mod Units
 pub mod KeepsSound
+pub mod Standing
+pub mod Draining
