@@ -1,0 +1,2 @@
+// Text in lent buffers: what the programs print is put together here, and the lines that they read are taken apart.
+pub mod put;
