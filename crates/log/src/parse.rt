@@ -1,14 +1,16 @@
 // The reader's side of an entry: its fields are picked from the map, and its numbers are judged.
 use super::entry::LogEntry;
+use super::legal::both;
+use super::legal::is_block;
+use super::legal::is_list;
 use super::map;
 ghost use mathlib.Core.Path.{_≡_};
 ghost use mathlib.Core.Logic.{_≢_};
-ghost use mathlib.Core.Bool.{_&&_};
 ghost use Prim.Native.Nat.{_+_, _-_, _<_, _≤_};
 ghost use lib.Bits.{bitAnd};
 ghost use lib.Count.{ones};
 ghost use lib.ListN.{length};
-ghost use Rattle.log.specs.Entry.{isBlock, isList, isSlot, isCount};
+ghost use Rattle.log.specs.Entry.{isSlot, isCount};
 ghost use Rattle.log.specs.Parse.{byteAt, Inside, parsedOf, decodedAt};
 
 // The maps of the kinds, without the mark of a member.
@@ -140,18 +142,6 @@ pub fn byte_at(card: &[u8], at: usize, end: usize) -> u8
     if at < end { card[at] } else { 0 }
 }
 
-fn is_block(b: u8) -> bool
-    ensures { λ r. ⌜ r ≡ isBlock b ⌝ }
-{
-    both(1 <= b, b <= LogEntry::BLOCKS)
-}
-
-fn is_list(l: u8) -> bool
-    ensures { λ r. ⌜ r ≡ isList l ⌝ }
-{
-    both(1 <= l, l <= LogEntry::LISTS)
-}
-
 fn is_slot(s: u8) -> bool
     ensures { λ r. ⌜ r ≡ isSlot s ⌝ }
 {
@@ -162,10 +152,4 @@ fn is_count(n: u8) -> bool
     ensures { λ r. ⌜ r ≡ isCount n ⌝ }
 {
     n <= LogEntry::MEMBERS
-}
-
-fn both(a: bool, b: bool) -> bool
-    ensures { λ r. ⌜ r ≡ (a && b) ⌝ }
-{
-    if a { b } else { false }
 }
