@@ -4,10 +4,11 @@ use mathlib.Core.Option.{Option, none, some}
 use mathlib.Core.List.{List, [], _∷_, _++_, map}
 use Prim.Native.Nat.{ℕ, zero, suc, _+_, _-_, _*_, _/_, _%_, min}
 use lib.Dec.{eqb}
-use lib.ListN.{length, drop, take, getD, set}
+use lib.ListN.{length, drop, take, set}
 use Rattle.lists.specs.Basic.{orElse}
 use Rattle.lists.specs.Change.{Change, takeList, putFirst, putAfter, write, delBlock, delList, carriedBy}
-use Rattle.lists.specs.State.{Block, Row, State}
+use Rattle.lists.specs.State.{Row, State}
+use Rattle.lists.specs.Lookup.{contentOf, nextAfter}
 use Rattle.log.specs.declared.entry.LogEntry.the-variants.{Commit}
 use Rattle.log.specs.Entry.{Entry, plain, member, commit, carried, logChange}
 use Rattle.log.specs.Card.{Content, zeros, slotBytes, segmentsIn, Outcome, sound, fault, mounted}
@@ -104,27 +105,6 @@ unitEntries cs = map member cs ++ commit (length cs) ∷ []
 -- put first where the predecessor is 0
 unfoldable pub putAt : ℕ → ℕ → ℕ → Change Content
 putAt b l p = elim p [ zero ↦ putFirst b l | suc q ↦ putAfter b l (suc q) ]
-
--- the content of a block of a state
-unfoldable pub contentIn : List (Block Content) → ℕ → Option Content
-contentIn [] b = none
-contentIn (x ∷ xs) b = elim (eqb (x .num) b) [ true ↦ some (x .content) | false ↦ contentIn xs b ]
-
-unfoldable pub contentOf : List (Row Content) → ℕ → Option Content
-contentOf [] b = none
-contentOf (r ∷ rs) b = elim (contentIn (r .blocks) b) [ none ↦ contentOf rs b | some x ↦ some x ]
-
--- "the block after a given one on a list (0 for the first; 0 is returned at the end [..])"
-unfoldable pub blocksOf : List (Row Content) → ℕ → List ℕ
-blocksOf [] l = []
-blocksOf (r ∷ rs) l = elim (eqb (r .num) l) [ true ↦ map (λ x. x .num) (r .blocks) | false ↦ blocksOf rs l ]
-
-unfoldable pub nextIn : ℕ → List ℕ → ℕ
-nextIn p [] = 0
-nextIn p (x ∷ xs) = elim (eqb x p) [ true ↦ getD xs 0 0 | false ↦ nextIn p xs ]
-
-unfoldable pub nextAfter : List (Row Content) → ℕ → ℕ → ℕ
-nextAfter rs l p = nextIn p (0 ∷ blocksOf rs l)
 
 -- the lists taken in a state, in the order of their taking: the inventory's order, which its promise (Inventory) leaves open
 unfoldable pub listsOf : State Content → List ℕ
