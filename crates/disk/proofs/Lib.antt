@@ -13,3 +13,5 @@ pub mod Units
 pub mod KeepsSound
 pub mod Standing
 pub mod Draining
+pub mod Performed
+pub mod Soundness

@@ -1,0 +1,125 @@
+-- "Every accepted call, and refusal 12, leaves a record that is sound by question 3; this is proved.": `leaves-sound`, on any card, record and data.
+-- So a sound disk stays sound whatever is called (`stays-sound`), and on a sound disk no call is refused 1, 2 or 3 (`never-refused`).
+use mathlib.Core.Path.{_≡_, refl, sym, ap, _∙_, subst}
+use mathlib.Core.Logic.{_⊎_, inl, inr}
+use mathlib.Core.Bool.{Bool, true, false, _||_}
+use mathlib.Core.List.{List, [], _∷_}
+use Prim.Native.Nat.{ℕ, zero, suc, _≤_}
+use native.Mathlib.Decide.{ℕ-discrete}
+use lib.Dec.{leb}
+use Rattle.lists.specs.Basic.{all}
+use Rattle.lists.proofs.Basic.{and-true, leb-true, bind-some, is-some}
+use Rattle.log.specs.Reader.{replay}
+use Rattle.log.specs.Card.{zeros, mounted}
+use Rattle.disk.specs.Disk.{Disk, queued, readerOf, committedReader}
+use Rattle.disk.specs.Sound.{lengthsRight, recordSound}
+use Rattle.disk.specs.Call.{Call, format, mount, conflictCount, newList, newBlock, writeBlock, readBlock, deleteBlock, deleteList, begin, end, flush, blockAfter, inventory}
+use Rattle.disk.specs.Questions.{mountable, questions, ask, firstNo, refusal}
+use Rattle.disk.specs.Perform.{accepted, refused, perform, performAll}
+use Rattle.disk.proofs.Questions.{test, yes-all, twelve-end}
+use Rattle.disk.proofs.Clauses.{Right, right, right-sound, right-lengths}
+use Rattle.disk.proofs.KeepsSound.{begin-right, conflict-right, newList-right, newBlock-right, write-right, deleteBlock-right, deleteList-right, end-right, mount-right, format-right}
+use Rattle.disk.proofs.Draining.{flush-right}
+use Rattle.disk.proofs.Performed.{perform-accepted, perform-refused, refused-same}
+
+-- a call that changes nothing, and whose first two questions are 1 and 3
+looked : (c : Call) (d : Disk) → refusal c d ≡ 0 → test (questions c d) 0 ≡ lengthsRight d → test (questions c d) 1 ≡ recordSound d → Right d
+looked c d h p q = right d (sym p ∙ yes-all c d h 0) (sym q ∙ yes-all c d h 1)
+
+accepted-right : (c : Call) (d : Disk) → refusal c d ≡ 0 → Right (accepted c d .disk)
+unfolding questions accepted
+accepted-right format d h = format-right d h
+accepted-right mount d h = mount-right d h
+accepted-right conflictCount d h = looked conflictCount d h refl refl
+accepted-right (newList s) d h = newList-right s d h
+accepted-right (newBlock s l p) d h = newBlock-right s l p d h
+accepted-right (writeBlock s b x) d h = write-right s b x d h
+accepted-right (readBlock v b x) d h = looked (readBlock v b x) d h refl refl
+accepted-right (deleteBlock s b) d h = deleteBlock-right s b d h
+accepted-right (deleteList s l) d h = deleteList-right s l d h
+accepted-right (begin u) d h = begin-right u d h
+accepted-right (end u) d h = end-right u d h
+accepted-right (flush a) d h = flush-right a d h
+accepted-right (blockAfter v l p) d h = looked (blockAfter v l p) d h refl refl
+accepted-right (inventory v x) d h = looked (inventory v x) d h refl refl
+
+twelve-right : (c : Call) (d : Disk) → refusal c d ≡ 12 → Right (refused c 12 d)
+twelve-right c d h =
+    let (u, e) = twelve-end c d h in
+    subst (λ (x : Call). Right (refused x 12 d)) (sym e) (conflict-right u d (sym (ap (λ (x : Call). refusal x d) e) ∙ h))
+
+pub leaves-right : (c : Call) (d : Disk) → (refusal c d ≡ 0) ⊎ (refusal c d ≡ 12) → Right (perform c d .disk)
+leaves-right c d (inl h) = rw (perform-accepted c d h) (accepted-right c d h)
+leaves-right c d (inr h) = rw (perform-refused c d 11 h) (twelve-right c d h)
+
+-- beyond refusal 12 a refusal changes nothing
+pub stays-right : (c : Call) (d : Disk) → Right d → Right (perform c d .disk)
+stays-right c d r = go (refusal c d) refl
+  where
+    twelve : (n : ℕ) → refusal c d ≡ suc n → Dec (suc n ≡ 12) → Right (perform c d .disk)
+    twelve n e (yes q) = leaves-right c d (inr (e ∙ q))
+    twelve n e (no q) = rw (perform-refused c d n e ∙ refused-same c (suc n) d q) r
+
+    go : (n : ℕ) → refusal c d ≡ n → Right (perform c d .disk)
+    go zero e = leaves-right c d (inl e)
+    go (suc n) e = twelve n e (ℕ-discrete (suc n) 12)
+
+-- Questions 1, 2 and 3 on a sound disk: each question has a number from 4 on, or is answered yes.
+late : ℕ × Bool → Bool
+late q = leb 4 (q .0) || q .1
+
+ask-late : (b : Bool) (n k : ℕ) → leb 4 n || b ≡ true → (k ≡ 0) ⊎ (4 ≤ k) → (ask b n k ≡ 0) ⊎ (4 ≤ ask b n k)
+unfolding ask
+ask-late true n k h l = l
+ask-late false n k h l = inr (leb-true 4 n (or-false (leb 4 n) h))
+  where
+    or-false : (b : Bool) → b || false ≡ true → b ≡ true
+    or-false true h = refl
+    or-false false h = h
+
+first-late : (qs : List (ℕ × Bool)) → all late qs ≡ true → (firstNo qs ≡ 0) ⊎ (4 ≤ firstNo qs)
+unfolding firstNo all late
+first-late [] h = inl refl
+first-late (q ∷ qs) h = let (a, b) = and-true (late q) (all late qs) h in ask-late (q .1) (q .0) (firstNo qs) a (first-late qs b)
+
+questions-late : (c : Call) (d : Disk) → lengthsRight d ≡ true → recordSound d ≡ true → mountable d ≡ true → all late (questions c d) ≡ true
+unfolding questions all late
+questions-late format d l s m = rw l
+questions-late mount d l s m = rw (l, m)
+questions-late conflictCount d l s m = rw (l, s)
+questions-late (newList t) d l s m = rw (l, s)
+questions-late (newBlock t a p) d l s m = rw (l, s)
+questions-late (writeBlock t b x) d l s m = rw (l, s)
+questions-late (readBlock v b x) d l s m = rw (l, s)
+questions-late (deleteBlock t b) d l s m = rw (l, s)
+questions-late (deleteList t a) d l s m = rw (l, s)
+questions-late (begin u) d l s m = rw (l, s)
+questions-late (end u) d l s m = rw (l, s)
+questions-late (flush a) d l s m = rw (l, s)
+questions-late (blockAfter v a p) d l s m = rw (l, s)
+questions-late (inventory v x) d l s m = rw (l, s)
+
+mounts : (d : Disk) → Right d → mountable d ≡ true
+unfolding mountable committedReader
+mounts d k =
+    let (r, p, u) = bind-some (readerOf (mounted (d .card))) (λ r. replay zeros r (queued d)) (k .reader) (k .log .replays) in
+    is-some (readerOf (mounted (d .card))) r p
+
+-- What is claimed. Every accepted call, and refusal 12, leaves a sound record, from any disk.
+pub leaves-sound : (c : Call) (d : Disk) → (refusal c d ≡ 0) ⊎ (refusal c d ≡ 12)
+    → (lengthsRight (perform c d .disk) ≡ true) × (recordSound (perform c d .disk) ≡ true)
+leaves-sound c d h = let k = leaves-right c d h in (right-lengths (perform c d .disk) k, right-sound (perform c d .disk) k)
+
+-- A sound disk stays sound whatever is called.
+pub stays-sound : (cs : List Call) (d : Disk) → lengthsRight d ≡ true → recordSound d ≡ true
+    → (lengthsRight (performAll cs d) ≡ true) × (recordSound (performAll cs d) ≡ true)
+unfolding performAll
+stays-sound [] d l r = (l, r)
+stays-sound (c ∷ cs) d l r =
+    let k = stays-right c d (right d l r) in
+    stays-sound cs (perform c d .disk) (right-lengths (perform c d .disk) k) (right-sound (perform c d .disk) k)
+
+-- On a sound disk no call is refused 1, 2 or 3.
+pub never-refused : (c : Call) (d : Disk) → lengthsRight d ≡ true → recordSound d ≡ true → (refusal c d ≡ 0) ⊎ (4 ≤ refusal c d)
+unfolding refusal
+never-refused c d l s = first-late (questions c d) (questions-late c d l s (mounts d (right d l s)))
