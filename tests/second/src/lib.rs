@@ -4,12 +4,15 @@
 //! It is plain: every call walks the log again, and every state is a handful of fixed tables. Reading order:
 //! [`entry`] (entries and their bytes), [`state`] (what they act on), [`log`] (how they stand on the card),
 //! [`record`] (queue, journals, question 3), [`disk`] (the calls), then the programs' parts, [`lister`] and [`shell`].
+//! [`generator`] writes random scripts for both shells.
 
 pub mod disk;
 pub mod entry;
+pub mod generator;
 pub mod limits;
 pub mod lister;
 pub mod log;
+pub mod random;
 pub mod record;
 pub mod shell;
 pub mod state;

@@ -171,6 +171,11 @@ impl Record {
         usize::from(self.queue_length)
     }
 
+    /// The entries of the queue, the head first.
+    pub fn queue(&self) -> impl Iterator<Item = Entry> + '_ {
+        (0..self.queue_length()).map(|number| self.queue[self.place(number)])
+    }
+
     /// Entries that the queue still takes.
     pub fn queue_room(&self) -> usize {
         QUEUE - self.queue_length()

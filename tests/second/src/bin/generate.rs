@@ -1,0 +1,48 @@
+//! `generate SEED [LINES]`: prints a random script for the shell, which follows from its seed.
+//!
+//! `generate --card SEED` prints a random card for the lister.
+
+use std::io::{self, BufWriter, Write};
+use std::process::ExitCode;
+
+use second::generator;
+
+fn main() -> ExitCode {
+    let arguments: Vec<String> = std::env::args().skip(1).collect();
+    let words: Vec<&str> = arguments.iter().map(String::as_str).collect();
+    let printed = match words[..] {
+        ["--card", seed] => seed.parse().ok().map(print_card),
+        [seed] => seed.parse().ok().map(|seed| print_script(seed, None)),
+        [seed, lines] => match (seed.parse(), lines.parse()) {
+            (Ok(seed), Ok(lines)) => Some(print_script(seed, Some(lines))),
+            _ => None,
+        },
+        _ => None,
+    };
+    match printed {
+        Some(Ok(())) => ExitCode::SUCCESS,
+        Some(Err(error)) => {
+            eprintln!("generate: {error}");
+            ExitCode::FAILURE
+        }
+        None => {
+            eprintln!("generate SEED [LINES], or generate --card SEED");
+            ExitCode::from(2)
+        }
+    }
+}
+
+fn print_script(seed: u64, lines: Option<usize>) -> io::Result<()> {
+    let mut script = Vec::new();
+    generator::generate(seed, lines, &mut |line, _, _| {
+        script.extend_from_slice(line);
+        script.push(b'\n');
+    });
+    io::stdout().lock().write_all(&script)
+}
+
+fn print_card(seed: u64) -> io::Result<()> {
+    let mut output = BufWriter::new(io::stdout().lock());
+    output.write_all(&generator::card(seed))?;
+    output.flush()
+}

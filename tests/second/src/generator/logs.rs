@@ -1,0 +1,298 @@
+//! Logs that are stored byte by byte: acceptable ones that no flush would leave, with long runs and segments opened
+//! early, and ones with a single fault.
+
+use super::arguments::blocks_of;
+use super::Generator;
+use crate::entry::{Change, Entry};
+use crate::limits::{BLOCKS, BLOCK_BYTES, ENTRY_BYTES, JOURNAL, LISTS, SEGMENT_BYTES, SLOTS};
+use crate::log::{count_at, entries_at, slot_at};
+use crate::random::Random;
+use crate::state::{Content, Reading, State};
+
+impl Generator<'_> {
+    /// Another card is put in, a log is stored on it byte by byte, and it is mounted.
+    pub(super) fn stored_log(&mut self) {
+        let segments = self.segments_of_profile();
+        let log = random_log(&mut self.random, segments);
+        let stores = log.iter().filter(|&&byte| byte != 0).count();
+        if stores + 10 > self.lines_left {
+            return self.any_call();
+        }
+        self.run(format_args!("card {} 0", log.len()));
+        self.damage.clear();
+        for (at, &byte) in log.iter().enumerate().filter(|(_, &byte)| byte != 0) {
+            self.run(format_args!("poke {at} {byte}"));
+        }
+        self.run(format_args!("list"));
+        self.run(format_args!("mount"));
+        self.run(format_args!("show 0"));
+        self.run(format_args!("sum"));
+    }
+}
+
+/// A card of so many segments with a random log, most of the time an acceptable one.
+pub(super) fn random_log(random: &mut Random, segments: usize) -> Vec<u8> {
+    let mut writer = Writer::new(segments);
+    if random.chance(if segments > 16 { 60 } else { 20 }) {
+        writer.write_sparse_log(random);
+    } else {
+        if random.chance(25) {
+            writer.fill(random.between(0, 9) as usize);
+        }
+        writer.write_log(random);
+    }
+    match random.below(20) {
+        0..=8 => writer.add_fault(random),
+        9..=10 => {
+            writer.add_dead_members(random, 30);
+        }
+        _ => {}
+    }
+    writer.card
+}
+
+/// A log being stored, with the state that it makes.
+struct Writer {
+    card: Vec<u8>,
+    segment: usize,
+    bytes: usize,
+    slots: u8,
+    reading: Reading,
+}
+
+impl Writer {
+    fn new(segments: usize) -> Writer {
+        Writer {
+            card: vec![0; segments * SEGMENT_BYTES],
+            segment: 0,
+            bytes: 0,
+            slots: 0,
+            reading: Reading::START,
+        }
+    }
+
+    /// Plain entries, units and dead members, segments opened early now and then.
+    fn write_log(&mut self, random: &mut Random) {
+        let (steps, opens_early) = random.pick(&[(1, 0), (5, 20), (10, 5), (20, 2), (40, 5), (20, 60)]);
+        for _ in 0..steps {
+            if random.chance(opens_early) {
+                self.open_segment();
+            }
+            let is_added = match random.below(20) {
+                0..=9 => self.add_plain(random),
+                10..=17 => self.add_unit(random),
+                18 => self.add_dead_members(random, 20),
+                _ => self.add(random, Entry::Commit { members: 0 }),
+            };
+            if !is_added {
+                break;
+            }
+        }
+    }
+
+    /// Few entries in each segment, most of the time in all segments.
+    fn write_sparse_log(&mut self, random: &mut Random) {
+        let has_members = random.chance(50);
+        loop {
+            let is_added = if has_members && random.chance(60) {
+                let change = any_member_change(random);
+                self.add(random, Entry::Member(change))
+            } else {
+                self.add_plain(random)
+            };
+            if !is_added || !self.open_segment() || random.chance(1) {
+                break;
+            }
+        }
+    }
+
+    fn add_plain(&mut self, random: &mut Random) -> bool {
+        let change = change_of(random, &self.reading.state);
+        self.add(random, Entry::Plain(change))
+    }
+
+    /// Opens the next segment, if this one is in use and there is one.
+    fn open_segment(&mut self) -> bool {
+        let is_used = self.card[count_at(self.segment)] != 0;
+        let opens = is_used && (self.segment + 2) * SEGMENT_BYTES <= self.card.len();
+        if opens {
+            self.segment += 1;
+            self.bytes = 0;
+            self.slots = 0;
+        }
+        opens
+    }
+
+    /// Stores an entry with some data, if there is room. An entry that doesn't apply is stored all the same.
+    fn add(&mut self, random: &mut Random, entry: Entry) -> bool {
+        let has_slot = !entry.is_write() || self.slots < SLOTS;
+        let fits = has_slot && self.bytes + entry.length() <= ENTRY_BYTES;
+        if !fits && !self.open_segment() {
+            return false;
+        }
+        if entry.is_write() {
+            let data = slot_at(self.segment, self.slots);
+            for _ in 0..2 {
+                self.card[data + random.below(BLOCK_BYTES as u64) as usize] = random.byte();
+            }
+        }
+        self.store(entry.encode(self.slots).bytes());
+        self.slots += u8::from(entry.is_write());
+        // The writer goes on behind a fault as if the entry were not there.
+        let mut reading = self.reading;
+        if reading.read(entry, Content::Zeros).is_ok() {
+            self.reading = reading;
+        }
+        true
+    }
+
+    fn store(&mut self, bytes: &[u8]) {
+        let at = entries_at(self.segment) + self.bytes;
+        self.card[at..][..bytes.len()].copy_from_slice(bytes);
+        self.bytes += bytes.len();
+        self.card[count_at(self.segment)] += 1;
+    }
+
+    /// Empty commits until only `left` bytes of the summary are left, or one more.
+    fn fill(&mut self, left: usize) {
+        while self.bytes + 2 <= ENTRY_BYTES - left {
+            self.store(Entry::Commit { members: 0 }.encode(0).bytes());
+        }
+    }
+
+    /// Members that no commit takes.
+    fn add_dead_members(&mut self, random: &mut Random, most: u64) -> bool {
+        for _ in 0..random.below(most + 1) {
+            let change = any_member_change(random);
+            if !self.add(random, Entry::Member(change)) {
+                return false;
+            }
+        }
+        true
+    }
+
+    /// Dead members now and then, members that apply, and their commit.
+    fn add_unit(&mut self, random: &mut Random) -> bool {
+        let dead_members = random.pick(&[0, 0, 0, 4, 20]);
+        if !self.add_dead_members(random, dead_members) {
+            return false;
+        }
+        let mut view = self.reading.state;
+        let mut members = 0;
+        for _ in 0..random.pick(&[0, 1, 2, 3, 4, JOURNAL]) {
+            let change = change_of(random, &view);
+            if !change.has_member_map() || !view.apply(change, Content::Zeros) {
+                continue;
+            }
+            if !self.add(random, Entry::Member(change)) {
+                return false;
+            }
+            members += 1;
+        }
+        self.add(random, Entry::Commit { members })
+    }
+
+    /// One fault, of any kind; entries may follow it.
+    fn add_fault(&mut self, random: &mut Random) {
+        let state = self.reading.state;
+        match random.below(9) {
+            0 => {
+                if self.bytes + 2 < ENTRY_BYTES {
+                    self.store(&[random.byte(), random.byte()]);
+                }
+            }
+            1 => self.card[count_at(self.segment)] = random.byte(),
+            2 => {
+                let segments = self.card.len() / SEGMENT_BYTES;
+                self.card[count_at(random.below(segments as u64) as usize)] = random.byte();
+            }
+            3 => {
+                let block = random.pick_if_any(&blocks_of(&state)).unwrap_or(1);
+                if self.bytes + 3 < ENTRY_BYTES {
+                    self.store(&[random.pick(&[9, 137]), block, random.below(16) as u8]);
+                }
+            }
+            7 => {
+                // The summary ends in the middle of an entry.
+                let left = random.between(1, 3) as usize;
+                self.fill(left);
+                let put_after = [random.pick(&[7, 135]), 1, 1];
+                let length = ENTRY_BYTES - self.bytes;
+                self.store(&put_after[..length.min(3)]);
+            }
+            4 => {
+                let members = random.below(JOURNAL as u64 + 1) as u8;
+                self.add(random, Entry::Commit { members });
+            }
+            5 => {
+                let change = any_member_change(random);
+                self.add(random, Entry::Plain(change));
+            }
+            6 => {
+                let change = any_member_change(random);
+                self.add(random, Entry::Member(change));
+                self.add(random, Entry::Commit { members: 1 });
+            }
+            _ => {
+                let at = entries_at(self.segment) + random.below(self.bytes as u64 + 1) as usize;
+                self.card[at] = random.byte();
+            }
+        }
+        if random.chance(50) {
+            self.add_unit(random);
+        }
+    }
+}
+
+/// A change that applies to `state`.
+fn change_of(random: &mut Random, state: &State) -> Change {
+    let blocks = blocks_of(state);
+    let free_lists: Vec<u8> = (1..=LISTS).filter(|&list| !state.is_taken(list)).collect();
+    let free_blocks: Vec<u8> = (1..=BLOCKS).filter(|&block| !state.is_on_a_list(block)).collect();
+    let kind = random.below(20);
+    if let (0..=1, Some(list)) = (kind, random.pick_if_any(state.lists())) {
+        return Change::DeleteList { list };
+    }
+    if let (2..=4, Some(block)) = (kind, random.pick_if_any(&blocks)) {
+        return Change::DeleteBlock { block };
+    }
+    if let (5..=9, Some(block)) = (kind, random.pick_if_any(&blocks)) {
+        return Change::Write { block };
+    }
+    let (list, block) = (random.pick_if_any(state.lists()), random.pick_if_any(&free_blocks));
+    if let (10..=18, Some(list), Some(block)) = (kind, list, block) {
+        let before: Vec<u8> = state.blocks_on(list).collect();
+        return match random.pick_if_any(&before).filter(|_| kind > 12) {
+            None => Change::PutFirst { block, list },
+            Some(predecessor) => Change::PutAfter {
+                block,
+                list,
+                predecessor,
+            },
+        };
+    }
+    match random.pick_if_any(&free_lists) {
+        Some(list) => Change::TakeList { list },
+        None => Change::DeleteList {
+            list: random.pick(state.lists()),
+        },
+    }
+}
+
+/// A change of a kind that has a member map, with any numbers in range.
+fn any_member_change(random: &mut Random) -> Change {
+    let list = random.between(1, u64::from(LISTS)) as u8;
+    let block = random.between(1, u64::from(BLOCKS)) as u8;
+    let predecessor = random.between(1, u64::from(BLOCKS)) as u8;
+    random.pick(&[
+        Change::PutFirst { block, list },
+        Change::PutAfter {
+            block,
+            list,
+            predecessor,
+        },
+        Change::Write { block },
+        Change::DeleteBlock { block },
+        Change::DeleteList { list },
+    ])
+}

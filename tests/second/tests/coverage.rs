@@ -1,0 +1,234 @@
+//! What the generator's scripts reach: every refusal that a call can meet, every ending of a flush, every fault of a
+//! log, and the states that are hard to come by.
+
+use std::collections::BTreeMap;
+
+use second::entry::Cause;
+use second::generator::{card, generate};
+use second::limits::{BLOCKS, BLOCK_BYTES, JOURNAL, LISTS, QUEUE, SEGMENT_BYTES, UNITS};
+use second::lister;
+use second::log::{stores_of, Log};
+use second::shell::Shell;
+
+const SEEDS: u64 = 200;
+
+/// The questions that each call asks; it is accepted too.
+const QUESTIONS: &[(&str, &[u64])] = &[
+    ("format", &[1]),
+    ("mount", &[1, 2]),
+    ("newlist", &[1, 3, 4, 10, 13]),
+    ("newblock", &[1, 3, 4, 5, 7, 9, 10, 11, 13]),
+    ("write", &[1, 3, 4, 5, 8, 11, 13]),
+    ("delblock", &[1, 3, 4, 5, 8, 11, 13]),
+    ("dellist", &[1, 3, 4, 5, 7, 11, 13]),
+    ("read", &[1, 3, 4, 5, 8]),
+    ("begin", &[1, 3, 4, 6]),
+    ("end", &[1, 3, 4, 12, 13]),
+    ("flush", &[1, 3, 5]),
+    ("next", &[1, 3, 4, 5, 7, 9]),
+    ("conflicts", &[1, 3]),
+    ("inventory", &[1, 3, 4, 5]),
+];
+
+/// How often something was reached.
+#[derive(Default)]
+struct Reached(BTreeMap<String, u64>);
+
+impl Reached {
+    fn add(&mut self, what: impl Into<String>) {
+        *self.0.entry(what.into()).or_default() += 1;
+    }
+
+    fn add_if(&mut self, is_reached: bool, what: &str) {
+        if is_reached {
+            self.add(what);
+        }
+    }
+
+    fn assert(&self, what: &str) {
+        assert!(self.0.contains_key(what), "not reached: {what}");
+    }
+
+    fn observe(&mut self, line: &[u8], printed: &str, shell: &mut Shell) {
+        let line = String::from_utf8_lossy(line);
+        let command = line.split_ascii_whitespace().next().unwrap_or("").to_string();
+        if printed == "?\n" {
+            return self.add("no command");
+        }
+        let answer = printed.split_ascii_whitespace().next().unwrap_or("");
+        self.add_if(
+            QUESTIONS.iter().any(|&(call, _)| call == command),
+            &format!("{command} {answer}"),
+        );
+        match command.as_str() {
+            "mount" if answer == "2" => {
+                if let Err(fault) = Log::read(shell.lent().card) {
+                    self.add(format!("fault {:?}", fault.cause));
+                }
+            }
+            "mount" if answer == "0" => self.observe_log(shell),
+            "flush" if answer == "0" => self.observe_flush(printed, shell),
+            _ => {}
+        }
+        self.observe_record(shell);
+    }
+
+    fn observe_log(&mut self, shell: &mut Shell) {
+        let card = shell.lent().card;
+        let Ok(log) = Log::read(card) else { return };
+        self.add_if(log.reading.run.length() > 0, "dead members at the end");
+        self.add_if(log.reading.run.length() > JOURNAL, "a run longer than a commit");
+        self.add_if(log.used == card.len() / SEGMENT_BYTES, "every segment in use");
+        self.add_if(log.used > 16, "more than 16 segments in use");
+        self.add_if(log.used == 64, "64 segments in use");
+        self.add_if(log.end.count == 255, "255 entries in a segment");
+        self.add_if(log.end.bytes == 511, "511 bytes in a segment");
+        self.add_if(log.end.slots == 14, "14 slots in a segment");
+    }
+
+    fn observe_flush(&mut self, printed: &str, shell: &mut Shell) {
+        let ending = printed.split_ascii_whitespace().last().unwrap_or("");
+        self.add(format!("ending {ending}"));
+        let record = shell.record();
+        let Some(head) = record.head() else { return };
+        let (done, total) = (record.done(), stores_of(head));
+        let is_in_data = head.is_write() && done < BLOCK_BYTES;
+        self.add_if(done > 0 && is_in_data, "stopped in data");
+        self.add_if(head.is_write() && done == BLOCK_BYTES, "stopped behind data");
+        self.add_if(done > 0 && !is_in_data && done + 1 < total, "stopped in an entry");
+        self.add_if(done + 1 == total, "stopped before a count");
+        self.add_if(
+            record.head_place() > 0 && record.head_place() + record.queue_length() > QUEUE,
+            "the ring closed",
+        );
+    }
+
+    fn observe_record(&mut self, shell: &mut Shell) {
+        let [card, _, _] = shell.lengths_lent();
+        let is_part = card < shell.card().len();
+        let record = *shell.record();
+        let Some(versions) = shell.versions() else { return };
+        self.add_if(is_part, "a part of the card in use");
+        self.add_if(is_part && record.done() > 0, "a part of the card in use, stores done");
+        self.add_if(record.queue_length() == QUEUE, "a full queue");
+        self.add_if(record.conflicts > 2, "three conflicts");
+        self.add_if(versions.committed.lists().len() == usize::from(LISTS), "16 lists");
+        let blocks = (1..=BLOCKS).filter(|&block| versions.committed.is_on_a_list(block));
+        self.add_if(blocks.count() == usize::from(BLOCKS), "64 blocks");
+        let open = (1..=UNITS).filter(|&unit| record.unit(unit).is_open);
+        self.add_if(open.clone().count() == usize::from(UNITS), "four units");
+        self.add_if(
+            open.clone().any(|unit| record.unit(unit).journal().len() == JOURNAL),
+            "a full journal",
+        );
+        for unit in open {
+            let mut state = versions.committed;
+            let all_apply = record.unit(unit).replay(unit, &mut state);
+            self.add_if(!all_apply, "a view with entries skipped");
+        }
+    }
+}
+
+#[test]
+fn scripts_reach_every_refusal_ending_and_fault() {
+    let mut reached = Reached::default();
+    for seed in 0..SEEDS {
+        generate(seed, None, &mut |line, printed, shell| {
+            reached.observe(line, printed, shell)
+        });
+    }
+    for (what, times) in &reached.0 {
+        println!("{times:8} {what}");
+    }
+    for &(call, questions) in QUESTIONS {
+        reached.assert(&format!("{call} 0"));
+        for question in questions {
+            reached.assert(&format!("{call} {question}"));
+        }
+    }
+    for ending in ["drained", "full", "spent"] {
+        reached.assert(&format!("ending {ending}"));
+    }
+    for cause in [
+        Cause::Map,
+        Cause::Range,
+        Cause::Bounds,
+        Cause::Slot,
+        Cause::Run,
+        Cause::Inapplicable,
+        Cause::AfterEmpty,
+    ] {
+        reached.assert(&format!("fault {cause:?}"));
+    }
+    for state in [
+        "no command",
+        "dead members at the end",
+        "a run longer than a commit",
+        "every segment in use",
+        "more than 16 segments in use",
+        "64 segments in use",
+        "255 entries in a segment",
+        "511 bytes in a segment",
+        "14 slots in a segment",
+        "stopped in data",
+        "stopped behind data",
+        "stopped in an entry",
+        "stopped before a count",
+        "the ring closed",
+        "a part of the card in use",
+        "a part of the card in use, stores done",
+        "a full queue",
+        "three conflicts",
+        "16 lists",
+        "64 blocks",
+        "four units",
+        "a full journal",
+        "a view with entries skipped",
+    ] {
+        reached.assert(state);
+    }
+}
+
+#[test]
+fn scripts_follow_from_their_seed_and_have_the_lines_asked_for() {
+    for seed in 0..12 {
+        let script = |lines| {
+            let mut script = Vec::new();
+            generate(seed, lines, &mut |line, _, _| script.push(line.to_vec()));
+            script
+        };
+        assert_eq!(script(None), script(None));
+        assert_eq!(script(Some(77)).len(), 77);
+    }
+}
+
+#[test]
+fn cards_reach_every_answer_of_the_lister() {
+    let mut reached = Reached::default();
+    for seed in 0..SEEDS {
+        let card = card(seed);
+        let lines = lister::lines(&card);
+        let first = lines.lines().next().unwrap_or("");
+        reached.add(if first.starts_with("refused") { first } else { "listed" });
+        reached.add_if(lines.contains("block"), "blocks");
+        reached.add_if(lines.lines().any(|line| line.ends_with(':')), "an empty list");
+        reached.add_if(card.len() == 17 * SEGMENT_BYTES, "17 segments");
+        reached.add_if(first.starts_with("segments 16"), "16 segments");
+        reached.add_if(card.len() % SEGMENT_BYTES != 0, "an odd length");
+    }
+    for (what, times) in &reached.0 {
+        println!("{times:8} {what}");
+    }
+    for what in [
+        "refused 1",
+        "refused 2",
+        "listed",
+        "blocks",
+        "an empty list",
+        "17 segments",
+        "16 segments",
+        "an odd length",
+    ] {
+        reached.assert(what);
+    }
+}
