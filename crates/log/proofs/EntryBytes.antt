@@ -3,14 +3,15 @@ use mathlib.Core.Path.{_≡_, refl, sym, ap, _∙_}
 use mathlib.Core.Logic.{_≢_}
 use mathlib.Core.Bool.{Bool, true, false}
 use mathlib.Core.List.{List, [], _∷_, _++_}
-use Prim.Native.Nat.{ℕ, zero, suc}
-use lib.ListN.{length, getD, replicate}
-use Rattle.lists.specs.Change.{mapChange}
+use Prim.Native.Nat.{ℕ, zero, suc, _/_, _%_}
+use lib.ListN.{getD, replicate}
+use Rattle.lists.specs.Change.{mapChange, carriedBy}
 use Rattle.lists.proofs.Basic.{getD-same}
 use Rattle.log.proofs.Bits.{encode-size}
 use Rattle.log.specs.declared.entry.LogEntry.{LogEntry}
 use Rattle.log.specs.declared.entry.LogEntry.the-variants.{Take, PutFirst, PutAfter, Write, DeleteBlock, DeleteList, Commit}
-use Rattle.log.specs.Entry.{mapEntry, changeBytes, encode, raw, asEntry, entryLength, sizeOf}
+use Rattle.log.specs.Entry.{mapEntry, carried, changeBytes, encode, raw, asEntry, entryLength, sizeOf}
+use Rattle.log.specs.Card.{usedBy}
 
 -- zeros behind a list are what stands past its end
 getD-padded : (l : List ℕ) (n i : ℕ) → getD (l ++ replicate n 0) i 0 ≡ getD l i 0
@@ -66,3 +67,20 @@ code-map m k (Commit n) = refl
 pub code-length : (m : Bool) (e : LogEntry) → sizeOf (getD (encode (asEntry m e)) 0 0) ≡ entryLength (asEntry m e)
 unfolding entryLength
 code-length m e = ap (λ (k : ℕ). sizeOf k) (code-map m 0 e) ∙ sym (encode-size (raw 0 (asEntry m e)))
+
+-- so is the number of slots
+pub code-slots : (m : Bool) (e : LogEntry) → getD (encode (asEntry m e)) 0 0 / 8 % 2 ≡ usedBy (carried (asEntry m e))
+unfolding encode changeBytes asEntry carried carriedBy usedBy
+code-slots true (Take l) = refl
+code-slots false (Take l) = refl
+code-slots true (PutFirst b l) = refl
+code-slots false (PutFirst b l) = refl
+code-slots true (PutAfter b l p) = refl
+code-slots false (PutAfter b l p) = refl
+code-slots true (Write b s) = refl
+code-slots false (Write b s) = refl
+code-slots true (DeleteBlock b) = refl
+code-slots false (DeleteBlock b) = refl
+code-slots true (DeleteList l) = refl
+code-slots false (DeleteList l) = refl
+code-slots m (Commit n) = refl

@@ -15,3 +15,4 @@ pub mod EntryBytes
 pub mod LegalEntry
 pub mod CardLength
 pub mod Parsing
+pub mod Within

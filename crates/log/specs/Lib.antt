@@ -4,3 +4,4 @@ pub mod Card
 pub mod Store
 pub mod Flush
 pub mod Parse
+pub mod Within

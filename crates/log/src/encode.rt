@@ -5,7 +5,8 @@ ghost use mathlib.Core.Path.{_≡_};
 ghost use mathlib.Core.Bool.{false};
 ghost use mathlib.Core.List.{[], _∷_};
 ghost use lib.ListN.{getD};
-ghost use Rattle.log.specs.Entry.{encode, raw, asEntry, entryLength};
+ghost use Rattle.log.specs.Entry.{encode, raw, asEntry, entryLength, carried};
+ghost use Rattle.log.specs.Card.{usedBy};
 
 // The map is built from the bits of the fields that the entry has. A commit is no member.
 pub fn map_of(e: LogEntry, member: bool) -> u8
@@ -31,6 +32,13 @@ pub fn length_of(e: LogEntry) -> usize
     ensures { λ r. ⌜ r ≡ entryLength (asEntry false e) ⌝ }
 {
     map::length(map_of(e, false))
+}
+
+// How many slots an entry uses.
+pub fn slots_of(e: LogEntry) -> usize
+    ensures { λ r. ⌜ r ≡ usedBy (carried (asEntry false e)) ⌝ }
+{
+    map::slots(map_of(e, false))
 }
 
 // Byte `i` of the entry with that slot: the map, then its fields, lowest bit first. 0 past its end.

@@ -1,7 +1,7 @@
 // An entry's map: a bit for each field that has a byte, and two marks that have none.
 ghost use mathlib.Core.Path.{_≡_};
 ghost use mathlib.Core.Bool.{cond};
-ghost use Prim.Native.Nat.{_+_, _<_};
+ghost use Prim.Native.Nat.{_+_, _/_, _%_, _<_};
 ghost use Rattle.log.specs.Entry.{sizeOf};
 
 pub const BLOCK: u8 = 1 << 0;
@@ -27,6 +27,13 @@ pub fn length(map: u8) -> usize
     ensures { λ r. ⌜ r ≡ sizeOf map ⌝ }
 {
     1 + u8::count_ones(map & FIELDS) as usize
+}
+
+// The number of slots of an entry: one if it has that field.
+pub fn slots(map: u8) -> usize
+    ensures { λ r. ⌜ r ≡ map / 8 % 2 ⌝ }
+{
+    u8::count_ones(map & SLOT) as usize
 }
 
 // The map of a change: the bits of its kind, and whether it is a member.
