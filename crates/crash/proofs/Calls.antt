@@ -1,22 +1,20 @@
 -- Every accepted call that changes the disk keeps the invariant.
-use mathlib.Core.Path.{_≡_, refl, sym, ap, _∙_}
-use mathlib.Core.Bool.{Bool, true, false, _&&_, not}
-use mathlib.Core.Option.{Option, some}
-use mathlib.Core.List.{List, [], _∷_}
-use Prim.Native.Nat.{ℕ, zero, suc, _+_, _≤_, _<_}
+use mathlib.Core.Path.{_≡_, refl, _∙_}
+use mathlib.Core.Bool.{true}
+use mathlib.Core.List.{List}
+use Prim.Native.Nat.{ℕ, zero, suc, _+_}
 use native.Mathlib.Omega.{arith}
 use lib.Dec.{leb, eqb}
 use lib.ListN.{length}
 use Rattle.lists.specs.Basic.{orElse}
 use Rattle.lists.specs.Change.{Change, takeList, write, delBlock, delList, carriedBy}
-use Rattle.lists.specs.State.{State, taken, placed, applies, applyAll}
+use Rattle.lists.specs.State.{taken, placed, applies, applyAll}
 use Rattle.lists.proofs.Basic.{and-true, not-false, eqb-true, leb-true, some-of}
 use Rattle.log.specs.Entry.{plain, carried, isBlock, isList}
 use Rattle.log.specs.Card.{Content, zeros}
 use Rattle.log.proofs.Segment.{Sized}
 use Rattle.log.proofs.Places.{Good}
 use Rattle.disk.specs.Disk.{Disk, unitOf, queued, journalOf, committed}
-use Rattle.disk.specs.Sound.{lengthsRight, recordSound}
 use Rattle.disk.specs.Call.{newList, newBlock, writeBlock, deleteBlock, deleteList, begin, end}
 use Rattle.disk.specs.Questions.{freeList, freeBlock, streamOpen, journalRoom, streamRoom, endApplies, predecessorRight, questions, refusal}
 use Rattle.disk.specs.Perform.{putAt, change, hold, gaveList, gaveBlock, opening, enqueue, accepted}
@@ -25,8 +23,8 @@ use Rattle.disk.proofs.Journal.{journal-size, journal-opening, unit-sized, jour
 use Rattle.disk.proofs.Questions.{yes-all, unit-range, open-range, queue-room, stream-room, journal-room, list-number, block-number}
 use Rattle.disk.proofs.Clauses.{Right, right}
 use Rattle.disk.proofs.Changes.{take-good, put-good, write-good, delBlock-good, delList-good, apply-applies, take-applies, put-applies, at-zero, unit-good}
-use Rattle.crash.specs.Book.{Book, batchOf, join, joinPlain, joinUnit}
-use Rattle.crash.proofs.Invariant.{Tied, Live, live}
+use Rattle.crash.specs.Book.{Book, join, joinPlain, joinUnit}
+use Rattle.crash.proofs.Invariant.{Live, live}
 use Rattle.crash.proofs.Joining.{join-plain, join-batch, join-unit}
 
 -- Beside the queue and the journals nothing of the record is part of the invariant.

@@ -43,7 +43,7 @@ cut-format w b k x l i =
     (formatted-card k (w .disk .card) b l (i .sim .carries)) (format-shown k b (i .told)) (format-few k b (i .few))
 
 -- A mounting or a formatting, accepted.
-fresh-tied : (d : Disk) (b : Book) → d .rec ≡ freshRecord → Tied d (settle b)
+pub fresh-tied : (d : Disk) (b : Book) → d .rec ≡ freshRecord → Tied d (settle b)
 unfolding settle entriesOf batchOf freshRecord
 fresh-tied d b e =
     record {

@@ -11,3 +11,5 @@ pub mod Cuts
 pub mod Flushing
 pub mod Joining
 pub mod Calls
+pub mod Refusals
+pub mod Demand3

@@ -15,3 +15,4 @@ pub mod Standing
 pub mod Draining
 pub mod Performed
 pub mod Soundness
+pub mod Performing

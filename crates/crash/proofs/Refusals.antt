@@ -1,0 +1,93 @@
+-- A refused call keeps the invariant, whatever it was lent: refusal 12 closes the unit and drops its batch, another changes nothing.
+use mathlib.Core.Path.{_≡_, refl, sym, _∙_}
+use mathlib.Core.Bool.{Bool, true, false}
+use mathlib.Core.List.{[]}
+use Prim.Native.Nat.{ℕ, suc, _-_, _≤_}
+use native.Mathlib.Omega.{arith}
+use native.Mathlib.Decide.{ℕ-discrete}
+use lib.Dec.{eqb}
+use lib.ListN.{length-set}
+use Rattle.lists.proofs.Basic.{eqb-true}
+use Rattle.disk.specs.Disk.{Disk, unitOf, journalOf}
+use Rattle.disk.specs.Call.{Call, format, mount, conflictCount, newList, newBlock, writeBlock, readBlock, deleteBlock, deleteList, begin, end, flush, blockAfter, inventory, ends}
+use Rattle.disk.specs.Questions.{questions, refusal}
+use Rattle.disk.specs.Perform.{closing, conflicted, refused}
+use Rattle.disk.proofs.Queue.{queued-closing, queued-conflicted}
+use Rattle.disk.proofs.Journal.{journal-closing, journal-closing-other, journal-conflicted}
+use Rattle.disk.proofs.Questions.{past, unit-range}
+use Rattle.crash.specs.Event.{Parts, World, lend, giveBack}
+use Rattle.crash.specs.Book.{Book, batchOf, withBatch, placedEntries, bookRefused}
+use Rattle.crash.proofs.Book.{batch-other, batch-dropped}
+use Rattle.crash.proofs.Told.{withBatch-told}
+use Rattle.crash.proofs.Lending.{back-record}
+use Rattle.crash.proofs.Invariant.{Tied, Inv}
+
+-- the world after a call that made x of what it was lent, and was not accepted
+abbrev pub after : Parts → World → Disk → World
+after p w x = record { disk = giveBack p (w .disk) x; down = w .down }
+
+unchanged : (p : Parts) (w : World) (b : Book) → Inv w b → Inv (after p w (lend p (w .disk))) b
+unfolding lend
+unchanged p w b i = rw (back-record p (w .disk) (w .disk .rec)) i
+
+-- Refusal 12.
+closed-tied : (d : Disk) (b : Book) (u : ℕ) → 1 ≤ u → Tied d b → Tied (conflicted (closing u d)) (withBatch b u [])
+unfolding conflicted closing withBatch
+closed-tied d b u p t =
+    record {
+      queue = queued-conflicted (closing u d) ∙ queued-closing u d ∙ t .queue;
+      done = t .done;
+      journals = λ v x y. journal-conflicted (closing u d) v ∙ journals v x y (ℕ-discrete u v);
+    }
+  where
+    journals : (v : ℕ) → 1 ≤ v → v ≤ 4 → Dec (u ≡ v) → journalOf (closing u d) v ≡ batchOf (withBatch b u []) v
+    journals v x y (yes e) = rw (← e) (journal-closing u d ∙ sym (batch-dropped b u u refl))
+    journals v x y (no e) = journal-closing-other u v d p x e ∙ t .journals v x y ∙ sym (batch-other b u v [] (omega arith))
+
+back-closed : (p : Parts) (d : Disk) (u : ℕ) → giveBack p d (conflicted (closing u (lend p d))) ≡ conflicted (closing u d)
+unfolding lend conflicted closing unitOf
+back-closed p d u = back-record p d (conflicted (closing u d) .rec)
+
+closed-inv : (p : Parts) (w : World) (b : Book) (u : ℕ) → 1 ≤ u → Inv w b → Inv (after p w (conflicted (closing u (lend p (w .disk))))) (withBatch b u [])
+unfolding conflicted closing withBatch placedEntries
+closed-inv p w b u l i =
+    rw (back-closed p (w .disk) u)
+    (record {
+      sim = i .sim;
+      told = withBatch-told b u [] (i .told);
+      tied = λ e. closed-tied (w .disk) b u l (i .tied e);
+      four = length-set (b .batches) (u - 1) [] ∙ i .four;
+      few = i .few;
+    })
+
+-- the unit is open, so it is one
+end-range : (u : ℕ) (d : Disk) → refusal (end u) d ≡ 12 → 1 ≤ u
+unfolding refusal questions
+end-range u d h = unit-range d u (past 3 (questions (end u) d) 12 (omega arith) h 2 (omega arith)) .0
+
+refused-end : (u m : ℕ) (p : Parts) (w : World) (b : Book) → refusal (end u) (lend p (w .disk)) ≡ suc m → Inv w b
+    → Inv (after p w (refused (end u) (suc m) (lend p (w .disk)))) (bookRefused (end u) (suc m) b)
+unfolding refused bookRefused ends
+refused-end u m p w b h i = go (eqb (suc m) 12) refl
+  where
+    go : (f : Bool) → eqb (suc m) 12 ≡ f → Inv (after p w (refused (end u) (suc m) (lend p (w .disk)))) (bookRefused (end u) (suc m) b)
+    go true f = rw (f, refused, bookRefused) (closed-inv p w b u (end-range u (lend p (w .disk)) (h ∙ eqb-true (suc m) 12 f)) i)
+    go false f = rw (f, refused, bookRefused) (unchanged p w b i)
+
+pub refused-inv : (c : Call) (m : ℕ) (p : Parts) (w : World) (b : Book) → refusal c (lend p (w .disk)) ≡ suc m → Inv w b
+    → Inv (after p w (refused c (suc m) (lend p (w .disk)))) (bookRefused c (suc m) b)
+unfolding refused bookRefused ends
+refused-inv format m p w b h i = unchanged p w b i
+refused-inv mount m p w b h i = unchanged p w b i
+refused-inv conflictCount m p w b h i = unchanged p w b i
+refused-inv (newList s) m p w b h i = unchanged p w b i
+refused-inv (newBlock s l q) m p w b h i = unchanged p w b i
+refused-inv (writeBlock s k x) m p w b h i = unchanged p w b i
+refused-inv (readBlock v k x) m p w b h i = unchanged p w b i
+refused-inv (deleteBlock s k) m p w b h i = unchanged p w b i
+refused-inv (deleteList s l) m p w b h i = unchanged p w b i
+refused-inv (begin u) m p w b h i = unchanged p w b i
+refused-inv (end u) m p w b h i = refused-end u m p w b h i
+refused-inv (flush a) m p w b h i = unchanged p w b i
+refused-inv (blockAfter v l q) m p w b h i = unchanged p w b i
+refused-inv (inventory v x) m p w b h i = unchanged p w b i
