@@ -16,3 +16,4 @@ pub mod LegalEntry
 pub mod CardLength
 pub mod Parsing
 pub mod Within
+pub mod Sequence
