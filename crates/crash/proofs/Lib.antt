@@ -13,3 +13,4 @@ pub mod Joining
 pub mod Calls
 pub mod Refusals
 pub mod Demand3
+pub mod Scenario

@@ -1,0 +1,80 @@
+-- One list of events on a card of two segments, computed to its end: it may happen, and it comes to what demand 3 says. So `valid` is no condition
+-- that a list with cuts, dead members and refusals cannot meet.
+use Prim.{Unit, tt}
+use mathlib.Core.Path.{_≡_, refl}
+use mathlib.Core.Bool.{true}
+use mathlib.Core.List.{List, [], _∷_}
+use Prim.Native.Nat.{ℕ}
+use lib.ListN.{replicate}
+use Rattle.lists.specs.Change.{takeList, putFirst}
+use Rattle.lists.specs.State.{State, state, row, block}
+use Rattle.log.specs.Card.{Content, zeros}
+use Rattle.disk.specs.Record.{freshRecord, withFlow}
+use Rattle.disk.specs.Disk.{Disk, view}
+use Rattle.disk.specs.Call.{Call, mount, newList, newBlock, begin, end, flush}
+use Rattle.disk.proofs.Computing.{computing}
+use Rattle.crash.specs.Event.{Part, Rest, Event, called, cutFlush, cutFormat, partOf, putBack, lend, giveBack, isWhole, lentWhole, leaves, isAccepted, answered, step, mayHappen}
+use Rattle.crash.specs.Book.{simple, whole, emptyBook, joinPlain, batchOf, withBatch, join, memberOf, joinUnit, cost, entriesOf, placedEntries, lastInUse, placeOf, moveTo, bookStore, bookFlush, keepFirst, bookFormat, isNumber, closingOnCard, longest, onCard, settle, bookAccepted, bookRefused, bookCalled, bookStep}
+use Rattle.crash.specs.Demand3.{Scene, sceneStep, play, valid, begun}
+
+-- two segments and both data buffers full of 170
+pub blank : Disk
+blank = record { card = replicate 8192 170; queueData = replicate 8192 170; journalData = replicate 15360 170; rec = freshRecord }
+
+front : ℕ → Part
+front n = record { from = 0; size = n }
+
+-- a call that is lent all, and one that is lent all but the card's last byte
+wholly : Call → Event
+wholly c = called c (record { card = front 8192; queueData = front 8192; journalData = front 15360 })
+
+partly : Call → Event
+partly c = called c (record { card = front 8191; queueData = front 8192; journalData = front 15360 })
+
+-- what a cut leaves beside the card: other bytes, and a record that is not sound
+other : Rest
+other = record { queueData = replicate 8192 9; journalData = replicate 15360 9; rec = withFlow freshRecord 170 170 170 }
+
+pub events : List Event
+events =
+    wholly (newList 0)
+    ∷ wholly (newBlock 0 1 0)
+    -- a unit, its flush cut: the two plain entries' 7 stores are done, its member's 5, and 1 of its commit's 3
+    ∷ wholly (begin 1)
+    ∷ wholly (newBlock 1 1 1)
+    ∷ wholly (end 1)
+    ∷ cutFlush 100 13 other
+    -- a mount that is lent too little is refused; after the next, unit 1's member stands dead before unit 2's
+    ∷ partly mount
+    ∷ wholly mount
+    ∷ wholly (begin 2)
+    ∷ wholly (newBlock 2 1 0)
+    ∷ wholly (end 2)
+    ∷ wholly (flush 7)
+    -- a formatting, cut after segment 1's store and before segment 0's
+    ∷ cutFormat 1 other
+    ∷ wholly mount
+    ∷ []
+
+pub last : Scene
+last = play (begun blank) events
+
+-- list 1 with blocks 2 and 1, both zeros
+pub mountedState : State Content
+mountedState = state (row 1 (block 2 zeros ∷ block 1 zeros ∷ []) ∷ [])
+
+-- opens what the events and the book compute with
+playing : Unit {0}
+unfolding computing blank front wholly partly other events partOf putBack lend giveBack isWhole lentWhole leaves isAccepted answered step mayHappen emptyBook joinPlain batchOf withBatch join memberOf joinUnit cost entriesOf placedEntries lastInUse placeOf moveTo bookStore bookFlush keepFirst bookFormat isNumber closingOnCard longest onCard settle bookAccepted bookRefused bookCalled bookStep sceneStep play valid begun
+playing = tt
+
+pub may-happen : valid (begun blank) events ≡ true
+unfolding playing
+may-happen = refl
+
+-- unit 1 is lost whole, unit 2 is there, and the cut formatting took nothing of segment 0
+pub comes-to :
+    (onCard (last .book) ≡ simple (takeList 1) ∷ simple (putFirst 1 1) ∷ whole (putFirst 2 1 ∷ []) ∷ [])
+    × (view (last .world .disk) 0 ≡ mountedState)
+unfolding playing last mountedState
+comes-to = (refl, refl)
