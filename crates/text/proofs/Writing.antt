@@ -5,8 +5,8 @@ use Prim.Native.Nat.{ℕ, suc, _+_, _≤_, _<_}
 use native.Mathlib.Omega.{arith}
 use native.Mathlib.Decide.{decLt}
 use native.Mathlib.Nat.{add-zero, add-suc, suc-add}
-use lib.ListN.{length, take, drop, set, length-append, length-set}
-use lib.Seq.{sets, sets-eq, length-sets, set-out, take-at, length-take-le}
+use lib.ListN.{length, take, drop, set, length-append}
+use lib.Seq.{sets-eq, length-sets, set-out, take-at, length-take-le}
 use Rattle.text.specs.Written.{written, after, Puts}
 
 pub written-length : (out : List ℕ) (at : ℕ) (text : List ℕ) → length (written out at text) ≡ length out

@@ -1,2 +1,6 @@
 // Text in lent buffers: what the programs print is put together here, and the lines that they read are taken apart.
+pub mod decimal;
+pub mod line;
+pub mod number;
 pub mod put;
+pub mod word;
