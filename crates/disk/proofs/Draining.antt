@@ -108,6 +108,12 @@ turn a d z l =
       done = flow-done d y (f .card) (f .segs) (f .queue) (f .done) (f .flow);
     }
 
+pub left-queue : (a : ℕ) (d : Disk) → Right d → queued (left a d) ≡ flushed a d .flow .queue
+left-queue a d k =
+    let t = turn a d (k .reader) (k .log) in
+    let f = t .after in
+    t .queue ∙ sym (flow-queue d (flushed a d .flow) (f .card) (f .segs) (f .queue) (f .done) (f .flow))
+
 -- The log that a flush leaves: the card's reader, and the queue behind it.
 pub record Onward (a : ℕ) (d : Disk) (z : Reader Content) : Type 0 where
   pub turned : Turn a d z

@@ -13,6 +13,6 @@ pub mod Units
 pub mod KeepsSound
 pub mod Standing
 pub mod Draining
-pub mod Performed
 pub mod Soundness
 pub mod Performing
+pub mod Views

@@ -1,26 +1,27 @@
 -- "Every accepted call, and refusal 12, leaves a record that is sound by question 3; this is proved.": `leaves-sound`, on any card, record and data.
 -- So a sound disk stays sound whatever is called (`stays-sound`), and on a sound disk no call is refused 1, 2 or 3 (`never-refused`).
 use mathlib.Core.Path.{_≡_, refl, sym, ap, _∙_, subst}
-use mathlib.Core.Logic.{_⊎_, inl, inr}
+use mathlib.Core.Logic.{_⊎_, inl, inr, _≢_}
 use mathlib.Core.Bool.{Bool, true, false, _||_}
+use mathlib.Core.Option.{Option, none, some}
 use mathlib.Core.List.{List, [], _∷_}
 use Prim.Native.Nat.{ℕ, zero, suc, _≤_}
 use native.Mathlib.Decide.{ℕ-discrete}
 use lib.Dec.{leb}
 use Rattle.lists.specs.Basic.{all}
-use Rattle.lists.proofs.Basic.{and-true, leb-true, bind-some, is-some}
+use Rattle.lists.proofs.Basic.{and-true, eqb-false, leb-true, bind-some, is-some}
 use Rattle.log.specs.Reader.{replay}
 use Rattle.log.specs.Card.{zeros, mounted}
 use Rattle.disk.specs.Disk.{Disk, queued, readerOf, committedReader}
 use Rattle.disk.specs.Sound.{lengthsRight, recordSound}
-use Rattle.disk.specs.Call.{Call, format, mount, conflictCount, newList, newBlock, writeBlock, readBlock, deleteBlock, deleteList, begin, end, flush, blockAfter, inventory}
+use Rattle.disk.specs.Call.{Call, format, mount, conflictCount, newList, newBlock, writeBlock, readBlock, deleteBlock, deleteList, begin, end, flush, blockAfter, inventory, ends}
 use Rattle.disk.specs.Questions.{mountable, questions, ask, firstNo, refusal}
 use Rattle.disk.specs.Perform.{accepted, refused, perform, performAll}
 use Rattle.disk.proofs.Questions.{test, yes-all, twelve-end}
 use Rattle.disk.proofs.Clauses.{Right, right, right-sound, right-lengths}
 use Rattle.disk.proofs.KeepsSound.{begin-right, conflict-right, newList-right, newBlock-right, write-right, deleteBlock-right, deleteList-right, end-right, mount-right, format-right}
 use Rattle.disk.proofs.Draining.{flush-right}
-use Rattle.disk.proofs.Performed.{perform-accepted, perform-refused, refused-same}
+use Rattle.disk.proofs.Performing.{perform-accepted, perform-refused}
 
 -- a call that changes nothing, and whose first two questions are 1 and 3
 looked : (c : Call) (d : Disk) → refusal c d ≡ 0 → test (questions c d) 0 ≡ lengthsRight d → test (questions c d) 1 ≡ recordSound d → Right d
@@ -52,13 +53,21 @@ pub leaves-right : (c : Call) (d : Disk) → (refusal c d ≡ 0) ⊎ (refusal c 
 leaves-right c d (inl h) = rw (perform-accepted c d h) (accepted-right c d h)
 leaves-right c d (inr h) = rw (perform-refused c d 11 h) (twelve-right c d h)
 
--- beyond refusal 12 a refusal changes nothing
+-- "Beyond refusal 12's closing, a refusal changes nothing."
+pub refused-same : (c : Call) (n : ℕ) (d : Disk) → n ≢ 12 → refused c n d ≡ d
+unfolding refused
+refused-same c n d h = go (ends c) refl
+  where
+    go : (o : Option ℕ) → ends c ≡ o → refused c n d ≡ d
+    go none e = rw (e, refused)
+    go (some u) e = rw (e, refused) (rw (eqb-false n 12 h, refused))
+
 pub stays-right : (c : Call) (d : Disk) → Right d → Right (perform c d .disk)
 stays-right c d r = go (refusal c d) refl
   where
     twelve : (n : ℕ) → refusal c d ≡ suc n → Dec (suc n ≡ 12) → Right (perform c d .disk)
     twelve n e (yes q) = leaves-right c d (inr (e ∙ q))
-    twelve n e (no q) = rw (perform-refused c d n e ∙ refused-same c (suc n) d q) r
+    twelve n e (no q) = rw (perform-refused c d n e) (rw (refused-same c (suc n) d q) r)
 
     go : (n : ℕ) → refusal c d ≡ n → Right (perform c d .disk)
     go zero e = leaves-right c d (inl e)
