@@ -144,7 +144,7 @@ start-inv d h =
     live (accepted format d .disk) (emptyBook n) (start-sim n (d .card) p l) (empty-told n) (start-tied (accepted format d .disk) n refl) refl
     (omega (arith, card-few (d .card) k, length-replicate {A = List Waiting} n []))
 
-begun-inv : (d : Disk) → refusal format d ≡ 0 → Inv (begun d .world) (begun d .book)
+pub begun-inv : (d : Disk) → refusal format d ≡ 0 → Inv (begun d .world) (begun d .book)
 unfolding begun
 begun-inv d h = rw (perform-accepted format d h) (start-inv d h)
 

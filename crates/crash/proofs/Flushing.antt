@@ -22,7 +22,7 @@ use Rattle.crash.proofs.Told.{Told, told-shown}
 use Rattle.crash.proofs.Simulation.{Sim, bookFlow, Keeps, FlushSim, flush-sim}
 use Rattle.crash.proofs.Invariant.{Tied, Inv, Live, live, settled-inv, segments-count}
 
-keeps-told : (b b′ : Book) → Keeps b b′ → Told b → Told b′
+pub keeps-told : (b b′ : Book) → Keeps b b′ → Told b → Told b′
 keeps-told b b′ k t = record { entries = t .entries; log = k .log ∙ t .log; history = k .history ∙ t .history; reader = t .reader; replays = t .replays }
 
 keeps-few : (b b′ : Book) → Keeps b b′ → length (b .segs) ≤ 64 → length (b′ .segs) ≤ 64

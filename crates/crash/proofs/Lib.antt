@@ -14,3 +14,4 @@ pub mod Calls
 pub mod Refusals
 pub mod Demand3
 pub mod Scenario
+pub mod Covered
