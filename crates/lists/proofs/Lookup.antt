@@ -7,11 +7,11 @@ use mathlib.Core.Option.{none, some}
 use mathlib.Core.List.{List, [], _∷_, _++_, map, append-assoc}
 use Prim.Native.Nat.{ℕ, zero, suc, _+_, _-_, _≤_, _<_}
 use native.Mathlib.Omega.{arith}
-use lib.Dec.{eqb, leb, ltb}
+use lib.Dec.{eqb}
 use lib.ListN.{length, getD}
 use Rattle.lists.specs.State.{Block, Row, onBlocksOf, onRow, taken, placed, onList}
 use Rattle.lists.specs.Lookup.{contentIn, contentOf, blocksOf, nextIn, nextAfter, listNums, takenAfter}
-use Rattle.lists.specs.Tables.{Tables, Shows, Apart, Linked, HasBlocks, HasLists, IsBlock, IsList, blockNodes, nodes, chain, ownerOf, nextOf, listNode}
+use Rattle.lists.specs.Tables.{Tables, Shows, Apart, Linked, HasBlocks, HasLists, IsBlock, IsList, blockNodes, nodes, chain, ownerOf, nextOf, listNode, blockOr0, listWithin}
 use Rattle.lists.proofs.Basic.{either, or-both, or-cases, eqb-true, eqb-false, eqb-neq, eq-true, le-true, lt-true, gt-false, ge-false}
 use Rattle.lists.proofs.Chain.{away-right, apart-left, apart-right, last, linked-tail}
 use Rattle.lists.proofs.Nodes.{away-taken, onList-taken}
@@ -75,9 +75,6 @@ module _ (o p : List ℕ) where
       (either (onRow b r))
 
 -- The block after another: its node's next one, where that is a block.
-abbrev pub blockOr0 : ℕ → ℕ
-blockOr0 n = cond (leb n 64) n 0
-
 abbrev firstNum : List (Block ℕ) → ℕ
 firstNum xs = getD (map (λ x. x .num) xs) 0 0
 
@@ -143,11 +140,9 @@ block-after t rs s l b h k = ⊎-elim
     (either (eqb b 0))
 
 -- The list after another: the first node behind its own that is no block's, at most k nodes on.
-unfoldable pub listWithin : ℕ → List ℕ → ℕ → ℕ
-listWithin zero nx n = 0
-listWithin (suc k) nx n =
-    let m = getD nx n 0 in
-    elim (eqb m 255) [ true ↦ 0 | false ↦ elim (ltb 64 m) [ true ↦ m - 64 | false ↦ listWithin k nx m ] ]
+pub within-none : (nx : List ℕ) (n : ℕ) → listWithin 0 nx n ≡ 0
+unfolding listWithin
+within-none nx n = refl
 
 module _ (nx : List ℕ) (k n : ℕ) where
   pub within-end : getD nx n 0 ≡ 255 → listWithin (suc k) nx n ≡ 0

@@ -6,12 +6,12 @@ use mathlib.Core.List.{List, [], _∷_, _++_, map, append-assoc, append-nil}
 use Prim.Native.Nat.{ℕ, _+_, _≤_, _<_}
 use native.Mathlib.Omega.{arith}
 use lib.Dec.{eqb}
-use lib.ListN.{length, getD, set, length-set, replicate}
+use lib.ListN.{length, getD, set, length-set}
 use lib.Seq.{getD-set-other, getD-set-same}
 use Rattle.lists.specs.Basic.{keep, orElse}
 use Rattle.lists.specs.Change.{Change, takeList, putFirst, putAfter, write, delBlock, delList}
 use Rattle.lists.specs.State.{State, Block, Row, taken, placed, onList, insertAfter, at, put, onBlocks, otherBlock, otherRow, block, row, changed, applies, apply}
-use Rattle.lists.specs.Tables.{Tables, tables, nextOf, prevOf, ownerOf, insertNode, cutBetween, placeAt, freeFrom, cutList, putFits, putDone, fits, done, Did, Away, Apart, Linked, blockNodes, nodes, chain, IsBlock, IsList, HasBlock, HasBlocks, HasLists, Shows, Ranged, Represents}
+use Rattle.lists.specs.Tables.{Tables, tables, nextOf, prevOf, ownerOf, insertNode, cutBetween, placeAt, noTables, freeFrom, cutList, putFits, putDone, fits, done, Did, Away, Apart, Linked, blockNodes, nodes, chain, IsBlock, IsList, HasBlock, HasBlocks, HasLists, Shows, Ranged, Represents}
 use Rattle.lists.proofs.Basic.{either, or-both, and-true, not-false, eqb-true, eqb-neq, getD-same, and-swap, and-implied, not-not}
 use Rattle.lists.proofs.Chain.{Small, headOf, last, away-left, away-right, away-append, apart-left, apart-right, apart-insert, apart-cut, apart-middle, small-left, small-right, last-snoc, next-at, prev-at, linked-tail, linked-insert, linked-cut}
 use Rattle.lists.proofs.Nodes.{Grown, nodes-append, nodes-write, first-grown, after-grown, block-shrunk, row-at, onList-taken}
@@ -236,11 +236,12 @@ module _ (c : Change ℕ) (t : Tables) (r : Bool) (u : Tables) (s : State ℕ) (
       (either (applies c (s .lists)))
 
 -- The state with no list.
-pub shows-none : (nx pv pl : List ℕ) → length nx ≡ 256 → length pv ≡ 256 → length pl ≡ 256 → Shows (tables (set nx 0 255) (set pv 255 0) (replicate 256 0) pl) []
-shows-none nx pv pl a b c = record {
-  sized = record { next = simp length-set a; prev = simp length-set b; owner = refl; place = c };
+pub shows-none : Shows noTables []
+unfolding noTables
+shows-none = record {
+  sized = record { next = refl; prev = refl; owner = refl; place = refl };
   apart = (((λ e. omega arith), tt), (tt, tt));
-  linked = (getD-set-same nx 0 255 0 (omega arith), getD-set-same pv 255 0 0 (omega arith), tt);
+  linked = (refl, refl, tt);
   has = tt;
   free = λ m h. getD-same 256 m 0;
 }

@@ -8,9 +8,9 @@ use mathlib.Core.Logic.{_≢_}
 use mathlib.Core.Bool.{Bool, true, false, _&&_, not, cond}
 use mathlib.Core.Option.{Option, none, some}
 use mathlib.Core.List.{List, [], _∷_, _++_}
-use Prim.Native.Nat.{ℕ, zero, suc, _+_, _%_, _≤_}
-use lib.Dec.{eqb}
-use lib.ListN.{length, getD, set}
+use Prim.Native.Nat.{ℕ, zero, suc, _+_, _-_, _%_, _≤_}
+use lib.Dec.{eqb, leb, ltb}
+use lib.ListN.{length, getD, set, replicate}
 use Rattle.lists.specs.Change.{Change, takeList, putFirst, putAfter, write, delBlock, delList}
 use Rattle.lists.specs.State.{Block, Row, State}
 
@@ -197,6 +197,27 @@ Ranged (delList l) = IsList l
 abbrev pub Represents : Option (State ℕ) → Bool → Tables → Type 0
 Represents none r u = r ≡ false
 Represents (some s) r u = (r ≡ true) × Shows u (s .lists)
+
+-- the tables of the state with no list
+unfoldable pub noTables : Tables
+noTables = tables (set (replicate 256 0) 0 255) (set (replicate 256 0) 255 0) (replicate 256 0) (replicate 256 0)
+
+pub record Cleared (u : Tables) : Type 0 where
+  pub left : u ≡ noTables
+  pub shows : Shows u []
+
+-- Looking up.
+
+-- n where it is a block
+abbrev pub blockOr0 : ℕ → ℕ
+blockOr0 n = cond (leb n 64) n 0
+
+-- the list whose node is the first behind node n that is no block's, at most k nodes on; 0 if there is none
+unfoldable pub listWithin : ℕ → List ℕ → ℕ → ℕ
+listWithin zero nx n = 0
+listWithin (suc k) nx n =
+    let m = getD nx n 0 in
+    elim (eqb m 255) [ true ↦ 0 | false ↦ elim (ltb 64 m) [ true ↦ m - 64 | false ↦ listWithin k nx m ] ]
 
 -- Of one table alone: what holds of all lists that tables with it show.
 abbrev pub OfNext : List ℕ → (List (Row ℕ) → Type 0) → Type 0

@@ -1,2 +1,4 @@
-// What a state of the logical disk is: lists taken, their blocks in order, and each block's content.
-// The definitions stand in specs/, their laws in proofs/.
+// A state of the logical disk: lists taken, their blocks in order, and each block's content.
+// What a state is and how it changes stands in specs/; `tables` holds one as linked lists in lent arrays.
+pub mod kind;
+pub mod tables;
