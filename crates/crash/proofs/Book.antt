@@ -9,10 +9,9 @@ use lib.Seq.{getD-set-same, getD-set-other}
 use Rattle.lists.specs.Basic.{joined}
 use Rattle.lists.specs.Change.{Change}
 use Rattle.lists.proofs.Basic.{getD-set-default}
-use Rattle.log.specs.Entry.{Entry, member, commit}
+use Rattle.log.specs.Entry.{Entry}
 use Rattle.log.specs.Card.{Content}
-use Rattle.crash.specs.Book.{Book, Waiting, entriesOf, memberOf, batchOf, withBatch, keepFirst}
-use Rattle.crash.proofs.History.{closing}
+use Rattle.crash.specs.Book.{Book, Waiting, entriesOf, batchOf, withBatch, keepFirst}
 
 -- Entries.
 pub entries-append : (x y : List Waiting) → entriesOf (x ++ y) ≡ entriesOf x ++ entriesOf y
@@ -23,11 +22,6 @@ pub entries-joined : (ss : List (List Waiting)) → joined (map entriesOf ss) �
 unfolding joined entriesOf
 entries-joined [] = refl
 entries-joined (s ∷ ss) = ap (λ (l : List (Entry Content)). entriesOf s ++ l) (entries-joined ss) ∙ sym (map-append (λ (w : Waiting). w .entry) s (joined ss))
-
-pub entries-unit : (n m : ℕ) (cs : List (Change Content)) → entriesOf (map memberOf cs ++ closing (commit m) n ∷ []) ≡ map member cs ++ commit m ∷ []
-unfolding entriesOf memberOf
-entries-unit n m [] = refl
-entries-unit n m (c ∷ cs) = ap (λ (x : List (Entry Content)). member c ∷ x) (entries-unit n m cs)
 
 -- Batches.
 module _ (b : Book) (u : ℕ) where

@@ -30,7 +30,7 @@ use Rattle.crash.proofs.Simulation.{Sim}
 use Rattle.crash.proofs.Invariant.{Tied, Live, live}
 
 -- The committed state is that of the reader that the book tells.
-pub committed-reader : (d : Disk) (b : Book) → Sim (d .card) b → (t : Told b) → Tied d b → committedReader d ≡ some (t .reader)
+committed-reader : (d : Disk) (b : Book) → Sim (d .card) b → (t : Told b) → Tied d b → committedReader d ≡ some (t .reader)
 unfolding committedReader placedEntries readerOf
 committed-reader d b s t i =
     let v : Shown (b .segs) (b .history) = told-shown b t in
@@ -48,7 +48,7 @@ committed-reader d b s t i =
         → bind (replay zeros start (v .entries)) (λ r. replay zeros r q) ≡ some z → replay zeros (v .reader) q ≡ some z
     rejoin v z q h = rw (v .replays) at h
 
-pub committed-state : (d : Disk) (b : Book) (i : Live d b) → committed d ≡ i .told .reader .state
+committed-state : (d : Disk) (b : Book) (i : Live d b) → committed d ≡ i .told .reader .state
 committed-state d b i = committed-is d (i .told .reader) (committed-reader d b (i .sim) (i .told) (i .tied refl))
 
 -- What is left of the disk as it was when the queue has grown by es and the book's line by ws.

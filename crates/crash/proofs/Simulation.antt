@@ -67,6 +67,7 @@ pub record Keeps (b b′ : Book) : Type 0 where
   pub left : gone ≤ length (b .line)
   pub rest : b′ .line ≡ drop gone (b .line)
 
+-- one step of both: neither stores, or both do and keep together
 data Moved (n : ℕ) (c : List ℕ) (b : Book) : Type 0 where
   halted : (x : Ending) → nextStore n (bookFlow c b) ≡ stopped x → bookStore b ≡ none → Moved n c b
   moved : (c′ : List ℕ) (b′ : Book) → nextStore n (bookFlow c b) ≡ stored (bookFlow c′ b′) → bookStore b ≡ some b′ → Sim c′ b′ → Keeps b b′ → Moved n c b

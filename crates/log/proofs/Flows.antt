@@ -45,7 +45,7 @@ home-at ess e p h l q = home-behind ess (used ess - 1) e p h (omega (arith, used
     edge zero e = inl (omega arith)
     edge (suc u) e = inr (omega arith)
 
-pub end-add : {ess : List (List (Entry Content))} {p : Place} {e : Entry Content} → At ess p e → Packed ess → endOf (addTo (p .segment) e ess) ≡ after p e
+end-add : {ess : List (List (Entry Content))} {p : Place} {e : Entry Content} → At ess p e → Packed ess → endOf (addTo (p .segment) e ess) ≡ after p e
 unfolding endOf
 end-add {ess} {p} {e} at h =
     ap (λ (g : ℕ). afterAll (opened g) (getD (addTo (p .segment) e ess) g []))
@@ -104,7 +104,7 @@ pub record Flows (c : List ℕ) (ess : List (List (Entry Content))) (q : List (E
 unfoldable pub flowFor : List ℕ → List (List (Entry Content)) → List (Entry Content) → ℕ → Flow
 flowFor c ess q k = record { card = c; place = endOf ess; queue = q; done = k }
 
-pub head-zero : (c : List ℕ) (ess : List (List (Entry Content))) (q : List (Entry Content)) → Head c ess q 0
+head-zero : (c : List ℕ) (ess : List (List (Entry Content))) (q : List (Entry Content)) → Head c ess q 0
 head-zero c ess [] = refl
 head-zero c ess (e ∷ q) = (λ p h. (λ j l. absurd (omega arith), omega (arith, entry-stores-length p e)), λ h. refl)
 

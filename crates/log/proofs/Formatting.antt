@@ -40,7 +40,7 @@ unfolding formatStores
 format-length zero = refl
 format-length (suc n) = ap suc (format-length n)
 
-pub doStores-length : (xs : List Store) (c : List ℕ) → length (doStores xs c) ≡ length c
+doStores-length : (xs : List Store) (c : List ℕ) → length (doStores xs c) ≡ length c
 unfolding doStores
 doStores-length [] c = refl
 doStores-length (x ∷ xs) c = doStores-length xs (set c (x .0) (x .1)) ∙ length-set c (x .0) (x .1)
