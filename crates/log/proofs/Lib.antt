@@ -17,3 +17,4 @@ pub mod CardLength
 pub mod Parsing
 pub mod Within
 pub mod Sequence
+pub mod LogStores
