@@ -142,7 +142,7 @@ flush-reader : (a : ℕ) (d : Disk) (z : Reader Content) → Onward a d z → co
 unfolding committedReader
 flush-reader a d z o = rw (o .walks) (o .onward)
 
-flush-size : (a : ℕ) (d : Disk) (z : Reader Content) → Turn a d z → length (left a d .card) ≡ length (d .card)
+pub flush-size : (a : ℕ) (d : Disk) (z : Reader Content) → Turn a d z → length (left a d .card) ≡ length (d .card)
 flush-size a d z t =
     ap length (t .card) ∙ t .after .flows .carries .size ∙ ap (λ (n : ℕ). 4096 * n) (t .after .size) ∙ sym (t .before .flows .carries .size)
 

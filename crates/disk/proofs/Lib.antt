@@ -16,3 +16,5 @@ pub mod Draining
 pub mod Soundness
 pub mod Performing
 pub mod Views
+pub mod Sequence
+pub mod Flushing

@@ -18,3 +18,4 @@ pub mod Parsing
 pub mod Within
 pub mod Sequence
 pub mod LogStores
+pub mod Stores
