@@ -1,3 +1,5 @@
+pub mod Adler
 pub mod Decimal
+pub mod Hex
 pub mod Line
 pub mod Written
