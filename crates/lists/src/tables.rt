@@ -108,14 +108,15 @@ fn put(
         r
         (tables (now (next .exit)) (now (prev .exit)) (now (owner .exit)) (now (place .exit))) ⌝ }
 {
-    if owner[block as usize] != 0 {
+    let b = block as usize;
+    if owner[b] != 0 {
         return false;
     }
     if owner[x as usize] != list {
         return false;
     }
     insert(next, prev, owner, x, block, list);
-    place[block as usize] = BLANK;
+    place[b] = BLANK;
     true
 }
 
@@ -125,10 +126,11 @@ fn write_block(owner: &[u8; 256], place: &mut [u16; 256], block: u8, location: u
         r
         (tables nx pv (now (owner .entry)) (now (place .exit)))) ⌝ }
 {
-    if owner[block as usize] == 0 {
+    let b = block as usize;
+    if owner[b] == 0 {
         return false;
     }
-    place[block as usize] = location;
+    place[b] = location;
     true
 }
 
@@ -143,13 +145,14 @@ fn delete_block(
         r
         (tables (now (next .exit)) (now (prev .exit)) (now (owner .exit)) pl)) ⌝ }
 {
-    if owner[block as usize] == 0 {
+    let b = block as usize;
+    if owner[b] == 0 {
         return false;
     }
-    let x = prev[block as usize];
-    let y = next[block as usize];
+    let x = prev[b];
+    let y = next[b];
     link(next, prev, x, y);
-    owner[block as usize] = 0;
+    owner[b] = 0;
     true
 }
 
