@@ -18,3 +18,4 @@ pub mod Performing
 pub mod Views
 pub mod Sequence
 pub mod Flushing
+pub mod Allowance

@@ -44,13 +44,13 @@ unfolding flowOf
 flow-ready d k = queue-ready (d .card) (d .rec .done) (queued d) (k .log .stands)
 
 -- the disk that a flush leaves stands in the flow that it ended with, on as many segments
-left-flow : (a : ℕ) (d : Disk) → Right d → flowOf (left a d) ≡ flushed a d .flow
+pub left-flow : (a : ℕ) (d : Disk) → Right d → flowOf (left a d) ≡ flushed a d .flow
 left-flow a d k =
     let t = turn a d (k .reader) (k .log) in
     let f = t .after in
     flow-of (left a d) (f .segs) (rw (t .card) (f .flows .carries)) ∙ (λ i. flowFor (t .card i) (f .segs) (t .queue i) (t .done i)) ∙ sym (f .flow)
 
-left-segments : (a : ℕ) (d : Disk) → Right d → segmentsIn (left a d .card) ≡ segmentsIn (d .card)
+pub left-segments : (a : ℕ) (d : Disk) → Right d → segmentsIn (left a d .card) ≡ segmentsIn (d .card)
 left-segments a d k = ap (λ (n : ℕ). n / 4096) (flush-size a d (k .reader) (turn a d (k .reader) (k .log)))
 
 pub record Stored (a : ℕ) (d : Disk) : Type 0 where
