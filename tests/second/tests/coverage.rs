@@ -214,7 +214,7 @@ fn cards_reach_every_answer_of_the_lister() {
         reached.add_if(lines.lines().any(|line| line.ends_with(':')), "an empty list");
         reached.add_if(card.len() == 17 * SEGMENT_BYTES, "17 segments");
         reached.add_if(first.starts_with("segments 16"), "16 segments");
-        reached.add_if(card.len() % SEGMENT_BYTES != 0, "an odd length");
+        reached.add_if(!card.len().is_multiple_of(SEGMENT_BYTES), "an odd length");
     }
     for (what, times) in &reached.0 {
         println!("{times:8} {what}");

@@ -289,16 +289,22 @@ impl Generator<'_> {
         };
         let Some(list) = state.list_of(block) else { return };
         let hex = self.hex();
+        let other_list = self.random.pick(state.lists());
+        let list_again = if self.random.chance(50) { list } else { other_list };
         if makes_list {
             self.run(format_args!("newblock {unit} {list} 0"));
             self.run(format_args!("dellist 0 {list}"));
             self.run(format_args!("show {unit}"));
             self.run(format_args!("newlist 0"));
         } else {
-            self.run(format_args!("write {unit} {block} {hex}"));
+            if self.random.chance(50) {
+                self.run(format_args!("write {unit} {block} {hex}"));
+            } else {
+                self.run(format_args!("newblock {unit} {list} {block}"));
+            }
             self.run(format_args!("delblock 0 {block}"));
             self.run(format_args!("read {unit} {block}"));
-            self.run(format_args!("newblock 0 {list} 0"));
+            self.run(format_args!("newblock 0 {list_again} 0"));
             self.run(format_args!("read {unit} {block}"));
             self.run(format_args!("read 0 {block}"));
         }

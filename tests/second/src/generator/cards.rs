@@ -1,7 +1,7 @@
 //! Random cards for the lister.
 
 use super::generate;
-use super::logs::random_log;
+use super::logs::{random_faulty_log, random_log};
 use crate::limits::{LISTER_SEGMENTS, SEGMENT_BYTES};
 use crate::random::Random;
 
@@ -12,7 +12,8 @@ pub fn card(seed: u64) -> Vec<u8> {
     let segments = random.pick(&[1, 1, 2, 3, random.clone().between(1, most), most, most + 1]) as usize;
     let mut card = match random.below(10) {
         0..=3 => card_of_script(seed),
-        4..=8 => random_log(&mut random, segments),
+        4..=7 => random_log(&mut random, segments),
+        8 => random_faulty_log(&mut random, segments),
         _ => vec![random.byte(); segments * SEGMENT_BYTES],
     };
     match random.below(10) {

@@ -14,6 +14,17 @@ impl Generator<'_> {
     pub(super) fn stored_log(&mut self) {
         let segments = self.segments_of_profile();
         let log = random_log(&mut self.random, segments);
+        self.store_log(&log);
+    }
+
+    /// The same with a short log that has a fault.
+    pub(super) fn faulty_log(&mut self) {
+        let segments = self.segments_of_profile();
+        let log = random_faulty_log(&mut self.random, segments);
+        self.store_log(&log);
+    }
+
+    fn store_log(&mut self, log: &[u8]) {
         let stores = log.iter().filter(|&&byte| byte != 0).count();
         if stores + 10 > self.lines_left {
             return self.any_call();
@@ -23,10 +34,13 @@ impl Generator<'_> {
         for (at, &byte) in log.iter().enumerate().filter(|(_, &byte)| byte != 0) {
             self.run(format_args!("poke {at} {byte}"));
         }
-        self.run(format_args!("list"));
-        self.run(format_args!("mount"));
-        self.run(format_args!("show 0"));
-        self.run(format_args!("sum"));
+        if self.random.chance(30) {
+            self.run(format_args!("list"));
+        }
+        if self.run(format_args!("mount")).is_accepted() {
+            self.run(format_args!("show 0"));
+            self.run(format_args!("sum"));
+        }
     }
 }
 
@@ -39,7 +53,8 @@ pub(super) fn random_log(random: &mut Random, segments: usize) -> Vec<u8> {
         if random.chance(25) {
             writer.fill(random.between(0, 9) as usize);
         }
-        writer.write_log(random);
+        let (steps, opens_early) = random.pick(&[(1, 0), (2, 20), (4, 0), (8, 20), (15, 5), (40, 5), (20, 60)]);
+        writer.write_log(random, steps, opens_early);
     }
     match random.below(20) {
         0..=8 => writer.add_fault(random),
@@ -48,6 +63,15 @@ pub(super) fn random_log(random: &mut Random, segments: usize) -> Vec<u8> {
         }
         _ => {}
     }
+    writer.card
+}
+
+/// A card of so many segments with a short log that has a fault, or nearly one.
+pub(super) fn random_faulty_log(random: &mut Random, segments: usize) -> Vec<u8> {
+    let mut writer = Writer::new(segments);
+    let steps = random.between(2, 8);
+    writer.write_log(random, steps, 10);
+    writer.add_fault(random);
     writer.card
 }
 
@@ -72,8 +96,7 @@ impl Writer {
     }
 
     /// Plain entries, units and dead members, segments opened early now and then.
-    fn write_log(&mut self, random: &mut Random) {
-        let (steps, opens_early) = random.pick(&[(1, 0), (5, 20), (10, 5), (20, 2), (40, 5), (20, 60)]);
+    fn write_log(&mut self, random: &mut Random, steps: u64, opens_early: u64) {
         for _ in 0..steps {
             if random.chance(opens_early) {
                 self.open_segment();
@@ -150,7 +173,9 @@ impl Writer {
         let at = entries_at(self.segment) + self.bytes;
         self.card[at..][..bytes.len()].copy_from_slice(bytes);
         self.bytes += bytes.len();
-        self.card[count_at(self.segment)] += 1;
+        // Behind a fault the count may be any byte.
+        let count = &mut self.card[count_at(self.segment)];
+        *count = count.wrapping_add(1);
     }
 
     /// Empty commits until only `left` bytes of the summary are left, or one more.
@@ -194,31 +219,16 @@ impl Writer {
 
     /// One fault, of any kind; entries may follow it.
     fn add_fault(&mut self, random: &mut Random) {
-        let state = self.reading.state;
-        match random.below(9) {
-            0 => {
-                if self.bytes + 2 < ENTRY_BYTES {
-                    self.store(&[random.byte(), random.byte()]);
-                }
-            }
+        match random.below(20) {
+            0 => self.add_bytes(&[random.byte(), random.byte()]),
             1 => self.card[count_at(self.segment)] = random.byte(),
             2 => {
                 let segments = self.card.len() / SEGMENT_BYTES;
                 self.card[count_at(random.below(segments as u64) as usize)] = random.byte();
             }
             3 => {
-                let block = random.pick_if_any(&blocks_of(&state)).unwrap_or(1);
-                if self.bytes + 3 < ENTRY_BYTES {
-                    self.store(&[random.pick(&[9, 137]), block, random.below(16) as u8]);
-                }
-            }
-            7 => {
-                // The summary ends in the middle of an entry.
-                let left = random.between(1, 3) as usize;
-                self.fill(left);
-                let put_after = [random.pick(&[7, 135]), 1, 1];
-                let length = ENTRY_BYTES - self.bytes;
-                self.store(&put_after[..length.min(3)]);
+                let block = random.pick_if_any(&blocks_of(&self.reading.state)).unwrap_or(1);
+                self.add_bytes(&[random.pick(&[9, 137]), block, random.below(16) as u8]);
             }
             4 => {
                 let members = random.below(JOURNAL as u64 + 1) as u8;
@@ -228,18 +238,125 @@ impl Writer {
                 let change = any_member_change(random);
                 self.add(random, Entry::Plain(change));
             }
-            6 => {
+            6..=7 => {
                 let change = any_member_change(random);
                 self.add(random, Entry::Member(change));
                 self.add(random, Entry::Commit { members: 1 });
             }
-            _ => {
+            8 => self.add_half_an_entry(random),
+            9..=10 => self.add_commit_above_its_range(random),
+            11..=12 => self.add_commit_behind_an_ended_run(random),
+            13 => self.add_put_behind_another_list(random),
+            14 => {
                 let at = entries_at(self.segment) + random.below(self.bytes as u64 + 1) as usize;
                 self.card[at] = random.byte();
             }
+            _ => self.add_field_at_its_border(random),
         }
         if random.chance(50) {
             self.add_unit(random);
+        }
+    }
+
+    /// Stores bytes that may be no entry.
+    fn add_bytes(&mut self, bytes: &[u8]) {
+        if self.bytes + bytes.len() <= ENTRY_BYTES {
+            self.store(bytes);
+        }
+    }
+
+    /// The summary ends in the middle of an entry.
+    fn add_half_an_entry(&mut self, random: &mut Random) {
+        self.fill(random.between(1, 3) as usize);
+        let put_after = [random.pick(&[7, 135]), 1, 1];
+        let length = put_after.len().min(ENTRY_BYTES - self.bytes);
+        self.store(&put_after[..length]);
+    }
+
+    /// A commit of 15, 16 or more, behind as many members that apply: puts and deletions of one block, or writes.
+    fn add_commit_above_its_range(&mut self, random: &mut Random) {
+        let state = self.reading.state;
+        let Some(list) = random.pick_if_any(state.lists()) else {
+            return;
+        };
+        let members: u8 = random.pick(&[15, 16, 16, 17, 20]);
+        if let Some(block) = random.pick_if_any(&blocks_of(&state)).filter(|_| random.chance(50)) {
+            for _ in 0..members {
+                self.add(random, Entry::Member(Change::Write { block }));
+            }
+        } else if let Some(block) = (1..=BLOCKS).find(|&block| !state.is_on_a_list(block)) {
+            for _ in 0..members.div_ceil(2) {
+                self.add(random, Entry::Member(Change::PutFirst { block, list }));
+                self.add(random, Entry::Member(Change::DeleteBlock { block }));
+            }
+        }
+        self.add_bytes(&[16, members]);
+    }
+
+    /// A commit that would take a member which a plain entry or another commit has left dead.
+    fn add_commit_behind_an_ended_run(&mut self, random: &mut Random) {
+        let state = self.reading.state;
+        let change = match random.pick_if_any(&blocks_of(&state)) {
+            Some(block) => Change::Write { block },
+            None => any_member_change(random),
+        };
+        self.add(random, Entry::Member(change));
+        if random.chance(50) {
+            self.add_plain(random);
+        } else {
+            self.add(random, Entry::Commit { members: 0 });
+        }
+        self.add(random, Entry::Commit { members: 1 });
+    }
+
+    /// A put behind a block that is on another list, as a plain entry or as a member with its commit.
+    fn add_put_behind_another_list(&mut self, random: &mut Random) {
+        let state = self.reading.state;
+        let predecessor = random.pick_if_any(&blocks_of(&state));
+        let list = random.pick_if_any(state.lists());
+        let block = (1..=BLOCKS).rev().find(|&block| !state.is_on_a_list(block));
+        let (Some(predecessor), Some(list), Some(block)) = (predecessor, list, block) else {
+            return;
+        };
+        let change = Change::PutAfter {
+            block,
+            list,
+            predecessor,
+        };
+        if random.chance(50) {
+            self.add(random, Entry::Plain(change));
+        } else {
+            self.add(random, Entry::Member(change));
+            self.add(random, Entry::Commit { members: 1 });
+        }
+    }
+
+    /// An entry with one field at the border of its range, plain or a member, dead or committed.
+    fn add_field_at_its_border(&mut self, random: &mut Random) {
+        let change = if random.chance(50) {
+            change_of(random, &self.reading.state)
+        } else {
+            any_member_change(random)
+        };
+        let is_member = change.has_member_map() && random.chance(60);
+        let entry = if is_member {
+            Entry::Member(change)
+        } else {
+            Entry::Plain(change)
+        };
+        let encoded = entry.encode(self.slots);
+        let mut bytes = encoded.bytes().to_vec();
+        let field = random.between(1, bytes.len() as u64 - 1) as usize;
+        let borders = match (change, field) {
+            (Change::TakeList { .. } | Change::DeleteList { .. }, _) => [0, LISTS, LISTS + 1],
+            (Change::PutFirst { .. } | Change::PutAfter { .. }, 2) => [0, LISTS, LISTS + 1],
+            (Change::Write { .. }, 2) => [0, SLOTS - 1, SLOTS],
+            _ => [0, BLOCKS, BLOCKS + 1],
+        };
+        bytes[field] = random.pick(&borders);
+        self.add_bytes(&bytes);
+        if is_member && random.chance(50) {
+            self.add_bytes(&[16, 1]);
         }
     }
 }

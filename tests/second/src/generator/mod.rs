@@ -52,6 +52,7 @@ enum Action {
     /// Another card, formatted or with a log stored byte by byte.
     NewCard,
     StoredLog,
+    FaultyLog,
     /// Someone else writes on the card.
     Damage,
     /// Parts are lent.
@@ -185,7 +186,7 @@ const PROFILES: &[Profile] = &[
     // Logs that no flush would leave.
     Profile {
         actions: &[
-            (Action::StoredLog, 6),
+            (Action::StoredLog, 8),
             (Action::Show, 4),
             (Action::Flush, 8),
             (Action::Damage, 2),
@@ -194,6 +195,12 @@ const PROFILES: &[Profile] = &[
         ],
         segments: (1, 12),
         lines: (800, 2_000),
+    },
+    // Logs with a fault.
+    Profile {
+        actions: &[(Action::FaultyLog, 100), (Action::Damage, 10)],
+        segments: (1, 3),
+        lines: (500, 1_500),
     },
     // Numbers that run out.
     Profile {
@@ -330,6 +337,7 @@ impl Generator<'_> {
             Action::Format => self.format(),
             Action::NewCard => self.new_card(),
             Action::StoredLog => self.stored_log(),
+            Action::FaultyLog => self.faulty_log(),
             Action::Damage => self.damage(),
             Action::Lend => self.lend(),
             Action::Nonsense => self.nonsense(),
