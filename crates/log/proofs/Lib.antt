@@ -19,3 +19,4 @@ pub mod Within
 pub mod Sequence
 pub mod LogStores
 pub mod Stores
+pub mod Feeding

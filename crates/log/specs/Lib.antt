@@ -5,3 +5,6 @@ pub mod Store
 pub mod Flush
 pub mod Parse
 pub mod Within
+pub mod Location
+pub mod Feed
+pub mod Walk

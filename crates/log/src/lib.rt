@@ -2,6 +2,7 @@
 pub mod encode;
 pub mod entry;
 pub mod flush;
+pub mod feed;
 pub mod format;
 pub mod layout;
 pub mod legal;
@@ -9,3 +10,4 @@ pub mod map;
 pub mod parse;
 pub mod place;
 pub mod store;
+pub mod walk;

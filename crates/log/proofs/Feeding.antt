@@ -1,0 +1,297 @@
+-- Members that the tables recall, and how plain entries, members and commits lead from one reader kept to the next.
+use mathlib.Core.Path.{_≡_, refl, sym, ap, _∙_, subst}
+use mathlib.Core.Logic.{_≢_}
+use mathlib.Core.Bool.{Bool, true, false, _&&_, cond, true≢false, false≢true}
+use mathlib.Core.Option.{Option, none, some}
+use mathlib.Core.List.{List, [], _∷_, _++_}
+use Prim.Native.Nat.{ℕ, suc, _+_, _-_, _*_, _%_, _≤_, _<_}
+use native.Mathlib.Omega.{arith}
+use native.Mathlib.Numerals.{add-one}
+use native.Mathlib.Decide.{decLt}
+use lib.Dec.{leb}
+use lib.ListN.{length, getD, set, drop, length-set, length-append, List·getD-append, drop-of-length-le}
+use lib.Seq.{getD-set-same, getD-set-other, getD-at, drop-cons}
+use borrow.Author.Tests.{le-leb, lt-leb, leb-true}
+use Rattle.lists.specs.Basic.{bind}
+use Rattle.lists.specs.Change.{Change, takeList, putFirst, putAfter, write, delBlock, delList, mapChange}
+use Rattle.lists.specs.State.{State, apply, applyAll}
+use Rattle.lists.specs.Tables.{Tables, Shows, Ranged, Represents, Did, DidSome, ofKind}
+use Rattle.lists.proofs.Basic.{and-true}
+use Rattle.lists.proofs.Represents.{did-apply}
+use Rattle.log.specs.Entry.{Entry, plain, member, commit, mapEntry, isBlock, isList, isSlot, legalChange, legal, hasMember, raw, asChange, asEntry}
+use Rattle.log.specs.Reader.{Reader, reader, settled, read, lastOf}
+use Rattle.log.specs.Feed.{Lent, recalled, memberSet, Recalled, Recalls, Kept, ReadTo, fieldsOf, FedTo, fedIf, Commits}
+use Rattle.log.specs.declared.entry.LogEntry.{LogEntry}
+use Rattle.log.specs.declared.entry.LogEntry.the-variants.{Take, PutFirst, PutAfter, Write, DeleteBlock, DeleteList, Commit}
+use Rattle.log.specs.declared.feed.Fed.{Fed}
+use Rattle.log.specs.declared.feed.Fed.the-variants.{Run, Refused}
+
+-- Four bytes stored in a row.
+module _ (bs : List ℕ) (i k b l p : ℕ) (h : i + 3 < length bs) where
+  four : List ℕ
+  four = set (set (set (set bs i k) (i + 1) b) (i + 2) l) (i + 3) p
+
+  four-other : (j : ℕ) → (j ≡ i → ⊥) → (j ≡ i + 1 → ⊥) → (j ≡ i + 2 → ⊥) → (j ≡ i + 3 → ⊥) → getD four j 0 ≡ getD bs j 0
+  unfolding four
+  four-other j e₀ e₁ e₂ e₃ =
+      getD-set-other (set (set (set bs i k) (i + 1) b) (i + 2) l) (i + 3) j p 0 e₃
+      ∙ getD-set-other (set (set bs i k) (i + 1) b) (i + 2) j l 0 e₂
+      ∙ getD-set-other (set bs i k) (i + 1) j b 0 e₁
+      ∙ getD-set-other bs i j k 0 e₀
+
+  four-0 : getD four i 0 ≡ k
+  unfolding four
+  four-0 =
+      getD-set-other (set (set (set bs i k) (i + 1) b) (i + 2) l) (i + 3) i p 0 (λ e. omega arith)
+      ∙ getD-set-other (set (set bs i k) (i + 1) b) (i + 2) i l 0 (λ e. omega arith)
+      ∙ getD-set-other (set bs i k) (i + 1) i b 0 (λ e. omega arith)
+      ∙ getD-set-same bs i k 0 (omega arith)
+
+  four-1 : getD four (i + 1) 0 ≡ b
+  unfolding four
+  four-1 =
+      getD-set-other (set (set (set bs i k) (i + 1) b) (i + 2) l) (i + 3) (i + 1) p 0 (λ e. omega arith)
+      ∙ getD-set-other (set (set bs i k) (i + 1) b) (i + 2) (i + 1) l 0 (λ e. omega arith)
+      ∙ getD-set-same (set bs i k) (i + 1) b 0 (simp length-set (omega arith))
+
+  four-2 : getD four (i + 2) 0 ≡ l
+  unfolding four
+  four-2 =
+      getD-set-other (set (set (set bs i k) (i + 1) b) (i + 2) l) (i + 3) (i + 2) p 0 (λ e. omega arith)
+      ∙ getD-set-same (set (set bs i k) (i + 1) b) (i + 2) l 0 (simp length-set (omega arith))
+
+  four-3 : getD four (i + 3) 0 ≡ p
+  unfolding four
+  four-3 = getD-set-same (set (set (set bs i k) (i + 1) b) (i + 2) l) (i + 3) p 0 (simp length-set (omega arith))
+
+-- One member more.
+module _ (ms ls : List ℕ) (run : ℕ) (cs : List (Change ℕ)) (w : Recalls ms ls run cs) (k b l p d : ℕ) (c : Change ℕ) (q : ofKind k b l p d ≡ some c) (g : Ranged c) where
+  room : 4 * (run % 16) + 3 < length ms
+  room = omega (arith, w .bytes)
+
+  -- the new member, and those before it
+  last-recalled : Recalled (memberSet ms run k b l p) (set ls (run % 16) d) run c
+  unfolding four
+  last-recalled =
+      let i = 4 * (run % 16) in
+      let e : getD (set ls (run % 16) d) (run % 16) 0 ≡ d = getD-set-same ls (run % 16) d 0 (omega (arith, w .places)) in
+      record { found = rw (four-0 ms i k b l p room, four-1 ms i k b l p room, four-2 ms i k b l p room, four-3 ms i k b l p room, e) q; ranged = g }
+
+  old-recalled : (j : ℕ) → j < run → run < j + 16 → (m : Change ℕ) → Recalled ms ls j m → Recalled (memberSet ms run k b l p) (set ls (run % 16) d) j m
+  unfolding four
+  old-recalled j lo hi m r =
+      let i = 4 * (run % 16) in
+      let n : j % 16 ≡ run % 16 → ⊥ = λ e. omega arith in
+      let e : getD (set ls (run % 16) d) (j % 16) 0 ≡ getD ls (j % 16) 0 = getD-set-other ls (run % 16) (j % 16) d 0 n in
+      let o₀ = four-other ms i k b l p room (4 * (j % 16)) (λ u. n (omega arith)) (λ u. n (omega arith)) (λ u. n (omega arith)) (λ u. n (omega arith)) in
+      let o₁ = four-other ms i k b l p room (4 * (j % 16) + 1) (λ u. n (omega arith)) (λ u. n (omega arith)) (λ u. n (omega arith)) (λ u. n (omega arith)) in
+      let o₂ = four-other ms i k b l p room (4 * (j % 16) + 2) (λ u. n (omega arith)) (λ u. n (omega arith)) (λ u. n (omega arith)) (λ u. n (omega arith)) in
+      let o₃ = four-other ms i k b l p room (4 * (j % 16) + 3) (λ u. n (omega arith)) (λ u. n (omega arith)) (λ u. n (omega arith)) (λ u. n (omega arith)) in
+      record { found = rw (o₀, o₁, o₂, o₃, e) (r .found); ranged = r .ranged }
+
+  recalls-more : Recalls (memberSet ms run k b l p) (set ls (run % 16) d) (run + 1) (cs ++ c ∷ [])
+  recalls-more = record {
+    bytes = simp length-set (w .bytes);
+    places = simp length-set (w .places);
+    size = simp length-append (omega (arith, w .size));
+    each = λ j lo hi. go j lo hi (decLt j run);
+  }
+    where
+      go : (j : ℕ) → j < run + 1 → run + 1 ≤ j + 16 → Dec (j < run) → Recalled (memberSet ms run k b l p) (set ls (run % 16) d) j (getD (cs ++ c ∷ []) j (takeList 0))
+      go j lo hi (yes h) =
+          rw (List·getD-append cs (c ∷ []) (takeList 0) j (omega (arith, w .size))) (old-recalled j h (omega arith) (getD cs j (takeList 0)) (w .each j h (omega arith)))
+      go j lo hi (no h) =
+          let e : j ≡ run = omega arith in
+          rw (getD-at cs c [] (takeList 0) j (w .size ∙ sym e), e) last-recalled
+
+-- The tables of a state after the run has ended.
+abbrev pub ended : Lent → Tables → Lent
+ended m u = record { tables = u; members = m .members; locations = m .locations }
+
+module _ (m : Lent) (run : ℕ) (r : Reader ℕ) (k : Kept m run r) where
+  kept-settled : (u : Tables) (s : State ℕ) → Shows u (s .lists) → Kept (ended m u) 0 (settled s)
+  kept-settled u s h = record {
+    shows = h;
+    recalls = record { bytes = k .recalls .bytes; places = k .recalls .places; size = refl; each = λ j lo hi. absurd (omega arith) };
+  }
+
+  read-settled : (o : Option (State ℕ)) (b : Bool) (u : Tables) → Represents o b u → ReadTo (bind o (λ s. some (settled s))) b (ended m u) 0
+  read-settled none true u h = absurd (true≢false h)
+  read-settled none false u h = refl
+  read-settled (some s) true u h = (settled s, refl, kept-settled u s (h .1))
+  read-settled (some s) false u h = absurd (false≢true (h .0))
+
+  pub read-plain : (c : Change ℕ) (b : Bool) (u : Tables) → Ranged c → Did c (m .tables) b u → ReadTo (read 0 r (plain c)) b (ended m u) 0
+  unfolding read
+  read-plain c b u g d = read-settled (apply 0 c (r .state)) b u (did-apply c (m .tables) b u (r .state) g (k .shows) d)
+
+  pub read-member : (t b l p d : ℕ) (c : Change ℕ) → ofKind t b l p d ≡ some c → Ranged c
+      → ReadTo (read 0 r (member c)) true (record { tables = m .tables; members = memberSet (m .members) run t b l p; locations = set (m .locations) (run % 16) d }) (run + 1)
+  unfolding read
+  read-member t b l p d c q g = (
+    reader (r .run ++ c ∷ []) (r .state),
+    refl,
+    record { shows = k .shows; recalls = recalls-more (m .members) (m .locations) run (r .run) (k .recalls) t b l p d c q g },
+  )
+
+  pub read-commit : (n : ℕ) (b : Bool) (u : Tables) → n ≤ run → Represents (applyAll 0 (lastOf n (r .run)) (r .state)) b u → ReadTo (read 0 r (commit n)) b (ended m u) 0
+  unfolding read
+  read-commit n b u h w =
+      rw (le-leb n (length (r .run)) (omega (arith, k .recalls .size))) (read-settled (applyAll 0 (lastOf n (r .run)) (r .state)) b u w)
+
+  pub read-short : (n : ℕ) → run < n → read 0 r (commit n) ≡ none
+  unfolding read
+  read-short n h = rw (lt-leb n (length (r .run)) (omega (arith, k .recalls .size)))
+
+-- A commit's members act, one by one: those from number j on are to come.
+module _ (cs : List (Change ℕ)) (j : ℕ) (s : State ℕ) (t : Tables) where
+  pub turn-made : j < length cs → Represents (apply 0 (getD cs j (takeList 0)) s) true t
+      → (q : State ℕ) × Shows t (q .lists) × (applyAll 0 (drop (j + 1) cs) q ≡ applyAll 0 (drop j cs) s)
+  unfolding applyAll
+  turn-made h = rw (add-one j, drop-cons cs j (takeList 0) h) (go (apply 0 (getD cs j (takeList 0)) s))
+    where
+      go : (o : Option (State ℕ)) → Represents o true t → (q : State ℕ) × Shows t (q .lists) × (applyAll 0 (drop (suc j) cs) q ≡ bind o (λ u. applyAll 0 (drop (suc j) cs) u))
+      go none a = absurd (true≢false a)
+      go (some q) a = (q, a .1, refl)
+
+  pub turn-refused : j < length cs → Represents (apply 0 (getD cs j (takeList 0)) s) false t → applyAll 0 (drop j cs) s ≡ none
+  unfolding applyAll
+  turn-refused h = rw (drop-cons cs j (takeList 0) h) (go (apply 0 (getD cs j (takeList 0)) s))
+    where
+      go : (o : Option (State ℕ)) → Represents o false t → bind o (λ u. applyAll 0 (drop (suc j) cs) u) ≡ none
+      go none a = refl
+      go (some q) a = absurd (false≢true (a .0))
+
+  pub all-made : (o : Option (State ℕ)) → length cs ≤ j → Shows t (s .lists) → applyAll 0 (drop j cs) s ≡ o → Represents o true t
+  unfolding applyAll
+  all-made o h w e = subst (λ (x : Option (State ℕ)). Represents x true t) (rw (drop-of-length-le cs h) at e) (refl, w)
+
+pub none-refused : (o : Option (State ℕ)) (t : Tables) → o ≡ none → Represents o false t
+none-refused o t h = rw h refl
+
+pub last-from : (cs : List (Change ℕ)) (n run : ℕ) → length cs ≡ run → drop (run - n) cs ≡ lastOf n cs
+unfolding lastOf
+last-from cs n run h = rw h
+
+-- An entry that is no commit is its change.
+abbrev pub NoCommit : LogEntry → Type 0
+NoCommit e = fieldsOf e .kind ≢ 0
+
+abbrev pub fieldsChange : LogEntry → ℕ → Option (Change ℕ)
+fieldsChange e d = ofKind (fieldsOf e .kind) (fieldsOf e .block) (fieldsOf e .list) (fieldsOf e .predecessor) d
+
+-- its write at location d
+abbrev changeAt : LogEntry → ℕ → Change ℕ
+changeAt e d = mapChange (λ s. d) (asChange e)
+
+fields-change : (e : LogEntry) (d : ℕ) → NoCommit e → fieldsChange e d ≡ some (changeAt e d)
+unfolding ofKind asChange mapChange
+fields-change (Take l) d h = refl
+fields-change (PutFirst b l) d h = refl
+fields-change (PutAfter b l p) d h = refl
+fields-change (Write b s) d h = refl
+fields-change (DeleteBlock b) d h = refl
+fields-change (DeleteList l) d h = refl
+fields-change (Commit n) d h = absurd (h refl)
+
+entry-change : (t : Bool) (e : LogEntry) → NoCommit e → asEntry t e ≡ cond t (member (asChange e)) (plain (asChange e))
+unfolding asEntry asChange
+entry-change t (Take l) h = refl
+entry-change t (PutFirst b l) h = refl
+entry-change t (PutAfter b l p) h = refl
+entry-change t (Write b s) h = refl
+entry-change t (DeleteBlock b) h = refl
+entry-change t (DeleteList l) h = refl
+entry-change t (Commit n) h = absurd (h refl)
+
+range : (l h x : ℕ) → (leb l x && leb x h) ≡ true → (l ≤ x) × (x ≤ h)
+range l h x e = let (p, q) = and-true (leb l x) (leb x h) e in (leb-true l x p, leb-true x h q)
+
+change-ranged : (c : Change ℕ) → legalChange c ≡ true → Ranged c
+unfolding legalChange
+change-ranged (takeList l) h = range 1 16 l h
+change-ranged (putFirst b l) h = let (p, q) = and-true (isBlock b) (isList l) h in (range 1 64 b p, range 1 16 l q)
+change-ranged (putAfter b l x) h =
+    let (p, q) = and-true (isBlock b && isList l) (isBlock x) h in
+    let (u, v) = and-true (isBlock b) (isList l) p in
+    (range 1 64 b u, range 1 16 l v, range 1 64 x q)
+change-ranged (write b s) h = range 1 64 b (and-true (isBlock b) (isSlot s) h .0)
+change-ranged (delBlock b) h = range 1 64 b h
+change-ranged (delList l) h = range 1 16 l h
+
+ranged-map : (f : ℕ → ℕ) (c : Change ℕ) → (Ranged (mapChange f c) → Ranged c) × (Ranged c → Ranged (mapChange f c))
+unfolding mapChange
+ranged-map f (takeList l) = ((λ h. h), λ h. h)
+ranged-map f (putFirst b l) = ((λ h. h), λ h. h)
+ranged-map f (putAfter b l p) = ((λ h. h), λ h. h)
+ranged-map f (write b s) = ((λ h. h), λ h. h)
+ranged-map f (delBlock b) = ((λ h. h), λ h. h)
+ranged-map f (delList l) = ((λ h. h), λ h. h)
+
+module _ (e : LogEntry) (n : NoCommit e) where
+  pub legal-ranged : legal (asEntry false e) ≡ true → Ranged (asChange e)
+  unfolding legal
+  legal-ranged h = change-ranged (asChange e) (rw (entry-change false e n) at h)
+
+  raw-ranged : (t : Bool) → legal (raw 0 (asEntry t e)) ≡ true → Ranged (asChange e)
+  unfolding legal raw mapEntry
+  raw-ranged true h =
+      let k : legal (mapEntry (λ s. 0) (member (asChange e))) ≡ true = rw (entry-change true e n) at h in
+      ranged-map (λ s. 0) (asChange e) .0 (change-ranged (mapChange (λ s. 0) (asChange e)) (and-true (hasMember (mapChange (λ s. 0) (asChange e))) _ k .1))
+  raw-ranged false h =
+      let k : legal (mapEntry (λ s. 0) (plain (asChange e))) ≡ true = rw (entry-change false e n) at h in
+      ranged-map (λ s. 0) (asChange e) .0 (change-ranged (mapChange (λ s. 0) (asChange e)) k)
+
+  module _ (m : Lent) (run : ℕ) (r : Reader ℕ) (k : Kept m run r) (d : ℕ) (g : Ranged (asChange e)) where
+    -- made at once
+    pub read-now : (b : Bool) (u : Tables) → DidSome (fieldsChange e d) (m .tables) b u → ReadTo (read 0 r (mapEntry (λ s. d) (asEntry false e))) b (ended m u) 0
+    unfolding mapEntry
+    read-now b u w =
+        rw (entry-change false e n)
+        (read-plain m run r k (changeAt e d) b u (ranged-map (λ s. d) (asChange e) .1 g) (rw (fields-change e d n) at w))
+
+    -- kept for a commit
+    pub read-later : ReadTo (read 0 r (mapEntry (λ s. d) (asEntry true e))) true
+        (record {
+          tables = m .tables;
+          members = memberSet (m .members) run (fieldsOf e .kind) (fieldsOf e .block) (fieldsOf e .list) (fieldsOf e .predecessor);
+          locations = set (m .locations) (run % 16) d;
+        }) (run + 1)
+    unfolding mapEntry
+    read-later =
+        rw (entry-change true e n)
+        (read-member m run r k (fieldsOf e .kind) (fieldsOf e .block) (fieldsOf e .list) (fieldsOf e .predecessor) d (changeAt e d) (fields-change e d n)
+        (ranged-map (λ s. d) (asChange e) .1 g))
+
+-- What is fed.
+fed-read : (o : Option (Reader ℕ)) (b : Bool) (m : Lent) → ReadTo o b m 0 → FedTo o (fedIf b) m
+fed-read o true m h = h
+fed-read o false m h = h
+
+module _ (m : Lent) (run : ℕ) (r : Reader ℕ) (k : Kept m run r) (d : ℕ) (t : Bool) (e : LogEntry) (l : legal (raw 0 (asEntry t e)) ≡ true) where
+  pub fed-commit : (b : Bool) (m′ : Lent) → fieldsOf e .kind ≡ 0 → Commits m run (fieldsOf e .count) b m′ → FedTo (read 0 r (mapEntry (λ s. d) (asEntry t e))) (fedIf b) m′
+  unfolding asEntry mapEntry legal raw
+  fed-commit b m′ z w = go e z l w
+    where
+      go : (x : LogEntry) → fieldsOf x .kind ≡ 0 → legal (raw 0 (asEntry t x)) ≡ true → Commits m run (fieldsOf x .count) b m′
+          → FedTo (read 0 r (mapEntry (λ s. d) (asEntry t x))) (fedIf b) m′
+      go (Take a) h i w = absurd (omega arith)
+      go (PutFirst a c) h i w = absurd (omega arith)
+      go (PutAfter a c p) h i w = absurd (omega arith)
+      go (Write a s) h i w = absurd (omega arith)
+      go (DeleteBlock a) h i w = absurd (omega arith)
+      go (DeleteList a) h i w = absurd (omega arith)
+      go (Commit n) h i w = fed-read (read 0 r (commit n)) b m′ (w r k (leb-true n 15 i))
+
+  module _ (n : NoCommit e) where
+    pub fed-member : t ≡ true
+        → FedTo (read 0 r (mapEntry (λ s. d) (asEntry t e))) (Run (run + 1))
+        (record {
+          tables = m .tables;
+          members = memberSet (m .members) run (fieldsOf e .kind) (fieldsOf e .block) (fieldsOf e .list) (fieldsOf e .predecessor);
+          locations = set (m .locations) (run % 16) d;
+        })
+    fed-member q = rw q (read-later e n m run r k d (raw-ranged e n t l))
+
+    pub fed-plain : (b : Bool) (u : Tables) → t ≡ false → DidSome (fieldsChange e d) (m .tables) b u → FedTo (read 0 r (mapEntry (λ s. d) (asEntry t e))) (fedIf b) (ended m u)
+    fed-plain b u q w = rw q (fed-read (read 0 r (mapEntry (λ s. d) (asEntry false e))) b (ended m u) (read-now e n m run r k d (raw-ranged e n t l) b u w))

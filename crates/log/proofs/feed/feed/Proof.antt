@@ -1,0 +1,74 @@
+-- A commit, a member that is kept, a change that acts: in each way what the tables keep is the reader behind the entry. Assumes nothing.
+use mathlib.Core.Path.{_≡_, sym, ap, _∙_}
+use Prim.Native.Nat.{ℕ}
+use Rattle.lists.specs.Tables.{tables}
+use Rattle.log.specs.Feed.{lent, Commits}
+use Rattle.log.specs.declared.feed.Fields.{Fields}
+use Rattle.log.proofs.Feeding.{fed-commit, fed-member, fed-plain}
+use borrow.Author.Needs.{needs}
+use Rattle.log.proofs.feed.feed.Statement.{statement}
+use Rattle.log.proofs.feed.feed.Tie as tie
+
+fields-of-requires : tie.Need-fields-of-requires
+fields-of-requires c κs = search needs
+
+cast-commit : tie.Need-cast-commit
+cast-commit c = search needs
+
+commit-requires : tie.Need-commit-requires
+commit-requires c κs = search needs
+
+settle-requires : tie.Need-settle-requires
+settle-requires c κs = search needs
+
+returns : tie.Need-returns
+returns c =
+    λ r k l.
+    let s = c .before .before .before .before .before .before .before .before .before .before .before .before .args in
+    let q = c .before .before .before .before .before .before .before .before .before .before .before .fields-of .ensures in
+    rw (c .settle .ensures)
+    (fed-commit _ (s .run) r k (s .location) (s .member) (s .e) l (c .before .commit .result) _ (ap (λ (f : Fields). f .kind) (sym q) ∙ c .before .before .before .before .before .before .before .before .before .if1 .taken) (rw q at (c .before .commit .ensures)))
+
+keep-requires : tie.Need-keep-requires
+keep-requires c κs = search needs
+
+add-t24 : tie.Need-add-t24
+add-t24 c = search needs
+
+returns-2 : tie.Need-returns-2
+returns-2 c =
+    λ r k l.
+    let s = c .before .before .before .before .before .before .before .args in
+    let q = c .before .before .before .before .before .before .fields-of .ensures in
+    rw (c .keep .ensures .0, c .keep .ensures .1, q)
+    (fed-member _ (s .run) r k (s .location) (s .member) (s .e) l (λ z. c .before .before .before .before .if1 .left (ap (λ (f : Fields). f .kind) q ∙ z)) (c .before .before .before .if2 .taken))
+
+act-requires : tie.Need-act-requires
+act-requires c κs = search needs
+
+settle-requires-2 : tie.Need-settle-requires-2
+settle-requires-2 c κs = search needs
+
+returns-3 : tie.Need-returns-3
+returns-3 c =
+    λ r k l.
+    let s = c .before .before .before .before .before .before .before .before .before .before .args in
+    let q = c .before .before .before .before .before .before .before .before .before .fields-of .ensures in
+    rw (c .settle2 .ensures)
+    (fed-plain _ (s .run) r k (s .location) (s .member) (s .e) l (λ z. c .before .before .before .before .before .before .before .if1 .left (ap (λ (f : Fields). f .kind) q ∙ z)) (c .before .act .result) _ (c .before .before .before .before .before .before .if2 .left) (rw q at (c .before .act .ensures)))
+
+pub feed-spec : {M : Type 1} → statement M
+feed-spec =
+    tie.close
+    (tie.spec
+    fields-of-requires
+    cast-commit
+    commit-requires
+    settle-requires
+    returns
+    keep-requires
+    add-t24
+    returns-2
+    act-requires
+    settle-requires-2
+    returns-3)

@@ -1,0 +1,88 @@
+-- What is promised where one entry after the other is fed to a reader that lent tables show: its state in the linked tables, its run of members in two more.
+use mathlib.Core.Path.{_≡_}
+use mathlib.Core.Bool.{Bool, true, false}
+use mathlib.Core.Option.{Option, none, some}
+use mathlib.Core.List.{List}
+use Prim.Native.Nat.{ℕ, _+_, _*_, _%_, _≤_, _<_}
+use lib.ListN.{length, getD, set}
+use Rattle.lists.specs.Change.{Change, takeList}
+use Rattle.lists.specs.State.{State, apply}
+use Rattle.lists.specs.Tables.{Tables, tables, Shows, Ranged, Represents, ofKind}
+use Rattle.log.specs.Entry.{commit, mapEntry, raw, legal, asEntry}
+use Rattle.log.specs.Reader.{Reader, read}
+use Rattle.log.specs.declared.entry.LogEntry.{LogEntry}
+use Rattle.log.specs.Location.{blank}
+use Rattle.log.specs.declared.entry.LogEntry.the-variants.{Take, PutFirst, PutAfter, Write, DeleteBlock, DeleteList, Commit}
+use Rattle.log.specs.declared.feed.Fields.{Fields}
+use Rattle.log.specs.declared.feed.Fed.{Fed}
+use Rattle.log.specs.declared.feed.Fed.the-variants.{Run, Refused}
+
+-- The tables of the state; the last members of the run, up to 16, each with four bytes (its kind, block, list and predecessor) and a location.
+pub record Lent : Type 0 where
+  pub tables : Tables
+  pub members : List ℕ
+  pub locations : List ℕ
+
+abbrev pub lent : List ℕ → List ℕ → List ℕ → List ℕ → List ℕ → List ℕ → Lent
+lent nx pv ow pl ms ls = record { tables = tables nx pv ow pl; members = ms; locations = ls }
+
+-- member j of the run stands at j % 16
+abbrev pub recalled : List ℕ → List ℕ → ℕ → Option (Change ℕ)
+recalled ms ls j =
+    ofKind (getD ms (4 * (j % 16)) 0) (getD ms (4 * (j % 16) + 1) 0) (getD ms (4 * (j % 16) + 2) 0) (getD ms (4 * (j % 16) + 3) 0) (getD ls (j % 16) 0)
+
+-- the bytes with member j's
+abbrev pub memberSet : List ℕ → ℕ → ℕ → ℕ → ℕ → ℕ → List ℕ
+memberSet ms j k b l p = set (set (set (set ms (4 * (j % 16)) k) (4 * (j % 16) + 1) b) (4 * (j % 16) + 2) l) (4 * (j % 16) + 3) p
+
+pub record Recalled (ms ls : List ℕ) (j : ℕ) (c : Change ℕ) : Type 0 where
+  pub found : recalled ms ls j ≡ some c
+  pub ranged : Ranged c
+
+pub record Recalls (ms ls : List ℕ) (run : ℕ) (cs : List (Change ℕ)) : Type 0 where
+  pub bytes : length ms ≡ 64
+  pub places : length ls ≡ 16
+  pub size : length cs ≡ run
+  pub each : (j : ℕ) → j < run → run ≤ j + 16 → Recalled ms ls j (getD cs j (takeList 0))
+
+-- the tables show the reader's state and recall its run, which has so many members
+pub record Kept (m : Lent) (run : ℕ) (r : Reader ℕ) : Type 0 where
+  pub shows : Shows (m .tables) (r .state .lists)
+  pub recalls : Recalls (m .members) (m .locations) run (r .run)
+
+-- an entry read: refused, or the tables keep the reader after it
+abbrev pub ReadTo : Option (Reader ℕ) → Bool → Lent → ℕ → Type 0
+ReadTo o false m run = o ≡ none
+ReadTo o true m run = (q : Reader ℕ) × (o ≡ some q) × Kept m run q
+
+-- The promises, of every reader kept.
+
+-- member j of the run acts
+abbrev pub ActsMember : Lent → ℕ → Bool → Tables → Type 0
+ActsMember m j b u = (c : Change ℕ) (s : State ℕ) → Recalled (m .members) (m .locations) j c → Shows (m .tables) (s .lists) → Represents (apply blank c s) b u
+
+abbrev pub Commits : Lent → ℕ → ℕ → Bool → Lent → Type 0
+Commits m run n b m′ = (r : Reader ℕ) → Kept m run r → n ≤ 15 → ReadTo (read blank r (commit n)) b m′ 0
+
+-- an entry by its fields
+abbrev pub fieldsOf : LogEntry → Fields
+fieldsOf (Take l) = record { kind = 1; block = 0; list = l; predecessor = 0; count = 0 }
+fieldsOf (PutFirst b l) = record { kind = 2; block = b; list = l; predecessor = 0; count = 0 }
+fieldsOf (PutAfter b l p) = record { kind = 3; block = b; list = l; predecessor = p; count = 0 }
+fieldsOf (Write b s) = record { kind = 4; block = b; list = 0; predecessor = 0; count = 0 }
+fieldsOf (DeleteBlock b) = record { kind = 5; block = b; list = 0; predecessor = 0; count = 0 }
+fieldsOf (DeleteList l) = record { kind = 6; block = 0; list = l; predecessor = 0; count = 0 }
+fieldsOf (Commit n) = record { kind = 0; block = 0; list = 0; predecessor = 0; count = n }
+
+abbrev pub FedTo : Option (Reader ℕ) → Fed → Lent → Type 0
+FedTo o Refused m = o ≡ none
+FedTo o (Run n) m = (q : Reader ℕ) × (o ≡ some q) × Kept m n q
+
+-- what ends the run, or is refused
+abbrev pub fedIf : Bool → Fed
+fedIf true = Run 0
+fedIf false = Refused
+
+-- a legal entry, a write's data standing at location d
+abbrev pub Feeds : Lent → ℕ → Bool → LogEntry → ℕ → Fed → Lent → Type 0
+Feeds m run t e d f m′ = (r : Reader ℕ) → Kept m run r → legal (raw 0 (asEntry t e)) ≡ true → FedTo (read blank r (mapEntry (λ s. d) (asEntry t e))) f m′

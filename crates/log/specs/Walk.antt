@@ -1,0 +1,97 @@
+-- What the walk of a card promises, step by step: of every reader that the lent tables keep, how the items of the log are met, and the place behind them.
+use mathlib.Core.Path.{_≡_}
+use mathlib.Core.Bool.{Bool, true, false, cond}
+use mathlib.Core.Option.{Option, none, some}
+use mathlib.Core.List.{List, [], _∷_, _++_}
+use Prim.Native.Nat.{ℕ, suc, _+_, _-_, _*_, _≤_}
+use lib.Dec.{ltb, eqb}
+use Rattle.lists.specs.Basic.{guard, bind}
+use Rattle.log.specs.Entry.{Entry, mapEntry, carried, entryLength, asEntry, legal}
+use Rattle.log.specs.Reader.{Reader, read}
+use Rattle.log.specs.Card.{part, usedBy, isNext, Item, good, bad, itemsOf, segmentItems, afterEmpty, sound, fault, walk, walkCard, segmentBytes}
+use Rattle.log.specs.Location.{blank, cardLocation}
+use Rattle.log.specs.Feed.{Lent, Kept, ReadTo}
+use Rattle.log.specs.Store.{opened, behindAll, tail}
+use Rattle.log.specs.declared.entry.LogEntry.{LogEntry}
+use Rattle.log.specs.declared.entry.LogEntry.the-variants.{Take, PutFirst, PutAfter, Write, DeleteBlock, DeleteList, Commit}
+use Rattle.log.specs.declared.place.Place.{Place}
+use Rattle.log.specs.declared.walk.Cursor.{Cursor}
+use Rattle.log.specs.declared.walk.Step.{Step}
+use Rattle.log.specs.declared.walk.Step.the-variants.{Next, Stuck}
+use Rattle.log.specs.declared.walk.Segment.{Segment}
+use Rattle.log.specs.declared.walk.Segment.the-variants.{Done, Broken}
+use Rattle.log.specs.declared.walk.Walked.{Walked}
+use Rattle.log.specs.declared.walk.Walked.the-variants.{Sound, Fault}
+
+-- what a parsed entry stands for, t telling whether its map has the mark of a member: "131, 135, 137, 161, 162. No other map is legal"
+abbrev pub entered : Bool → LogEntry → Option (Entry ℕ)
+entered false e = some (asEntry false e)
+entered true (Take l) = none
+entered true (PutFirst b l) = some (asEntry true (PutFirst b l))
+entered true (PutAfter b l p) = some (asEntry true (PutAfter b l p))
+entered true (Write b s) = some (asEntry true (Write b s))
+entered true (DeleteBlock b) = some (asEntry true (DeleteBlock b))
+entered true (DeleteList l) = some (asEntry true (DeleteList l))
+entered true (Commit n) = none
+
+-- the same, its slot being the next one
+abbrev pub admitted : Bool → LogEntry → ℕ → Option (Entry ℕ)
+admitted t e k = bind (entered t e) (λ x. guard (isNext k (carried x)) (some x))
+
+-- the length of the run behind it
+abbrev pub runAfter : Bool → ℕ → ℕ
+runAfter t run = cond t (run + 1) 0
+
+-- a parsed entry read, a write's data standing at location d
+abbrev pub Enters : Lent → ℕ → Bool → LogEntry → ℕ → Bool → Lent → Type 0
+Enters m run t e d b m′ =
+    (r : Reader ℕ) → Kept m run r → legal (asEntry false e) ≡ true → ReadTo (bind (entered t e) (λ x. read blank r (mapEntry (λ s. d) x))) b m′ (runAfter t run)
+
+-- the items of segment g from the cursor on, of which n are to come, the next being number i
+abbrev pub itemsFrom : List ℕ → ℕ → Cursor → ℕ → ℕ → List (Item ℕ)
+itemsFrom c g cur n i = itemsOf cardLocation g n i (cur .slots) (part c (cur .at) (segmentBytes * g + segmentBytes))
+
+-- one entry of segment g passed
+pub record Went (c : List ℕ) (g : ℕ) (cur : Cursor) (m : Lent) (next : Cursor) (m′ : Lent) : Type 0 where
+  pub entry : Entry ℕ
+  pub items : (n i : ℕ) → itemsFrom c g cur (suc n) i ≡ good g i entry ∷ itemsFrom c g next n (suc i)
+  pub at : next .at ≡ cur .at + entryLength entry
+  pub within : next .at ≤ segmentBytes * g + segmentBytes
+  pub slots : next .slots ≡ cur .slots + usedBy (carried entry)
+  pub longer : next .run ≤ cur .run + 1
+  pub reads : (r : Reader ℕ) → Kept m (cur .run) r → (q : Reader ℕ) × (read blank r entry ≡ some q) × Kept m′ (next .run) q
+
+abbrev pub Steps : List ℕ → ℕ → Cursor → Lent → Step → Lent → Type 0
+Steps c g cur m Stuck m′ = (r : Reader ℕ) → Kept m (cur .run) r → (n i : ℕ) (is : List (Item ℕ)) → walk blank r (itemsFrom c g cur (suc n) i ++ is) ≡ fault g i
+Steps c g cur m (Next next) m′ = Went c g cur m next m′
+
+-- the place in segment g that is entered from a place before
+abbrev pub seat : ℕ → Place → Place
+seat g p = cond (eqb (p .segment) g) p (opened g)
+
+-- segment g passed, which has an entry
+pub record Passed (c : List ℕ) (g run : ℕ) (m : Lent) (p : Place) (n : ℕ) (m′ : Lent) : Type 0 where
+  pub longer : n ≤ run + 255
+  pub here : p .segment ≡ g
+  pub place : (p₀ : Place) → seat g p₀ ≡ opened g → (is : List (Item ℕ)) → behindAll p₀ (segmentItems cardLocation c g ++ is) ≡ behindAll p is
+  pub reads : (r : Reader ℕ) → Kept m run r → (q : Reader ℕ) × Kept m′ n q × ((is : List (Item ℕ)) → walk blank r (segmentItems cardLocation c g ++ is) ≡ walk blank q is)
+
+abbrev pub Passes : List ℕ → ℕ → ℕ → Lent → Segment → Lent → Type 0
+Passes c g run m (Broken i) m′ = (r : Reader ℕ) → Kept m run r → (is : List (Item ℕ)) → walk blank r (segmentItems cardLocation c g ++ is) ≡ fault g i
+Passes c g run m (Done p n) m′ = Passed c g run m p n m′
+
+-- behind an empty segment, from g up to n: the first used segment, or n
+abbrev pub FirstUsed : List ℕ → ℕ → ℕ → ℕ → Type 0
+FirstUsed c g n u = afterEmpty {D = ℕ} c (n - g) g ≡ cond (ltb u n) (bad u 0 ∷ []) []
+
+-- the card whole: the reader at the end of its log, the length of its run, and the place behind the log
+pub record Sounds (c : List ℕ) (p : Place) (n : ℕ) (m : Lent) : Type 0 where
+  pub place : p ≡ tail c
+  pub short : n ≤ 64 * 255
+  pub reader : Reader ℕ
+  pub kept : Kept m n reader
+  pub walked : walkCard cardLocation blank c ≡ sound reader
+
+abbrev pub Walks : List ℕ → Walked → Lent → Type 0
+Walks c (Fault g i) m = walkCard cardLocation blank c ≡ fault g i
+Walks c (Sound p n) m = Sounds c p n m

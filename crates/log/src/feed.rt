@@ -1,0 +1,207 @@
+// One entry after the other, fed to the reader that lent tables show.
+//
+// `next`, `prev`, `owner` and `place` are the linked tables of the reader's state. Its run of members may be long, but a commit takes at most 15 of them, so the last
+// KEPT are kept: member j of the run in four bytes of `members`, from 4 * (j % KEPT) on, and its location in `locations`.
+use super::entry::LogEntry;
+use lists::kind;
+use lists::tables;
+ghost use mathlib.Core.Path.{_≡_};
+ghost use Prim.Native.Nat.{_<_, _%_};
+ghost use lib.ListN.{set};
+ghost use Rattle.lists.specs.Tables.{tables};
+ghost use Rattle.log.specs.Feed.{lent, memberSet, fieldsOf, fedIf, ActsMember, Commits, Feeds};
+
+const KEPT: usize = 16;
+
+// A commit is no kind of change.
+const NO_KIND: u8 = 0;
+
+// An entry by its fields, as `tables::act` takes them; those that it has not are 0.
+pub struct Fields {
+    pub kind: u8,
+    pub block: u8,
+    pub list: u8,
+    pub predecessor: u8,
+    pub count: u8,
+}
+
+// An entry fed: how long the run is now; or it is refused.
+pub enum Fed {
+    Run(usize),
+    Refused,
+}
+
+// Member `run` of the run, counted from 0, is kept. It acts at a commit.
+pub fn keep(
+    members: &mut [u8; 64],
+    locations: &mut [u16; 16],
+    run: usize,
+    kind: u8,
+    block: u8,
+    list: u8,
+    predecessor: u8,
+    location: u16,
+)
+    ensures { λ r. ⌜ (now (members .exit) ≡ memberSet (now (members .entry)) run kind block list predecessor) × (now (locations .exit) ≡ set (now (locations .entry)) (run % 16) location) ⌝ }
+{
+    let i = run % KEPT;
+    members[4 * i] = kind;
+    members[4 * i + 1] = block;
+    members[4 * i + 2] = list;
+    members[4 * i + 3] = predecessor;
+    locations[i] = location;
+}
+
+// Member `j` of the run acts.
+fn act_member(
+    next: &mut [u8; 256],
+    prev: &mut [u8; 256],
+    owner: &mut [u8; 256],
+    place: &mut [u16; 256],
+    members: &[u8; 64],
+    locations: &[u16; 16],
+    j: usize,
+) -> bool
+    ensures { λ r. ⌜ ActsMember (lent (now (next .entry)) (now (prev .entry)) (now (owner .entry)) (now (place .entry)) (now (members .entry)) (now (locations .entry))) j r (tables (now (next .exit)) (now (prev .exit)) (now (owner .exit)) (now (place .exit))) ⌝ }
+{
+    let i = j % KEPT;
+    let kind = members[4 * i];
+    let block = members[4 * i + 1];
+    let list = members[4 * i + 2];
+    let predecessor = members[4 * i + 3];
+    let location = locations[i];
+    tables::act(
+        next,
+        prev,
+        owner,
+        place,
+        kind,
+        block,
+        list,
+        predecessor,
+        location,
+    )
+}
+
+// A commit: the last `n` members of the run act, in their order. It is refused if there are fewer, or if one of them doesn't apply.
+pub fn commit(
+    next: &mut [u8; 256],
+    prev: &mut [u8; 256],
+    owner: &mut [u8; 256],
+    place: &mut [u16; 256],
+    members: &[u8; 64],
+    locations: &[u16; 16],
+    run: usize,
+    n: usize,
+) -> bool
+    ensures { λ r. ⌜ Commits (lent (now (next .entry)) (now (prev .entry)) (now (owner .entry)) (now (place .entry)) (now (members .entry)) (now (locations .entry))) run n r (lent (now (next .exit)) (now (prev .exit)) (now (owner .exit)) (now (place .exit)) (now (members .entry)) (now (locations .entry))) ⌝ }
+{
+    if run < n {
+        return false;
+    }
+    let mut j = run - n;
+    while j < run {
+        if !act_member(next, prev, owner, place, members, locations, j) {
+            return false;
+        }
+        j += 1;
+    }
+    true
+}
+
+fn change_fields(kind: u8, block: u8, list: u8, predecessor: u8) -> Fields
+    ensures { λ r. ⌜ r ≡ record { kind = kind; block = block; list = list; predecessor = predecessor; count = 0 } ⌝ }
+{
+    Fields {
+        kind,
+        block,
+        list,
+        predecessor,
+        count: 0,
+    }
+}
+
+pub fn fields_of(e: LogEntry) -> Fields
+    ensures { λ r. ⌜ r ≡ fieldsOf e ⌝ }
+{
+    match e {
+        LogEntry::Take { list } => change_fields(kind::TAKE, 0, list, 0),
+        LogEntry::PutFirst { block, list } => change_fields(kind::PUT_FIRST, block, list, 0),
+        LogEntry::PutAfter {
+            block,
+            list,
+            predecessor,
+        } => change_fields(kind::PUT_AFTER, block, list, predecessor),
+        LogEntry::Write { block, slot: _ } => change_fields(kind::WRITE, block, 0, 0),
+        LogEntry::DeleteBlock { block } => change_fields(kind::DELETE_BLOCK, block, 0, 0),
+        LogEntry::DeleteList { list } => change_fields(kind::DELETE_LIST, 0, list, 0),
+        LogEntry::Commit { count } => Fields {
+            kind: NO_KIND,
+            block: 0,
+            list: 0,
+            predecessor: 0,
+            count,
+        },
+    }
+}
+
+fn settle(accepted: bool) -> Fed
+    ensures { λ r. ⌜ r ≡ fedIf accepted ⌝ }
+{
+    if accepted { Fed::Run(0) } else { Fed::Refused }
+}
+
+// An entry, legal but for its slot; a write's data stands at `location`.
+pub fn feed(
+    next: &mut [u8; 256],
+    prev: &mut [u8; 256],
+    owner: &mut [u8; 256],
+    place: &mut [u16; 256],
+    members: &mut [u8; 64],
+    locations: &mut [u16; 16],
+    run: usize,
+    member: bool,
+    e: LogEntry,
+    location: u16,
+) -> Fed
+    requires { ⌜ run < 1000000 ⌝ }
+    ensures { λ r. ⌜ Feeds (lent (now (next .entry)) (now (prev .entry)) (now (owner .entry)) (now (place .entry)) (now (members .entry)) (now (locations .entry))) run member e location r (lent (now (next .exit)) (now (prev .exit)) (now (owner .exit)) (now (place .exit)) (now (members .exit)) (now (locations .exit))) ⌝ }
+{
+    let f = fields_of(e);
+    if f.kind == NO_KIND {
+        return settle(commit(
+            next,
+            prev,
+            owner,
+            place,
+            members,
+            locations,
+            run,
+            f.count as usize,
+        ));
+    }
+    if member {
+        keep(
+            members,
+            locations,
+            run,
+            f.kind,
+            f.block,
+            f.list,
+            f.predecessor,
+            location,
+        );
+        return Fed::Run(run + 1);
+    }
+    settle(tables::act(
+        next,
+        prev,
+        owner,
+        place,
+        f.kind,
+        f.block,
+        f.list,
+        f.predecessor,
+        location,
+    ))
+}
