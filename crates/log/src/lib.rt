@@ -1,8 +1,8 @@
 // The log on the card: entries and their bytes, the layout of segments, the reader's walk, formatting and the stores of a flush.
 pub mod encode;
 pub mod entry;
-pub mod flush;
 pub mod feed;
+pub mod flush;
 pub mod format;
 pub mod layout;
 pub mod legal;
