@@ -1,4 +1,6 @@
 pub mod Digits
 pub mod Lines
 pub mod Nibbles
+pub mod ReadBack
+pub mod Samples
 pub mod Writing

@@ -9,7 +9,9 @@ use Rattle.text.specs.declared.number.Number.the-variants.{Value, Bad}
 -- the digits of n, of which there are at most so many
 unfoldable pub digits : ℕ → ℕ → List ℕ
 digits zero n = []
-digits (suc most) n = cond (ltb n 10) ((48 + n) ∷ []) (digits most (n / 10) ++ ((48 + n % 10) ∷ []))
+digits (suc most) n =
+    let more = digits most (n / 10) ++ ((48 + n % 10) ∷ []) in
+    cond (ltb n 10) ((48 + n) ∷ []) more
 
 -- without zeros in front, and `0` is one digit
 unfoldable pub decimal : ℕ → List ℕ
