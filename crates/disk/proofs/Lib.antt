@@ -19,3 +19,4 @@ pub mod Views
 pub mod Sequence
 pub mod Flushing
 pub mod Allowance
+pub mod Order

@@ -20,3 +20,4 @@ pub mod Sequence
 pub mod LogStores
 pub mod Stores
 pub mod Feeding
+pub mod Examples

@@ -1,0 +1,40 @@
+-- Small logs and places, computed. Each comes out otherwise under a wrong definition that lies near at hand; tests/wrong-definitions tries those.
+use mathlib.Core.Path.{_≡_, refl}
+use mathlib.Core.Option.{some}
+use mathlib.Core.List.{List, [], _∷_, _++_}
+use Prim.Native.Nat.{ℕ}
+use lib.ListN.{replicate}
+use Rattle.lists.specs.Change.{takeList, putFirst, mapChange, carriedBy}
+use Rattle.lists.specs.State.{state, row, block, taken, placed, applies, changed, apply, applyAll}
+use Rattle.log.specs.Entry.{plain, member, commit, mapEntry, carried, changeBytes, encode, raw, entryLength, legalChange, hasMember, legal, changeOf, checked, entryOf, decode}
+use Rattle.log.specs.Reader.{start, settled, lastOf, read, replay}
+use Rattle.log.specs.Card.{good, sound, slot, cardSlot, count, segmentEntries, usedBy, isNext, entryAt, itemsOf, segmentItems, afterEmpty, items, walk}
+use Rattle.log.specs.Store.{formatStores, opened, after, behind, behindAll, tail, storesFrom, dataOf, entryStores}
+
+-- "then the entry, lowest byte first; then the raised count byte"
+pub count-comes-last : entryStores (opened 0) (plain (takeList 1)) ≡ (3585, 2) ∷ (3586, 1) ∷ (3584, 1) ∷ []
+unfolding mapChange carriedBy mapEntry carried changeBytes encode raw opened storesFrom dataOf entryStores
+count-comes-last = refl
+
+-- "the last segment's first and segment 0's last"
+pub front-formatted-last : formatStores 2 ≡ (7680, 0) ∷ (3584, 0) ∷ []
+unfolding formatStores
+front-formatted-last = refl
+
+-- "a commit, which takes the last so many members standing directly before it, [..]; earlier members of that run are dead"
+pub dead-members-stay-dead :
+    replay {D = ℕ} 0 start (plain (takeList 1) ∷ member (putFirst 1 1) ∷ member (putFirst 2 1) ∷ commit 1 ∷ []) ≡ some (settled (state (row 1 (block 2 0 ∷ []) ∷ [])))
+unfolding taken placed applies changed apply applyAll lastOf read replay
+dead-members-stay-dead = refl
+
+-- a run goes on into the next segment
+pub run-crosses-segments :
+    walk {D = ℕ} 0 start (good 0 0 (plain (takeList 1)) ∷ good 0 1 (member (putFirst 1 1)) ∷ good 1 0 (commit 1) ∷ []) ≡ sound (settled (state (row 1 (block 1 0 ∷ []) ∷ [])))
+unfolding taken placed applies changed apply applyAll lastOf read walk
+run-crosses-segments = refl
+
+-- "the log never uses a slot again": a dead member's is not the next one
+pub dead-slots-stay-used :
+    tail (replicate 3584 0 ++ 2 ∷ 2 ∷ 1 ∷ 137 ∷ 1 ∷ 0 ∷ replicate 506 0) ≡ record { segment = 0; entries = 2; bytes = 5; slots = 1 }
+unfolding mapChange carriedBy mapEntry carried changeBytes encode raw entryLength legalChange hasMember legal changeOf checked entryOf decode slot cardSlot count segmentEntries usedBy isNext entryAt itemsOf segmentItems afterEmpty items opened after behind behindAll tail
+dead-slots-stay-used = refl
