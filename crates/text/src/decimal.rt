@@ -9,6 +9,8 @@ ghost use lib.Seq.{slice};
 ghost use Rattle.text.specs.Decimal.{decimal, numberOf, numberAfter};
 ghost use Rattle.text.specs.Written.{Puts};
 
+const MOST: u64 = 18446744073709551615;
+
 pub fn put_decimal(out: &mut [u8], at: usize, n: u64) -> usize
     ensures { λ r. ⌜ Puts (now (out .entry)) at (decimal n) (now (out .exit)) r ⌝ }
 {
@@ -67,5 +69,3 @@ fn with_digit(n: u64, b: u8) -> Number
     }
     Number::Value(10 * n + digit)
 }
-
-const MOST: u64 = 18446744073709551615;

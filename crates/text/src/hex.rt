@@ -1,4 +1,5 @@
 // Bytes as hex digits, put into a buffer and read from a line.
+use crate::line::is_same;
 use crate::line::part;
 use crate::put::put_byte;
 ghost use mathlib.Core.Path.{_≡_};
@@ -79,7 +80,7 @@ pub fn hex(line: &[u8], start: usize, end: usize, out: &mut [u8; 256]) -> bool
 fn is_hex(text: &[u8]) -> bool
     ensures { λ r. ⌜ r ≡ isHex (now (text .entry)) ⌝ }
 {
-    if check::same(text, b"-") {
+    if is_same(text, b"-") {
         return true;
     }
     if text.len() == 0 {

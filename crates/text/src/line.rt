@@ -1,7 +1,7 @@
 // A line taken apart into words, which blanks keep apart.
 use crate::word::Word;
 ghost use mathlib.Core.Path.{_≡_};
-ghost use Prim.Native.Nat.{_+_, _≤_, min};
+ghost use Prim.Native.Nat.{_+_, min};
 ghost use lib.ListN.{drop};
 ghost use lib.Seq.{slice};
 ghost use Rattle.text.specs.Line.{wordFrom, run, same};
@@ -37,7 +37,13 @@ fn run_end(line: &[u8], from: usize, blanks: bool) -> usize
 pub fn is_word(line: &[u8], start: usize, end: usize, literal: &[u8]) -> bool
     ensures { λ r. ⌜ r ≡ same (slice start end (now (line .entry))) (now (literal .entry)) ⌝ }
 {
-    check::same(part(line, start, end), literal)
+    is_same(part(line, start, end), literal)
+}
+
+pub fn is_same(a: &[u8], b: &[u8]) -> bool
+    ensures { λ r. ⌜ r ≡ same (now (a .entry)) (now (b .entry)) ⌝ }
+{
+    check::same(a, b)
 }
 
 // The bytes from `start` up to `end`, as far as the line has them.

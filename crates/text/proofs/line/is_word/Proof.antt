@@ -1,7 +1,8 @@
--- The library's test is true where the bytes are equal, and so is `same`. Assumes nothing.
-use mathlib.Core.Path.{sym, _∙_}
-use lib.Seq.{slice}
-use Rattle.text.proofs.Lines.{same-iff}
+-- The part of the line is what is compared. Assumes nothing.
+use mathlib.Core.Path.{_∙_, ap}
+use mathlib.Core.List.{List}
+use Prim.Native.Nat.{ℕ}
+use Rattle.text.specs.Line.{same}
 use borrow.Author.Needs.{needs}
 use Rattle.text.proofs.line.is_word.Statement.{statement}
 use Rattle.text.proofs.line.is_word.Tie as tie
@@ -9,15 +10,13 @@ use Rattle.text.proofs.line.is_word.Tie as tie
 part-requires : tie.Need-part-requires
 part-requires c κs = search needs
 
-same-requires : tie.Need-same-requires
-same-requires c κs = search needs
+is-same-requires : tie.Need-is-same-requires
+is-same-requires c κs = search needs
 
 returns : tie.Need-returns
 returns c =
-    let a = c .before .before .before .before .args in
-    let p = c .before .part .ensures in
-    let r = c .same .ensures in
-    same-iff (c .same .result) (slice (a .start) (a .end) (a .line .now)) (a .literal .now) (λ e. sym p ∙ r .0 e) (λ e. r .1 (p ∙ e))
+    let literal = c .before .before .before .before .args .literal .now in
+    c .is-same .ensures ∙ ap (λ (l : List ℕ). same l literal) (c .before .part .ensures)
 
 pub is-word-spec : {M : Type 1} → statement M
-is-word-spec = tie.close (tie.spec part-requires same-requires returns)
+is-word-spec = tie.close (tie.spec part-requires is-same-requires returns)
