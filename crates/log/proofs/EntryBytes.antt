@@ -7,11 +7,11 @@ use Prim.Native.Nat.{ℕ, zero, suc, _/_, _%_}
 use lib.ListN.{getD, replicate}
 use Rattle.lists.specs.Change.{mapChange, carriedBy}
 use Rattle.lists.proofs.Basic.{getD-same}
-use Rattle.log.proofs.Bits.{encode-size}
 use Rattle.log.specs.declared.entry.LogEntry.{LogEntry}
 use Rattle.log.specs.declared.entry.LogEntry.the-variants.{Take, PutFirst, PutAfter, Write, DeleteBlock, DeleteList, Commit}
 use Rattle.log.specs.Entry.{mapEntry, carried, changeBytes, encode, raw, asEntry, entryLength, sizeOf}
 use Rattle.log.specs.Card.{usedBy}
+use Rattle.log.proofs.Bits.{encode-size}
 
 -- zeros behind a list are what stands past its end
 getD-padded : (l : List ℕ) (n i : ℕ) → getD (l ++ replicate n 0) i 0 ≡ getD l i 0

@@ -2,10 +2,10 @@
 use mathlib.Core.Path.{sym, ap, _∙_}
 use Prim.Native.Nat.{ℕ}
 use lib.ListN.{getD}
+use borrow.Author.Needs.{needs}
 use Rattle.log.specs.declared.entry.LogEntry.the-variants.{Take, PutFirst, PutAfter, Write, DeleteBlock, DeleteList, Commit}
 use Rattle.log.specs.Entry.{encode, raw, asEntry}
 use Rattle.log.proofs.EntryBytes.{code-field, code-map}
-use borrow.Author.Needs.{needs}
 use Rattle.log.proofs.encode.entry_byte.Statement.{statement}
 use Rattle.log.proofs.encode.entry_byte.Tie as tie
 

@@ -2,9 +2,9 @@
 use mathlib.Core.Path.{ap, _∙_}
 use mathlib.Core.Bool.{false}
 use Prim.Native.Nat.{ℕ}
+use borrow.Author.Needs.{needs}
 use Rattle.log.specs.Entry.{sizeOf}
 use Rattle.log.proofs.EntryBytes.{code-length}
-use borrow.Author.Needs.{needs}
 use Rattle.log.proofs.encode.length_of.Statement.{statement}
 use Rattle.log.proofs.encode.length_of.Tie as tie
 

@@ -2,9 +2,9 @@
 use mathlib.Core.Path.{sym}
 use Prim.Native.Nat.{ℕ}
 use lib.ListN.{getD}
+use borrow.Author.Needs.{needs}
 use Rattle.lists.proofs.Basic.{cond-map}
 use Rattle.log.specs.Entry.{Entry, encode, changeBytes, asEntry}
-use borrow.Author.Needs.{needs}
 use Rattle.log.proofs.encode.map_of.Statement.{statement}
 use Rattle.log.proofs.encode.map_of.Tie as tie
 

@@ -5,12 +5,12 @@ use Prim.Native.Nat.{ℕ, _*_, _-_}
 use native.Mathlib.Omega.{arith}
 use native.Mathlib.Numerals.{add-one}
 use lib.ListN.{getD}
+use borrow.Author.Needs.{needs}
 use Rattle.log.specs.Entry.{carried, encode, raw, asEntry}
 use Rattle.log.proofs.Places.{used-one}
 use Rattle.log.proofs.EntryStores.{storeOf, dataAt}
 use Rattle.log.proofs.Within.{entry-long}
 use Rattle.log.proofs.LogStores.{going, going-short, set-store, stores-many, store-data, store-code, store-count, store-in-part}
-use borrow.Author.Needs.{needs}
 use Rattle.log.proofs.flush.store_step.Statement.{statement}
 use Rattle.log.proofs.flush.store_step.Tie as tie
 

@@ -1,10 +1,10 @@
 -- The stores of an entry are those of its data, of its bytes and of the count. Assumes nothing.
 use mathlib.Core.Bool.{false}
 use native.Mathlib.Omega.{arith}
+use borrow.Author.Needs.{needs}
 use Rattle.log.specs.Entry.{carried, asEntry}
 use Rattle.log.proofs.Places.{entry-short, used-one}
 use Rattle.log.proofs.LogStores.{stores-many}
-use borrow.Author.Needs.{needs}
 use Rattle.log.proofs.flush.stores_of.Statement.{statement}
 use Rattle.log.proofs.flush.stores_of.Tie as tie
 

@@ -1,11 +1,11 @@
 -- An entry has at most four bytes, so no sum wraps. Assumes nothing.
+use mathlib.Core.Bool.{false}
 use native.Mathlib.Omega.{arith}
 use native.Mathlib.Numerals.{add-one}
-use mathlib.Core.Bool.{false}
+use borrow.Author.Needs.{needs}
 use Rattle.log.specs.Entry.{carried, asEntry}
 use Rattle.log.specs.Store.{after}
 use Rattle.log.proofs.Places.{entry-short, used-one}
-use borrow.Author.Needs.{needs}
 use Rattle.log.proofs.place.after.Statement.{statement}
 use Rattle.log.proofs.place.after.Tie as tie
 

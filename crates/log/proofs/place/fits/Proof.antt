@@ -2,10 +2,10 @@
 use mathlib.Core.Bool.{false}
 use native.Mathlib.Omega.{arith}
 use borrow.Author.Tests.{le-leb, lt-leb}
+use borrow.Author.Needs.{needs}
 use Rattle.log.specs.Entry.{carried, asEntry}
 use Rattle.log.specs.Store.{fits}
 use Rattle.log.proofs.Places.{entry-short, used-one}
-use borrow.Author.Needs.{needs}
 use Rattle.log.proofs.place.fits.Statement.{statement}
 use Rattle.log.proofs.place.fits.Tie as tie
 

@@ -1,7 +1,7 @@
 -- A store within the slice sets one byte; outside it nothing is set, and nothing stored. Assumes nothing.
 use mathlib.Core.Path.{sym}
-use borrow.Author.Needs.{needs}
 use lib.Seq.{set-out}
+use borrow.Author.Needs.{needs}
 use Rattle.log.proofs.store.store.Statement.{statement}
 use Rattle.log.proofs.store.store.Tie as tie
 
