@@ -1,14 +1,15 @@
 -- Tables after a change show the state after it, and they refuse it exactly when it does not apply there: the tables represent the state.
 use mathlib.Core.Path.{_≡_, refl, sym, ap, _∙_, subst}
 use mathlib.Core.Logic.{_≢_, ⊎-elim}
-use mathlib.Core.Bool.{Bool, true, false, _&&_, not}
+use mathlib.Core.Bool.{Bool, true, false, _&&_, not, true≢false}
+use mathlib.Core.Option.{Option, none, some}
 use mathlib.Core.List.{List, [], _∷_, _++_, map, append-assoc, append-nil}
 use Prim.Native.Nat.{ℕ, _+_, _≤_, _<_}
 use native.Mathlib.Omega.{arith}
 use lib.Dec.{eqb}
 use lib.ListN.{length, getD, set, length-set}
 use lib.Seq.{getD-set-other, getD-set-same}
-use Rattle.lists.specs.Basic.{keep, orElse}
+use Rattle.lists.specs.Basic.{bind, keep, orElse}
 use Rattle.lists.specs.Change.{Change, takeList, putFirst, putAfter, write, delBlock, delList}
 use Rattle.lists.specs.State.{State, Block, Row, taken, placed, onList, insertAfter, at, put, onBlocks, otherBlock, otherRow, block, row, changed, applies, apply}
 use Rattle.lists.specs.Tables.{Tables, tables, nextOf, prevOf, ownerOf, insertNode, cutBetween, placeAt, noTables, freeFrom, cutList, putFits, putDone, fits, done, Did, Away, Apart, Linked, blockNodes, nodes, chain, IsBlock, IsList, HasBlock, HasBlocks, HasLists, Shows, Ranged, Represents}
@@ -234,6 +235,17 @@ module _ (c : Change ℕ) (t : Tables) (r : Bool) (u : Tables) (s : State ℕ) (
       (λ e. rw (d .left, fits-applies t (s .lists) h c g) (rw e (shows-done t (s .lists) h c g e)))
       (λ e. rw (d .left, fits-applies t (s .lists) h c g) (rw e h))
       (either (applies c (s .lists)))
+
+-- One thing after another: the first is refused, or the second goes on from what it left.
+module _ (f : State ℕ → Option (State ℕ)) where
+  pub represents-stop : (o : Option (State ℕ)) (q : Bool) (u v : Tables) → Represents o q u → q ≡ false → Represents (bind o f) false v
+  represents-stop none q u v h e = refl
+  represents-stop (some s) q u v h e = absurd (true≢false (sym (h .0) ∙ e))
+
+  pub represents-then : (o : Option (State ℕ)) (q : Bool) (u v : Tables) (r : Bool) → Represents o q u → q ≡ true
+      → ((s : State ℕ) → Shows u (s .lists) → Represents (f s) r v) → Represents (bind o f) r v
+  represents-then none q u v r h e k = absurd (true≢false (sym e ∙ h))
+  represents-then (some s) q u v r h e k = k s (h .1)
 
 -- The state with no list.
 pub shows-none : Shows noTables []

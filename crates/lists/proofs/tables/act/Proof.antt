@@ -1,8 +1,6 @@
 -- Each arm is the function of its kind; the tables that it is not lent stay. Assumes nothing.
-use mathlib.Core.Path.{refl}
 use Rattle.lists.specs.Tables.{ofKind}
-use Rattle.lists.proofs.Basic.{eqb-false}
-use Rattle.lists.proofs.Acting.{put-first}
+use Rattle.lists.proofs.Acting.{put-first, no-kind, did-none}
 use borrow.Author.Needs.{needs}
 use Rattle.lists.proofs.tables.act.Statement.{statement}
 use Rattle.lists.proofs.tables.act.Tie as tie
@@ -53,10 +51,10 @@ unfolding ofKind
 returns-6 c = rw (c .before .before .before .before .match .keys6) (c .delete-list .ensures (c .before .before .before .before .before .args .place .now))
 
 returns-7 : tie.Need-returns-7
-unfolding ofKind
 returns-7 c =
     let r = c .match .rest in
-    simp (eqb-false _ _ (r .1), eqb-false _ _ (r .0 .1), eqb-false _ _ (r .0 .0 .1), eqb-false _ _ (r .0 .0 .0 .1), eqb-false _ _ (r .0 .0 .0 .0 .1), eqb-false _ _ (r .0 .0 .0 .0 .0 .1)) (refl, refl)
+    did-none _ _
+    (no-kind (c .before .args .kind) _ _ _ _ (r .0 .0 .0 .0 .0 .1) (r .0 .0 .0 .0 .1) (r .0 .0 .0 .1) (r .0 .0 .1) (r .0 .1) (r .1))
 
 pub act-spec : {M : Type 1} → statement M
 act-spec =

@@ -1,7 +1,7 @@
 -- The list's nodes are freed, and the node before them leads to the one behind. Assumes nothing.
-use Rattle.lists.specs.Tables.{fits, done, cutBetween, cutList}
-use Rattle.lists.proofs.Basic.{eqb-false, eq-true}
-use Rattle.lists.proofs.Acting.{did-not, did-so}
+use Rattle.lists.specs.Tables.{fits, cutBetween, cutList}
+use Rattle.lists.proofs.Basic.{eq-true}
+use Rattle.lists.proofs.Acting.{did-not, did-delete}
 use borrow.Author.Needs.{needs}
 use Rattle.lists.proofs.tables.delete_list.Statement.{statement}
 use Rattle.lists.proofs.tables.delete_list.Tie as tie
@@ -32,12 +32,10 @@ link-requires : tie.Need-link-requires
 link-requires c κs = search needs
 
 returns-2 : tie.Need-returns-2
-unfolding fits done cutBetween cutList
-returns-2 c =
-    let n = c .before .before .before .before .before .before .before .before .before .list-node .ensures in
-    let f = c .before .before .before .free-nodes .ensures in
-    λ pl.
-    did-so _ _ _ (rw (eqb-false _ _ (rw n at (c .before .before .before .before .before .before .before .if1 .left)))) (rw (c .link .ensures .0, c .link .ensures .1, f .0, f .1, n))
+unfolding cutBetween cutList
+returns-2 c = λ pl.
+    did-delete (c .before .before .before .before .before .before .before .before .before .before .args .list) _ _ _ _ (rw (c .before .before .before .before .before .before .before .before .before .list-node .ensures) at (c .before .before .before .before .before .before .before .if1 .left))
+    (rw (c .link .ensures .0, c .link .ensures .1, c .before .before .before .free-nodes .ensures .0, c .before .before .before .free-nodes .ensures .1, c .before .before .before .before .before .before .before .before .before .list-node .ensures))
 
 pub delete-list-spec : {M : Type 1} → statement M
 delete-list-spec =

@@ -1,8 +1,7 @@
 -- The two tests of the definition, then the node put in, then its place. Assumes nothing.
-use mathlib.Core.Path.{ap}
-use Rattle.lists.specs.Tables.{fits, done, putFits, putDone, placeAt}
+use Rattle.lists.specs.Tables.{fits, putFits}
 use Rattle.lists.proofs.Basic.{eqb-false, eq-true}
-use Rattle.lists.proofs.Acting.{did-not, did-so}
+use Rattle.lists.proofs.Acting.{did-not, did-put}
 use borrow.Author.Needs.{needs}
 use Rattle.lists.proofs.tables.put.Statement.{statement}
 use Rattle.lists.proofs.tables.put.Tie as tie
@@ -31,12 +30,11 @@ element-write-place : tie.Need-element-write-place
 element-write-place c = search needs
 
 returns-3 : tie.Need-returns-3
-unfolding fits done putFits putDone placeAt
+unfolding putFits
 returns-3 c =
-    let a = c .before .before .before .before .before .before .before .before .args in
-    did-so _ _ _
+    did-put (c .before .before .before .before .before .before .before .before .args .block) (c .before .before .before .before .before .before .before .before .args .list) (c .before .before .before .before .before .before .before .before .args .x) _ _ _ _
     (rw (eq-true _ _ (c .before .before .before .before .before .before .if1 .left), eq-true _ _ (c .before .before .before .before .if2 .left)))
-    (ap (placeAt (a .block) 0) (c .insert .ensures (a .place .now)))
+    (c .insert .ensures (c .before .before .before .before .before .before .before .before .args .place .now))
 
 pub put-spec : {M : Type 1} → statement M
 put-spec =
