@@ -104,23 +104,32 @@ pub enum Cause {
     AfterEmpty,
 }
 
-const BLOCK: u8 = 0;
-const LIST: u8 = 1;
-const PREDECESSOR: u8 = 2;
-const SLOT: u8 = 3;
-const COUNT: u8 = 4;
-const FIELDS: u8 = 5;
-const MASK_OF_FIELDS: u8 = (1 << FIELDS) - 1;
-
-const TAKE_LIST: u8 = 1 << LIST;
-const PUT_FIRST: u8 = 1 << BLOCK | 1 << LIST;
-const PUT_AFTER: u8 = 1 << BLOCK | 1 << LIST | 1 << PREDECESSOR;
-const WRITE: u8 = 1 << BLOCK | 1 << SLOT;
+// The bits of a map.
+const BLOCK: u8 = 1 << 0;
+const LIST: u8 = 1 << 1;
+const PREDECESSOR: u8 = 1 << 2;
+const SLOT: u8 = 1 << 3;
+const COUNT: u8 = 1 << 4;
 const REMOVAL: u8 = 1 << 5;
-const DELETE_BLOCK: u8 = REMOVAL | 1 << BLOCK;
-const DELETE_LIST: u8 = REMOVAL | 1 << LIST;
-const COMMIT: u8 = 1 << COUNT;
 const MEMBER: u8 = 1 << 7;
+/// The bits that carry a byte each.
+const FIELDS: u8 = BLOCK | LIST | PREDECESSOR | SLOT | COUNT;
+
+// The maps of the seven kinds.
+const TAKE_LIST: u8 = LIST;
+const PUT_FIRST: u8 = BLOCK | LIST;
+const PUT_AFTER: u8 = BLOCK | LIST | PREDECESSOR;
+const WRITE: u8 = BLOCK | SLOT;
+const DELETE_BLOCK: u8 = REMOVAL | BLOCK;
+const DELETE_LIST: u8 = REMOVAL | LIST;
+const COMMIT: u8 = COUNT;
+
+// The maps of members.
+const MEMBER_PUT_FIRST: u8 = MEMBER | PUT_FIRST;
+const MEMBER_PUT_AFTER: u8 = MEMBER | PUT_AFTER;
+const MEMBER_WRITE: u8 = MEMBER | WRITE;
+const MEMBER_DELETE_BLOCK: u8 = MEMBER | DELETE_BLOCK;
+const MEMBER_DELETE_LIST: u8 = MEMBER | DELETE_LIST;
 
 /// The bytes of an entry as they stand in a summary.
 #[derive(Clone, Copy, PartialEq, Eq, Debug)]
@@ -130,6 +139,16 @@ pub struct Encoded {
 }
 
 impl Encoded {
+    /// A map, then one byte for each bit that stands, lowest bit first.
+    fn new<const FIELD_COUNT: usize>(map: u8, fields: [u8; FIELD_COUNT]) -> Encoded {
+        let mut encoded = Encoded {
+            bytes: [map, 0, 0, 0],
+            length: 1 + FIELD_COUNT,
+        };
+        encoded.bytes[1..=FIELD_COUNT].copy_from_slice(&fields);
+        encoded
+    }
+
     /// The bytes, lowest first.
     pub fn bytes(&self) -> &[u8] {
         &self.bytes[..self.length]
@@ -147,9 +166,21 @@ pub struct Decoded {
     pub length: usize,
 }
 
+impl Decoded {
+    /// The entry, if its numbers are in range.
+    #[inline(always)]
+    fn in_range(entry: Entry, slot: u8, length: usize) -> Result<Decoded, Cause> {
+        if entry.is_legal() && slot < SLOTS {
+            Ok(Decoded { entry, slot, length })
+        } else {
+            Err(Cause::Range)
+        }
+    }
+}
+
 /// "1 plus the number of ones in bits 0 to 4".
 fn length_of_map(map: u8) -> usize {
-    1 + (map & MASK_OF_FIELDS).count_ones() as usize
+    1 + (map & FIELDS).count_ones() as usize
 }
 
 impl Entry {
@@ -167,6 +198,7 @@ impl Entry {
     }
 
     /// Whether its map is legal and its numbers are in range.
+    #[inline(always)]
     pub fn is_legal(self) -> bool {
         match self {
             Entry::Plain(change) => change.in_range(),
@@ -197,86 +229,116 @@ impl Entry {
         }
     }
 
-    /// Its bytes: the map, then one byte for each bit that stands, lowest bit first.
+    /// Its bytes; `slot` is where the data of a write stand.
     pub fn encode(self, slot: u8) -> Encoded {
-        let mut fields = [0; FIELDS as usize];
-        fields[SLOT as usize] = slot;
+        let map = self.map();
         match self {
-            Entry::Commit { members } => fields[COUNT as usize] = members,
+            Entry::Commit { members } => Encoded::new(map, [members]),
             Entry::Plain(change) | Entry::Member(change) => match change {
-                Change::TakeList { list } | Change::DeleteList { list } => {
-                    fields[LIST as usize] = list;
-                }
-                Change::PutFirst { block, list } => {
-                    fields[BLOCK as usize] = block;
-                    fields[LIST as usize] = list;
-                }
+                Change::TakeList { list } | Change::DeleteList { list } => Encoded::new(map, [list]),
+                Change::PutFirst { block, list } => Encoded::new(map, [block, list]),
                 Change::PutAfter {
                     block,
                     list,
                     predecessor,
-                } => {
-                    fields[BLOCK as usize] = block;
-                    fields[LIST as usize] = list;
-                    fields[PREDECESSOR as usize] = predecessor;
-                }
-                Change::Write { block } | Change::DeleteBlock { block } => {
-                    fields[BLOCK as usize] = block;
-                }
+                } => Encoded::new(map, [block, list, predecessor]),
+                Change::Write { block } => Encoded::new(map, [block, slot]),
+                Change::DeleteBlock { block } => Encoded::new(map, [block]),
             },
         }
-        let map = self.map();
-        let mut encoded = Encoded {
-            bytes: [map, 0, 0, 0],
-            length: 1,
-        };
-        for bit in 0..FIELDS {
-            if map >> bit & 1 == 1 {
-                encoded.bytes[encoded.length] = fields[bit as usize];
-                encoded.length += 1;
-            }
-        }
-        encoded
     }
 
     /// The entry at the beginning of `bytes`, which reach to the end of their summary.
+    #[inline(always)]
     pub fn decode(bytes: &[u8]) -> Result<Decoded, Cause> {
         let map = *bytes.first().ok_or(Cause::Bounds)?;
-        let length = length_of_map(map);
-        let mut following = bytes.get(1..length).ok_or(Cause::Bounds)?.iter();
-        let mut fields = [0; FIELDS as usize];
-        for bit in 0..FIELDS {
-            if map >> bit & 1 == 1 {
-                fields[bit as usize] = *following.next().ok_or(Cause::Bounds)?;
-            }
+        if let [COMMIT, members, ..] = *bytes {
+            return Decoded::in_range(Entry::Commit { members }, 0, length_of_map(COMMIT));
         }
-        let [block, list, predecessor, slot, members] = fields;
-        let entry = match map {
-            TAKE_LIST => Entry::Plain(Change::TakeList { list }),
-            COMMIT => Entry::Commit { members },
-            _ => {
-                let change = match map & !MEMBER {
-                    PUT_FIRST => Change::PutFirst { block, list },
-                    PUT_AFTER => Change::PutAfter {
-                        block,
-                        list,
-                        predecessor,
-                    },
-                    WRITE => Change::Write { block },
-                    DELETE_BLOCK => Change::DeleteBlock { block },
-                    DELETE_LIST => Change::DeleteList { list },
-                    _ => return Err(Cause::Map),
+        let (change, slot, length) = match *bytes {
+            [TAKE_LIST, list, ..] => (Change::TakeList { list }, 0, length_of_map(TAKE_LIST)),
+            [PUT_FIRST | MEMBER_PUT_FIRST, block, list, ..] => {
+                (Change::PutFirst { block, list }, 0, length_of_map(PUT_FIRST))
+            }
+            [PUT_AFTER | MEMBER_PUT_AFTER, block, list, predecessor, ..] => {
+                let change = Change::PutAfter {
+                    block,
+                    list,
+                    predecessor,
                 };
-                if map & MEMBER == 0 {
-                    Entry::Plain(change)
-                } else {
-                    Entry::Member(change)
-                }
+                (change, 0, length_of_map(PUT_AFTER))
             }
+            [WRITE | MEMBER_WRITE, block, slot, ..] => (Change::Write { block }, slot, length_of_map(WRITE)),
+            [DELETE_BLOCK | MEMBER_DELETE_BLOCK, block, ..] => {
+                (Change::DeleteBlock { block }, 0, length_of_map(DELETE_BLOCK))
+            }
+            [DELETE_LIST | MEMBER_DELETE_LIST, list, ..] => {
+                (Change::DeleteList { list }, 0, length_of_map(DELETE_LIST))
+            }
+            _ if bytes.len() < length_of_map(map) => return Err(Cause::Bounds),
+            _ => return Err(Cause::Map),
         };
-        if !entry.is_legal() || slot >= SLOTS {
-            return Err(Cause::Range);
+        let entry = if map & MEMBER == 0 {
+            Entry::Plain(change)
+        } else {
+            Entry::Member(change)
+        };
+        Decoded::in_range(entry, slot, length)
+    }
+}
+
+#[cfg(test)]
+mod tests {
+    use super::*;
+
+    /// "Each entry is one of seven kinds with its own fields", and members have 128 more.
+    #[test]
+    fn maps_are_those_of_the_table() {
+        let (block, list, predecessor) = (64, 16, 1);
+        let changes = [
+            (Change::TakeList { list }, 2, vec![16]),
+            (Change::PutFirst { block, list }, 3, vec![64, 16]),
+            (
+                Change::PutAfter {
+                    block,
+                    list,
+                    predecessor,
+                },
+                7,
+                vec![64, 16, 1],
+            ),
+            (Change::Write { block }, 9, vec![64, 13]),
+            (Change::DeleteBlock { block }, 33, vec![64]),
+            (Change::DeleteList { list }, 34, vec![16]),
+        ];
+        for (change, map, fields) in changes {
+            let bytes_of = |map: u8| [vec![map], fields.clone()].concat();
+            assert_round_trip(Entry::Plain(change), &bytes_of(map));
+            if change.has_member_map() {
+                assert_round_trip(Entry::Member(change), &bytes_of(map + 128));
+            } else {
+                assert_eq!(Entry::decode(&bytes_of(map + 128)), Err(Cause::Map));
+            }
         }
-        Ok(Decoded { entry, slot, length })
+        assert_round_trip(Entry::Commit { members: 15 }, &[16, 15]);
+        assert_eq!(Entry::decode(&[144, 15]), Err(Cause::Map));
+    }
+
+    fn assert_round_trip(entry: Entry, bytes: &[u8]) {
+        assert_eq!(entry.encode(13).bytes(), bytes);
+        assert_eq!(entry.length(), bytes.len());
+        let decoded = Entry::decode(bytes).expect("the bytes are an entry");
+        assert_eq!((decoded.entry, decoded.length), (entry, bytes.len()));
+        assert_eq!(decoded.slot, if entry.is_write() { 13 } else { 0 });
+        for length in 0..bytes.len() {
+            assert_eq!(Entry::decode(&bytes[..length]), Err(Cause::Bounds));
+        }
+    }
+
+    #[test]
+    fn only_twelve_maps_are_legal() {
+        let is_legal = |&map: &u8| Entry::decode(&[map, 1, 1, 1, 1, 1]).is_ok();
+        let legal: Vec<u8> = (0..=255).filter(is_legal).collect();
+        assert_eq!(legal, [2, 3, 7, 9, 16, 33, 34, 131, 135, 137, 161, 162]);
     }
 }

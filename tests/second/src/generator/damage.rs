@@ -206,6 +206,7 @@ impl Generator<'_> {
                 15 => self.mount(),
                 16 => self.cut_format(),
                 17 => self.cut_flush(),
+                18 => self.run(format_args!("format")).ignore(),
                 _ => self.look_up(),
             }
         }

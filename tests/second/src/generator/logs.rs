@@ -222,10 +222,7 @@ impl Writer {
         match random.below(20) {
             0 => self.add_bytes(&[random.byte(), random.byte()]),
             1 => self.card[count_at(self.segment)] = random.byte(),
-            2 => {
-                let segments = self.card.len() / SEGMENT_BYTES;
-                self.card[count_at(random.below(segments as u64) as usize)] = random.byte();
-            }
+            2 => self.use_segments_after_an_empty_one(random),
             3 => {
                 let block = random.pick_if_any(&blocks_of(&self.reading.state)).unwrap_or(1);
                 self.add_bytes(&[random.pick(&[9, 137]), block, random.below(16) as u8]);
@@ -255,6 +252,16 @@ impl Writer {
         }
         if random.chance(50) {
             self.add_unit(random);
+        }
+    }
+
+    /// Counts above 0 in segments that the log has not reached; the first of them may be the next.
+    fn use_segments_after_an_empty_one(&mut self, random: &mut Random) {
+        let segments = self.card.len() / SEGMENT_BYTES;
+        for segment in self.segment + 1..segments {
+            if random.chance(40) {
+                self.card[count_at(segment)] = random.byte();
+            }
         }
     }
 

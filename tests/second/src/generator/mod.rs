@@ -199,7 +199,7 @@ const PROFILES: &[Profile] = &[
     // Logs with a fault.
     Profile {
         actions: &[(Action::FaultyLog, 100), (Action::Damage, 10)],
-        segments: (1, 3),
+        segments: (1, 4),
         lines: (500, 1_500),
     },
     // Numbers that run out.

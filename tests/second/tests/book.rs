@@ -1,0 +1,398 @@
+//! The book of document 01 ("Flush", demand 3), kept beside random scripts: the committed state is what the history
+//! makes, the persistent one what its longest prefix makes whose closing stores are on the card, and a mount gives
+//! that state, whatever was cut.
+//!
+//! The book is fed the lines of a script, which calls are accepted, which are refused 12, and the numbers given. It
+//! shares nothing with the library but the sizes: states are lists of lists here.
+
+use std::collections::VecDeque;
+use std::fmt::Write;
+
+use second::generator::generate;
+use second::limits::{BLOCK_BYTES, ENTRY_BYTES, JOURNAL_BYTES, QUEUE_BYTES, SEGMENT_BYTES, SLOTS};
+use second::shell::Shell;
+
+const SEEDS: u64 = 100;
+/// States are compared after calls that may change them all at once, and after every so many lines.
+const LINES_BETWEEN_LOOKS: u64 = 5;
+
+#[derive(Clone)]
+enum Change {
+    TakeList { list: u8 },
+    Put { block: u8, list: u8, predecessor: u8 },
+    Write { block: u8, data: Box<[u8; BLOCK_BYTES]> },
+    DeleteBlock { block: u8 },
+    DeleteList { list: u8 },
+}
+
+impl Change {
+    fn length(&self) -> usize {
+        match self {
+            Change::TakeList { .. } | Change::DeleteBlock { .. } | Change::DeleteList { .. } => 2,
+            Change::Put { predecessor: 0, .. } | Change::Write { .. } => 3,
+            Change::Put { .. } => 4,
+        }
+    }
+}
+
+/// A block's number and its bytes.
+type Block = (u8, [u8; BLOCK_BYTES]);
+
+/// Lists taken in the order of their taking, each with its blocks.
+#[derive(Default)]
+struct Model {
+    lists: Vec<(u8, Vec<Block>)>,
+}
+
+impl Model {
+    fn of<'a>(history: impl Iterator<Item = &'a Accepted>) -> Model {
+        let mut model = Model::default();
+        for change in history.flat_map(|accepted| &accepted.changes) {
+            model.apply(change);
+        }
+        model
+    }
+
+    fn blocks_on(&mut self, list: u8) -> &mut Vec<Block> {
+        let found = self.lists.iter_mut().find(|(taken, _)| *taken == list);
+        &mut found.expect("the list is taken").1
+    }
+
+    fn apply(&mut self, change: &Change) {
+        match *change {
+            Change::TakeList { list } => {
+                assert!(self.lists.iter().all(|&(taken, _)| taken != list));
+                self.lists.push((list, Vec::new()));
+            }
+            Change::Put {
+                block,
+                list,
+                predecessor,
+            } => {
+                assert!(self
+                    .lists
+                    .iter()
+                    .flat_map(|(_, blocks)| blocks)
+                    .all(|&(other, _)| other != block));
+                let blocks = self.blocks_on(list);
+                let place = match predecessor {
+                    0 => 0,
+                    _ => {
+                        1 + blocks
+                            .iter()
+                            .position(|&(before, _)| before == predecessor)
+                            .expect("it is on the list")
+                    }
+                };
+                blocks.insert(place, (block, [0; BLOCK_BYTES]));
+            }
+            Change::Write { block, ref data } => {
+                let mut blocks = self.lists.iter_mut().flat_map(|(_, blocks)| blocks);
+                blocks
+                    .find(|(other, _)| *other == block)
+                    .expect("the block is on a list")
+                    .1 = **data;
+            }
+            Change::DeleteBlock { block } => {
+                let before: usize = self.lists.iter().map(|(_, blocks)| blocks.len()).sum();
+                for (_, blocks) in &mut self.lists {
+                    blocks.retain(|&(other, _)| other != block);
+                }
+                let after: usize = self.lists.iter().map(|(_, blocks)| blocks.len()).sum();
+                assert_eq!(after + 1, before);
+            }
+            Change::DeleteList { list } => {
+                self.blocks_on(list);
+                self.lists.retain(|&(taken, _)| taken != list);
+            }
+        }
+    }
+
+    /// As the shell shows it.
+    fn lines(&self) -> String {
+        let mut lines = String::new();
+        for (list, blocks) in &self.lists {
+            let numbers: String = blocks.iter().map(|(block, _)| format!(" {block}")).collect();
+            writeln!(lines, "list {list}:{numbers}").unwrap();
+        }
+        for (block, data) in self.lists.iter().flat_map(|(_, blocks)| blocks) {
+            let length = data.iter().rposition(|&byte| byte != 0).map_or(0, |last| last + 1);
+            let digits: String = data[..length].iter().map(|byte| format!("{byte:02x}")).collect();
+            let digits = if digits.is_empty() { "-" } else { &digits };
+            writeln!(lines, "block {block}: {digits}").unwrap();
+        }
+        lines
+    }
+}
+
+/// One entry of the serial history: a simple change, or the changes of an End.
+struct Accepted {
+    changes: Vec<Change>,
+    /// The segment that holds its closing store.
+    closed_in: Option<usize>,
+}
+
+/// One entry of the waiting line.
+struct Waiting {
+    length: usize,
+    is_write: bool,
+    /// The entry of the history that its last store closes.
+    closes: Option<usize>,
+}
+
+impl Waiting {
+    /// "Each entry takes one store more than its length, a write 256 besides."
+    fn stores(&self) -> u64 {
+        (self.length + 1 + if self.is_write { BLOCK_BYTES } else { 0 }) as u64
+    }
+}
+
+/// What the book knows of a segment: entries, bytes of entries and slots.
+#[derive(Clone, Copy, Default)]
+struct Segment {
+    entries: usize,
+    bytes: usize,
+    slots: usize,
+}
+
+struct Book {
+    history: Vec<Accepted>,
+    line: VecDeque<Waiting>,
+    /// Stores done of the first entry of the line.
+    done: u64,
+    batches: [Vec<Change>; 4],
+    segments: Vec<Segment>,
+}
+
+impl Book {
+    fn new(segments: usize) -> Book {
+        Book {
+            history: Vec::new(),
+            line: VecDeque::new(),
+            done: 0,
+            batches: Default::default(),
+            segments: vec![Segment::default(); segments],
+        }
+    }
+
+    fn change(&mut self, stream: usize, change: Change) {
+        if stream > 0 && !matches!(change, Change::TakeList { .. }) {
+            return self.batches[stream - 1].push(change);
+        }
+        self.wait(&change, Some(self.history.len()));
+        self.history.push(Accepted {
+            changes: vec![change],
+            closed_in: None,
+        });
+    }
+
+    fn wait(&mut self, change: &Change, closes: Option<usize>) {
+        self.line.push_back(Waiting {
+            length: change.length(),
+            is_write: matches!(change, Change::Write { .. }),
+            closes,
+        });
+    }
+
+    fn end(&mut self, unit: usize) {
+        let changes = std::mem::take(&mut self.batches[unit - 1]);
+        for change in &changes {
+            self.wait(change, None);
+        }
+        self.line.push_back(Waiting {
+            length: 2,
+            is_write: false,
+            closes: Some(self.history.len()),
+        });
+        self.history.push(Accepted {
+            changes,
+            closed_in: None,
+        });
+    }
+
+    /// Goes along the line for at most so many stores; returns how many there were, and the ending.
+    fn flush(&mut self, allowance: u64) -> (u64, &'static str) {
+        let mut stores = 0;
+        loop {
+            let Some(first) = self.line.front() else {
+                return (stores, "drained");
+            };
+            let last_used = self
+                .segments
+                .iter()
+                .rposition(|segment| segment.entries > 0)
+                .unwrap_or(0);
+            let segment = &self.segments[last_used];
+            let fits = segment.bytes + first.length <= ENTRY_BYTES
+                && segment.slots + usize::from(first.is_write) <= usize::from(SLOTS);
+            let place = if fits { last_used } else { last_used + 1 };
+            if place == self.segments.len() {
+                return (stores, "full");
+            }
+            if stores == allowance {
+                return (stores, "spent");
+            }
+            stores += 1;
+            self.done += 1;
+            if self.done == first.stores() {
+                self.done = 0;
+                self.segments[place].entries += 1;
+                self.segments[place].bytes += first.length;
+                self.segments[place].slots += usize::from(first.is_write);
+                if let Some(closes) = first.closes {
+                    self.history[closes].closed_in = Some(place);
+                }
+                self.line.pop_front();
+            }
+        }
+    }
+
+    /// "Store k of a formatting empties the k-th segment from the end, taking its closing stores off the card."
+    fn format(&mut self, stores: u64) {
+        for segment in (0..self.segments.len()).rev().take(stores as usize) {
+            self.segments[segment] = Segment::default();
+            for accepted in &mut self.history {
+                if accepted.closed_in == Some(segment) {
+                    accepted.closed_in = None;
+                }
+            }
+        }
+    }
+
+    /// "The history becomes its longest prefix whose closing stores are on the card."
+    fn clear(&mut self) {
+        self.line.clear();
+        self.done = 0;
+        self.batches = Default::default();
+        self.history.truncate(self.prefix());
+    }
+
+    fn prefix(&self) -> usize {
+        let is_open = |accepted: &Accepted| accepted.closed_in.is_none();
+        self.history.iter().position(is_open).unwrap_or(self.history.len())
+    }
+
+    fn check(&self, shell: &mut Shell) {
+        for (view, length) in [(0, self.history.len()), (5, self.prefix())] {
+            let mut shown = String::new();
+            shell.run_line(format!("show {view}").as_bytes(), &mut shown);
+            assert_eq!(
+                shown,
+                Model::of(self.history.iter().take(length)).lines(),
+                "view {view}"
+            );
+        }
+    }
+}
+
+/// A book beside a script. There is none while someone else has written on the card or parts are lent: the next one
+/// starts right after an accepted formatting.
+struct Keeper {
+    book: Option<Book>,
+    lines: u64,
+    mounts: u64,
+    looks: u64,
+}
+
+impl Keeper {
+    fn observe(&mut self, line: &[u8], printed: &str, shell: &mut Shell) {
+        let text = String::from_utf8_lossy(line);
+        let words: Vec<&str> = text.split(' ').filter(|word| !word.is_empty()).collect();
+        if printed == "?\n" || words.is_empty() || line[0] == b'#' {
+            return;
+        }
+        self.lines += 1;
+        let printed: Vec<&str> = printed.split_ascii_whitespace().collect();
+        let number = |word: usize| words[word].parse::<u64>().expect("a number");
+        let is_accepted = printed.first() == Some(&"0");
+        match (words[0], is_accepted) {
+            ("card" | "poke" | "lend", _) => self.book = None,
+            ("format", true) => {
+                let is_whole = shell.lengths_lent() == [shell.card().len(), QUEUE_BYTES, JOURNAL_BYTES];
+                let segments = shell.card().len() / SEGMENT_BYTES;
+                self.book = is_whole.then(|| Book::new(segments));
+            }
+            _ => {}
+        }
+        let Some(book) = &mut self.book else { return };
+        match (words[0], is_accepted) {
+            ("newlist", true) => {
+                let list = printed[1].parse().unwrap();
+                book.change(number(1) as usize, Change::TakeList { list });
+            }
+            ("newblock", true) => {
+                let change = Change::Put {
+                    block: printed[1].parse().unwrap(),
+                    list: number(2) as u8,
+                    predecessor: number(3) as u8,
+                };
+                book.change(number(1) as usize, change);
+            }
+            ("write", true) => {
+                let mut data = Box::new([0; BLOCK_BYTES]);
+                for (byte, pair) in data.iter_mut().zip(words[3].as_bytes().chunks_exact(2)) {
+                    *byte = u8::from_str_radix(std::str::from_utf8(pair).unwrap(), 16).unwrap();
+                }
+                let block = number(2) as u8;
+                book.change(number(1) as usize, Change::Write { block, data });
+            }
+            ("delblock", true) => {
+                let block = number(2) as u8;
+                book.change(number(1) as usize, Change::DeleteBlock { block });
+            }
+            ("dellist", true) => {
+                let list = number(2) as u8;
+                book.change(number(1) as usize, Change::DeleteList { list });
+            }
+            ("end", true) => book.end(number(1) as usize),
+            ("end", false) if printed[0] == "12" => book.batches[number(1) as usize - 1].clear(),
+            ("flush", true) => {
+                let (stores, ending) = book.flush(number(1));
+                assert_eq!(printed, ["0", &stores.to_string(), ending], "{text}");
+            }
+            ("mount", true) => {
+                book.clear();
+                self.mounts += 1;
+            }
+            ("cut", _) if printed[0] == "cut" => {
+                match words[..] {
+                    ["cut", "flush", allowance, stores] => {
+                        let most = allowance.parse::<u64>().unwrap().min(stores.parse().unwrap());
+                        let (stores, _) = book.flush(most);
+                        assert_eq!(printed[1], stores.to_string(), "{text}");
+                    }
+                    ["cut", "format", stores] => book.format(stores.parse().unwrap()),
+                    _ => {}
+                }
+                book.clear();
+            }
+            _ => {}
+        }
+        let is_time = self.lines.is_multiple_of(LINES_BETWEEN_LOOKS) || matches!(words[0], "mount" | "flush" | "end");
+        if is_time && shell.versions().is_some() {
+            self.looks += 1;
+            book.check(shell);
+        }
+    }
+}
+
+#[test]
+fn states_are_what_the_book_says() {
+    let mut keeper = Keeper {
+        book: None,
+        lines: 0,
+        mounts: 0,
+        looks: 0,
+    };
+    for seed in 0..SEEDS {
+        keeper.book = None;
+        generate(seed, None, &mut |line, printed, shell| {
+            keeper.observe(line, printed, shell)
+        });
+    }
+    println!(
+        "{} lines, {} looks, {} mounts",
+        keeper.lines, keeper.looks, keeper.mounts
+    );
+    assert!(keeper.mounts > 300 && keeper.looks > 5_000);
+}
