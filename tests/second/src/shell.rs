@@ -82,14 +82,12 @@ impl Shell {
         if line.len() <= LINE_BYTES && (line.first() == Some(&b'#') || is_blank(line)) {
             return;
         }
-        let length = output.len();
         if self.run_command(line, output).is_none() {
-            output.truncate(length);
             output.push_str("?\n");
         }
     }
 
-    /// Runs a command; None if the line is not one.
+    /// Runs a command; None, and nothing is printed or done, if the line is not one.
     fn run_command(&mut self, line: &[u8], output: &mut String) -> Option<()> {
         let mut words = [""; WORDS];
         let words = words_of(line, &mut words)?;

@@ -1,8 +1,9 @@
 //! `generate SEED [LINES]`: prints a random script for the shell, which follows from its seed.
 //!
-//! `generate --card SEED` prints a random card for the lister.
+//! `generate --card SEED` prints a random card for the lister, `generate --conflicts` the script in which the conflict
+//! count stops.
 
-use std::io::{self, BufWriter, Write};
+use std::io::{self, Write};
 use std::process::ExitCode;
 
 use second::generator;
@@ -11,7 +12,8 @@ fn main() -> ExitCode {
     let arguments: Vec<String> = std::env::args().skip(1).collect();
     let words: Vec<&str> = arguments.iter().map(String::as_str).collect();
     let printed = match words[..] {
-        ["--card", seed] => seed.parse().ok().map(print_card),
+        ["--card", seed] => seed.parse().ok().map(|seed| print(&generator::card(seed))),
+        ["--conflicts"] => Some(print(generator::conflicts_script().as_bytes())),
         [seed] => seed.parse().ok().map(|seed| print_script(seed, None)),
         [seed, lines] => match (seed.parse(), lines.parse()) {
             (Ok(seed), Ok(lines)) => Some(print_script(seed, Some(lines))),
@@ -26,7 +28,7 @@ fn main() -> ExitCode {
             ExitCode::FAILURE
         }
         None => {
-            eprintln!("generate SEED [LINES], or generate --card SEED");
+            eprintln!("generate SEED [LINES], generate --card SEED, or generate --conflicts");
             ExitCode::from(2)
         }
     }
@@ -38,11 +40,9 @@ fn print_script(seed: u64, lines: Option<usize>) -> io::Result<()> {
         script.extend_from_slice(line);
         script.push(b'\n');
     });
-    io::stdout().lock().write_all(&script)
+    print(&script)
 }
 
-fn print_card(seed: u64) -> io::Result<()> {
-    let mut output = BufWriter::new(io::stdout().lock());
-    output.write_all(&generator::card(seed))?;
-    output.flush()
+fn print(bytes: &[u8]) -> io::Result<()> {
+    io::stdout().lock().write_all(bytes)
 }

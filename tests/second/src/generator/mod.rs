@@ -286,6 +286,24 @@ pub fn generate<'a>(seed: u64, lines: Option<usize>, observer: &'a mut Observer<
     generator.write_script();
 }
 
+/// A script in which the conflict count stops at 65,535. Four units at a time delete the only list; then someone else
+/// takes it off the card, so that none of them applies, and puts it back. So the log doesn't grow.
+pub fn conflicts_script() -> String {
+    const ROUNDS: usize = 65_540 / 4;
+    let mut script = "card 4096 0\nformat\nnewlist 0\nflush 65535\n".to_string();
+    for round in 0..ROUNDS {
+        script += "begin 1\nbegin 2\nbegin 3\nbegin 4\n";
+        script += "dellist 1 1\ndellist 2 1\ndellist 3 1\ndellist 4 1\n";
+        script += "poke 3584 0\n";
+        script += "end 1\nend 2\nend 3\nend 4\n";
+        script += "poke 3584 1\n";
+        if round % 1_000 == 0 || round + 5 > ROUNDS {
+            script += "conflicts\n";
+        }
+    }
+    script + "mount\nconflicts\n"
+}
+
 impl Generator<'_> {
     fn write_script(&mut self) {
         if self.random.chance(10) {
