@@ -20,3 +20,4 @@ pub mod Sequence
 pub mod Flushing
 pub mod Allowance
 pub mod Order
+pub mod Inventory

@@ -113,7 +113,7 @@ module _ {D : Type 0} where
   rows-kept : (h : Row D → Row D) → ((r : Row D) → h r .num ≡ r .num) → (l : ℕ) (rs : List (Row D)) → rowsOf l (map h rs) ≤ rowsOf l rs
   rows-kept h e l rs = total-map (λ r. one (isRow l r)) (λ r. one (isRow l r)) h (λ r. rw (e r) (le-refl _)) rs
 
-  at-num : (l : ℕ) (f : List (Block D) → List (Block D)) (r : Row D) → at l f r .num ≡ r .num
+  pub at-num : (l : ℕ) (f : List (Block D) → List (Block D)) (r : Row D) → at l f r .num ≡ r .num
   at-num l f r = go (isRow l r)
     where
       go : (t : Bool) → (cond t (onBlocks f r) r) .num ≡ r .num

@@ -21,3 +21,4 @@ pub mod LogStores
 pub mod Stores
 pub mod Feeding
 pub mod Examples
+pub mod Numbers

@@ -1,0 +1,110 @@
+-- The numbers of a state's lists: changes keep them within what they may take, and lists numbered 1 to n, each once, are at most n (`lists-few`).
+use mathlib.Core.Path.{_≡_, refl, subst}
+use mathlib.Core.Bool.{Bool, true, false, _&&_, cond}
+use mathlib.Core.Option.{Option, none, some, Option·some-injective}
+use mathlib.Core.List.{List, [], _∷_, map}
+use Prim.Native.Nat.{ℕ, zero, suc, _+_, _≤_, _<_}
+use native.Mathlib.Omega.{arith}
+use native.Mathlib.Decide.{ℕ-discrete}
+use lib.Dec.{leb, eqb}
+use lib.ListN.{length}
+use Rattle.lists.specs.Basic.{all, keep, from, orElse}
+use Rattle.lists.specs.Change.{Change, takeList, putFirst, putAfter, write, delBlock, delList}
+use Rattle.lists.specs.State.{Row, State, block, row, isRow, insertAfter, onBlocks, at, put, otherBlock, otherRow, changed, apply, applyAll, overlay}
+use Rattle.lists.proofs.Basic.{and-true, eq-true, leb-true, bind-some, all-append, from-length}
+use Rattle.lists.proofs.Apply.{apply-some}
+use Rattle.lists.proofs.Count.{total, one, rowsOf, at-num}
+use Rattle.lists.proofs.Distinct.{Distinct}
+
+module _ {D : Type 0} (p : ℕ → Bool) where
+  -- does the list that the change takes, if any, pass the test? does every list of a state?
+  abbrev pub mayTake : Change D → Bool
+  mayTake (takeList l) = p l
+  mayTake (putFirst b l) = true
+  mayTake (putAfter b l q) = true
+  mayTake (write b d) = true
+  mayTake (delBlock b) = true
+  mayTake (delList l) = true
+
+  abbrev pub numbered : List (Row D) → Bool
+  numbered rs = all (λ r. p (r .num)) rs
+
+  map-numbered : (h : Row D → Row D) → ((r : Row D) → h r .num ≡ r .num) → (rs : List (Row D)) → numbered rs ≡ true → numbered (map h rs) ≡ true
+  unfolding all
+  map-numbered h e [] k = refl
+  map-numbered h e (r ∷ rs) k = let (a, b) = and-true (p (r .num)) (numbered rs) k in rw (e r, a) (map-numbered h e rs b)
+
+  keep-numbered : (q : Row D → Bool) (rs : List (Row D)) → numbered rs ≡ true → numbered (keep q rs) ≡ true
+  unfolding all
+  keep-numbered q [] k = refl
+  keep-numbered q (r ∷ rs) k = let (a, b) = and-true (p (r .num)) (numbered rs) k in go (q r) a (keep-numbered q rs b)
+    where
+      go : (t : Bool) → p (r .num) ≡ true → numbered (keep q rs) ≡ true → numbered (cond t (r ∷ keep q rs) (keep q rs)) ≡ true
+      go true a ih = rw a ih
+      go false a ih = ih
+
+  changed-numbered : (z : D) (c : Change D) (rs : List (Row D)) → mayTake c ≡ true → numbered rs ≡ true → numbered (changed z c rs) ≡ true
+  unfolding changed all
+  changed-numbered z (takeList l) rs m h = all-append (λ r. p (r .num)) rs (row l [] ∷ []) h (rw m)
+  changed-numbered z (putFirst b l) rs m h = map-numbered (at l (λ bs. block b z ∷ bs)) (at-num l (λ bs. block b z ∷ bs)) rs h
+  changed-numbered z (putAfter b l q) rs m h = map-numbered (at l (insertAfter q (block b z))) (at-num l (insertAfter q (block b z))) rs h
+  changed-numbered z (write b d) rs m h = map-numbered (onBlocks (map (put b d))) (λ r. refl) rs h
+  changed-numbered z (delBlock b) rs m h = map-numbered (onBlocks (keep (otherBlock b))) (λ r. refl) rs h
+  changed-numbered z (delList l) rs m h = keep-numbered (otherRow l) rs h
+
+  pub apply-numbered : (z : D) (c : Change D) (s t : State D) → mayTake c ≡ true → apply z c s ≡ some t → numbered (s .lists) ≡ true → numbered (t .lists) ≡ true
+  apply-numbered z c s t m e h = let (a, f) = apply-some z c s t e in rw f (changed-numbered z c (s .lists) m h)
+
+  pub applyAll-numbered : (z : D) (cs : List (Change D)) (s t : State D) → all mayTake cs ≡ true → applyAll z cs s ≡ some t → numbered (s .lists) ≡ true → numbered (t .lists) ≡ true
+  unfolding applyAll all
+  applyAll-numbered z [] s t m e h = subst (λ (x : State D). numbered (x .lists) ≡ true) (Option·some-injective _ _ e) h
+  applyAll-numbered z (c ∷ cs) s t m e h =
+      let (u, f, g) = bind-some (apply z c s) (λ x. applyAll z cs x) t e in
+      let (a, b) = and-true (mayTake c) (all mayTake cs) m in
+      applyAll-numbered z cs u t b g (apply-numbered z c s u a f h)
+
+  pub overlay-numbered : (z : D) (cs : List (Change D)) (s : State D) → all mayTake cs ≡ true → numbered (s .lists) ≡ true → numbered (overlay z cs s .lists) ≡ true
+  unfolding overlay orElse all
+  overlay-numbered z [] s m h = h
+  overlay-numbered z (c ∷ cs) s m h =
+      let (a, b) = and-true (mayTake c) (all mayTake cs) m in
+      overlay-numbered z cs (orElse s (apply z c s)) b (go a (apply z c s) refl)
+    where
+      go : mayTake c ≡ true → (o : Option (State D)) → apply z c s ≡ o → numbered (orElse s o .lists) ≡ true
+      go a none e = h
+      go a (some t) e = apply-numbered z c s t a e h
+
+-- Lists counted by their numbers.
+module _ {A : Type 0} where
+  total-plus : (f g : A → ℕ) (xs : List A) → total (λ x. f x + g x) xs ≡ total f xs + total g xs
+  total-plus f g [] = omega arith
+  total-plus f g (x ∷ xs) = omega (arith, total-plus f g xs)
+
+  total-most : (f : A → ℕ) (xs : List A) → ((x : A) → f x ≤ 1) → total f xs ≤ length xs
+  total-most f [] h = omega arith
+  total-most f (x ∷ xs) h = omega (arith, h x, total-most f xs h)
+
+-- a number in range is one of the numbers from k on
+number-among : (m k n : ℕ) → k ≤ m → m < k + n → 1 ≤ total (λ l. one (eqb m l)) (from (λ l. l) k n)
+unfolding from
+number-among m k zero a b = absurd (omega arith)
+number-among m k (suc n) a b = go (ℕ-discrete m k) (number-among m (suc k) n)
+  where
+    go : Dec (m ≡ k) → (suc k ≤ m → m < suc k + n → 1 ≤ total (λ l. one (eqb m l)) (from (λ l. l) (suc k) n))
+        → 1 ≤ one (eqb m k) + total (λ l. one (eqb m l)) (from (λ l. l) (suc k) n)
+    go (yes e) ih = rw (eq-true m k e) (omega arith)
+    go (no e) ih = omega (arith, ih (omega arith) (omega arith))
+
+module _ {D : Type 0} (n : ℕ) where
+  lists-among : (rs : List (Row D)) → numbered (λ l. leb 1 l && leb l n) rs ≡ true → length rs ≤ total (λ l. rowsOf l rs) (from (λ l. l) 1 n)
+  unfolding all
+  lists-among [] h = omega arith
+  lists-among (r ∷ rs) h =
+      let (a, b) = and-true (leb 1 (r .num) && leb (r .num) n) _ h in
+      let (x, y) = and-true (leb 1 (r .num)) (leb (r .num) n) a in
+      let lo = leb-true 1 (r .num) x in
+      let hi = leb-true (r .num) n y in
+      omega (arith, total-plus (λ l. one (isRow l r)) (λ l. rowsOf l rs) (from (λ l. l) 1 n), number-among (r .num) 1 n lo (omega arith), lists-among rs b)
+
+  pub lists-few : (rs : List (Row D)) → Distinct rs → numbered (λ l. leb 1 l && leb l n) rs ≡ true → length rs ≤ n
+  lists-few rs d h = omega (arith, lists-among rs h, total-most (λ l. rowsOf l rs) (from (λ l. l) 1 n) (d .lists), from-length (λ l. l) 1 n)
