@@ -1,0 +1,23 @@
+-- A blank, then the digits. Assumes nothing.
+use mathlib.Core.Path.{_∙_}
+use borrow.Author.Needs.{needs}
+use Rattle.text.proofs.Writing.{puts-more, puts-length}
+use Rattle.listing.proofs.Lines.{numbers-one}
+use Rattle.listing.proofs.list_lines.put_number.Statement.{statement}
+use Rattle.listing.proofs.list_lines.put_number.Tie as tie
+
+put-byte-requires : tie.Need-put-byte-requires
+put-byte-requires c κs = search needs
+
+put-decimal-requires : tie.Need-put-decimal-requires
+put-decimal-requires c κs = search needs
+
+same-length : tie.Need-same-length
+same-length c = search needs
+
+returns : tie.Need-returns
+returns c =
+    rw (numbers-one (c .before .before .before .before .before .before .before .before .before .args .block)) (puts-more (c .before .before .before .before .before .before .put-byte .ensures) (c .before .before .put-decimal .ensures))
+
+pub put-number-spec : {M : Type 1} → statement M
+put-number-spec = tie.close (tie.spec put-byte-requires put-decimal-requires same-length returns)

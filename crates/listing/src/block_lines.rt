@@ -1,0 +1,86 @@
+// The blocks' lines, from the linked tables of a state whose contents stand at locations of a card.
+use lists::tables::is_placed;
+use lists::tables::location_of;
+use log::layout::SLOT;
+use text::decimal::put_decimal;
+use text::line::part;
+use text::put::put_byte;
+use text::put::put_bytes;
+ghost use mathlib.Core.Path.{_≡_};
+ghost use Prim.Native.Nat.{_≤_};
+ghost use lib.ListN.{length};
+ghost use Rattle.lists.specs.Tables.{IsBlock};
+ghost use Rattle.text.specs.Written.{Puts};
+ghost use Rattle.listing.specs.Listing.{total, blockPart, blockLines};
+ghost use Rattle.listing.specs.Shown.{OfContents, sumAt};
+
+const BLOCKS: u8 = 64;
+
+// The blocks on some list, ascending.
+pub fn put_blocks(
+    out: &mut [u8],
+    at: usize,
+    card: &[u8],
+    owner: &[u8; 256],
+    place: &[u16; 256],
+) -> usize
+    ensures { λ r. ⌜ length (now (out .exit)) ≡ length (now (out .entry)) ⌝ }
+    ensures { λ r. ⌜ OfContents (now (owner .entry)) (now (place .entry)) (λ rs.
+        Puts (now (out .entry)) at (blockLines (sumAt (now (card .entry))) rs) (now (out .exit)) r) ⌝ }
+{
+    let mut position = at;
+    let mut block = 1u8;
+    while block <= BLOCKS {
+        position = put_block(out, position, card, owner, place, block);
+        block += 1;
+    }
+    position
+}
+
+// A block's line, where it is on some list.
+fn put_block(
+    out: &mut [u8],
+    at: usize,
+    card: &[u8],
+    owner: &[u8; 256],
+    place: &[u16; 256],
+    block: u8,
+) -> usize
+    ensures { λ r. ⌜ length (now (out .exit)) ≡ length (now (out .entry)) ⌝ }
+    ensures { λ r. ⌜ OfContents (now (owner .entry)) (now (place .entry)) (λ rs.
+        IsBlock block → Puts (now (out .entry)) at (blockPart (sumAt (now (card .entry))) rs block) (now (out .exit)) r) ⌝ }
+{
+    if !is_placed(owner, block) {
+        return at;
+    }
+    let sum = sum_at(card, location_of(place, block));
+    let mut position = put_bytes(out, at, b"block ");
+    position = put_decimal(out, position, block as u64);
+    position = put_bytes(out, position, b": ");
+    position = put_decimal(out, position, sum);
+    put_byte(out, position, b'\n')
+}
+
+// The sum of the bytes at a location of the card.
+fn sum_at(card: &[u8], location: u16) -> u64
+    ensures { λ r. ⌜ r ≡ sumAt (now (card .entry)) location ⌝ }
+{
+    if location == 0 {
+        return 0;
+    }
+    let from = (location as usize - 1) * SLOT;
+    sum(part(card, from, from + SLOT))
+}
+
+fn sum(bytes: &[u8]) -> u64
+    requires { ⌜ length (now bytes) ≤ 256 ⌝ }
+    ensures { λ r. ⌜ r ≡ total (now (bytes .entry)) ⌝ }
+{
+    let mut n = 0u64;
+    let mut i = 0;
+    while i < bytes.len() {
+        n += bytes[i] as u64;
+        i += 1;
+    }
+    n
+}

@@ -1,0 +1,78 @@
+// The lists' lines, from the linked tables of a state.
+use lists::tables::block_after;
+use lists::tables::is_taken;
+use text::decimal::put_decimal;
+use text::put::put_byte;
+use text::put::put_bytes;
+ghost use mathlib.Core.Path.{_≡_};
+ghost use mathlib.Core.Bool.{true};
+ghost use mathlib.Core.List.{[], _∷_};
+ghost use lib.ListN.{length};
+ghost use Rattle.lists.specs.State.{taken};
+ghost use Rattle.lists.specs.Lookup.{blocksOf};
+ghost use Rattle.lists.specs.Tables.{IsList, OfNext};
+ghost use Rattle.text.specs.Written.{Puts};
+ghost use Rattle.listing.specs.Listing.{numbers, listPart, listLines};
+ghost use Rattle.listing.specs.Shown.{OfLinks};
+
+const LISTS: u8 = 16;
+
+// The tables' nodes: no list has more blocks.
+const NODES: usize = 256;
+
+// The lists taken, ascending.
+pub fn put_lists(out: &mut [u8], at: usize, next: &[u8; 256], owner: &[u8; 256]) -> usize
+    ensures { λ r. ⌜ length (now (out .exit)) ≡ length (now (out .entry)) ⌝ }
+    ensures { λ r. ⌜ OfLinks (now (next .entry)) (now (owner .entry)) (λ rs. Puts (now (out .entry)) at (listLines rs) (now (out .exit)) r) ⌝ }
+{
+    let mut position = at;
+    let mut list = 1u8;
+    while list <= LISTS {
+        position = put_list(out, position, next, owner, list);
+        list += 1;
+    }
+    position
+}
+
+// A list's line, where it is taken.
+fn put_list(out: &mut [u8], at: usize, next: &[u8; 256], owner: &[u8; 256], list: u8) -> usize
+    ensures { λ r. ⌜ length (now (out .exit)) ≡ length (now (out .entry)) ⌝ }
+    ensures { λ r. ⌜ OfLinks (now (next .entry)) (now (owner .entry)) (λ rs.
+        IsList list → Puts (now (out .entry)) at (listPart rs list) (now (out .exit)) r) ⌝ }
+{
+    if !is_taken(owner, list) {
+        return at;
+    }
+    let mut position = put_bytes(out, at, b"list ");
+    position = put_decimal(out, position, list as u64);
+    position = put_byte(out, position, b':');
+    position = put_numbers(out, position, next, list);
+    put_byte(out, position, b'\n')
+}
+
+// The blocks of a list that is taken, in order, a blank before each.
+fn put_numbers(out: &mut [u8], at: usize, next: &[u8; 256], list: u8) -> usize
+    ensures { λ r. ⌜ length (now (out .exit)) ≡ length (now (out .entry)) ⌝ }
+    ensures { λ r. ⌜ OfNext (now (next .entry)) (λ rs.
+        taken list rs ≡ true → Puts (now (out .entry)) at (numbers (blocksOf rs list)) (now (out .exit)) r) ⌝ }
+{
+    let mut position = at;
+    let mut block = block_after(next, list, 0);
+    let mut i = 0usize;
+    while i < NODES {
+        if block == 0 {
+            return position;
+        }
+        position = put_number(out, position, block);
+        block = block_after(next, list, block);
+        i += 1;
+    }
+    position
+}
+
+fn put_number(out: &mut [u8], at: usize, block: u8) -> usize
+    ensures { λ r. ⌜ Puts (now (out .entry)) at (numbers (block ∷ [])) (now (out .exit)) r ⌝ }
+{
+    let position = put_byte(out, at, b' ');
+    put_decimal(out, position, block as u64)
+}
