@@ -3,18 +3,20 @@ use mathlib.Core.Path.{_≡_, refl, sym, ap, ap₂, _∙_}
 use mathlib.Core.Bool.{Bool, true, false, cond}
 use mathlib.Core.Option.{none, some}
 use mathlib.Core.List.{List, [], _∷_, _++_, map, map-append, append-assoc, append-nil}
-use Prim.Native.Nat.{ℕ, suc, _+_, _-_, _*_, _≤_, _<_}
+use Prim.Native.Nat.{ℕ, zero, suc, _+_, _-_, _*_, _≤_, _<_}
 use native.Mathlib.Omega.{arith}
 use native.Mathlib.Decide.{decLe}
 use native.Mathlib.Nat.{zero-add, mul-comm}
 use native.Mathlib.Numerals.{add-one}
-use lib.ListN.{length, take, drop, getD, length-take, drop-of-length-le}
-use lib.Seq.{slice, take-suc, take-add, take-nil, drop-at, length-take-le}
+use lib.Dec.{ltb}
+use lib.ListN.{length, take, drop, getD, replicate, length-take, drop-of-length-le}
+use lib.Seq.{slice, take-suc, take-add, drop-at, length-take-le}
 use Rattle.lists.specs.Basic.{from, joined}
 use Rattle.lists.specs.State.{Row, taken}
 use Rattle.lists.specs.Lookup.{blocksOf, contentOf}
-use Rattle.lists.proofs.Basic.{from-snoc}
-use Rattle.log.specs.Card.{slot, count}
+use Rattle.lists.proofs.Basic.{from-snoc, lt-true, ge-false}
+use Rattle.log.specs.Card.{slot, zeros, count}
+use Rattle.log.specs.Location.{contentAt}
 use Rattle.text.specs.Decimal.{decimal}
 use Rattle.listing.specs.Listing.{total, numbers, listLine, listPart, blockLine, blockPart}
 use Rattle.listing.specs.Shown.{sumAt}
@@ -93,6 +95,22 @@ module _ {D : Type 0} (rs : List (Row D)) where
     block-some d h = rw (h, blockPart)
 
 -- The bytes at a location.
+slot-none : (k : ℕ) → slot [] k ≡ []
+unfolding slot
+slot-none k = ap (take 256) (drop-of-length-le [] {i = 256 * k} (omega arith))
+
+pub content-in : (c q j : List ℕ) (n : ℕ) → n < 1024 → contentAt c q j (suc n) ≡ slot c n
+unfolding contentAt
+content-in c q j n h = rw (lt-true n 1024 h)
+
+pub content-out : (c : List ℕ) (n : ℕ) → 1024 ≤ n → contentAt c [] [] (suc n) ≡ []
+unfolding contentAt
+content-out c n h = rw (ge-false n 1024 h, slot-none (n - 1024), slot-none (n - 1056)) (same (ltb n 1056))
+  where
+    same : (b : Bool) → cond {A = List ℕ} b [] [] ≡ []
+    same true = refl
+    same false = refl
+
 slot-part : (c : List ℕ) (k : ℕ) → slice (256 * k) (256 * k + 256) c ≡ slot c k
 unfolding slot
 slot-part c k = go (decLe (256 * k) (length c))
@@ -113,8 +131,23 @@ slot-length c k = omega (arith, length-take 256 (drop (256 * k) c))
 pub part-length : (c : List ℕ) (n : ℕ) → length (slice ((n - 1) * 256) ((n - 1) * 256 + 256) c) ≤ 256
 part-length c n = rw (mul-comm (n - 1) 256, slot-part c (n - 1)) (slot-length c (n - 1))
 
-pub part-sum : (c : List ℕ) (n : ℕ) → 1 ≤ n → total (slice ((n - 1) * 256) ((n - 1) * 256 + 256) c) ≡ sumAt c n
-unfolding sumAt
-part-sum c n h =
-    let e : suc (n - 1) ≡ n = omega arith in
-    rw (mul-comm (n - 1) 256, slot-part c (n - 1)) (ap (sumAt c) e)
+total-zeros : (n : ℕ) → total (replicate n 0) ≡ 0
+unfolding total
+total-zeros zero = refl
+total-zeros (suc n) = omega (arith, total-zeros n)
+
+module _ (c : List ℕ) where
+  pub sum-blank : sumAt c 0 ≡ 0
+  unfolding contentAt zeros
+  sum-blank = total-zeros 256
+
+  pub sum-in : (n : ℕ) → 1 ≤ n → n ≤ 1024 → total (slice ((n - 1) * 256) ((n - 1) * 256 + 256) c) ≡ sumAt c n
+  sum-in n h k =
+      let e : suc (n - 1) ≡ n = omega arith in
+      rw (mul-comm (n - 1) 256, slot-part c (n - 1)) (ap total (sym (content-in c [] [] (n - 1) (omega arith))) ∙ ap (sumAt c) e)
+
+  pub sum-out : (n : ℕ) → 1024 < n → 0 ≡ sumAt c n
+  unfolding total
+  sum-out n h =
+      let e : suc (n - 1) ≡ n = omega arith in
+      sym (ap total (content-out c (n - 1) (omega arith))) ∙ ap (sumAt c) e

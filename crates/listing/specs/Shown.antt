@@ -1,9 +1,9 @@
 -- What the functions that read the linked tables promise: of all lists that the tables show, whose contents stand at locations of a card.
-use mathlib.Core.List.{List}
-use Prim.Native.Nat.{ℕ, zero, suc}
+use mathlib.Core.List.{List, []}
+use Prim.Native.Nat.{ℕ}
 use Rattle.lists.specs.State.{Row}
 use Rattle.lists.specs.Tables.{Shows, tables}
-use Rattle.log.specs.Card.{slot}
+use Rattle.log.specs.Location.{contentAt}
 use Rattle.listing.specs.Listing.{total}
 
 -- Of some of the tables: what holds of all lists that tables with them show.
@@ -13,7 +13,6 @@ OfLinks nx ow P = (pv pl : List ℕ) (rs : List (Row ℕ)) → Shows (tables nx 
 abbrev pub OfContents : List ℕ → List ℕ → (List (Row ℕ) → Type 0) → Type 0
 OfContents ow pl P = (nx pv : List ℕ) (rs : List (Row ℕ)) → Shows (tables nx pv ow pl) rs → P rs
 
--- the sum of the bytes at a location: 0 is the blank, then come the card's 256 bytes number 0, 1, …
-unfoldable pub sumAt : List ℕ → ℕ → ℕ
-sumAt c zero = 0
-sumAt c (suc n) = total (slot c n)
+-- the sum of the bytes at a location of the card
+abbrev pub sumAt : List ℕ → ℕ → ℕ
+sumAt c d = total (contentAt c [] [] d)

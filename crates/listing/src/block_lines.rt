@@ -16,6 +16,9 @@ ghost use Rattle.listing.specs.Shown.{OfContents, sumAt};
 
 const BLOCKS: u8 = 64;
 
+// The last location of a card.
+const LOCATIONS: u16 = 1024;
+
 // The blocks on some list, ascending.
 pub fn put_blocks(
     out: &mut [u8],
@@ -61,11 +64,14 @@ fn put_block(
     put_byte(out, position, b'\n')
 }
 
-// The sum of the bytes at a location of the card.
+// The sum of the bytes at a location of the card. The blank sums up to 0, and behind the card's locations there is nothing.
 fn sum_at(card: &[u8], location: u16) -> u64
     ensures { λ r. ⌜ r ≡ sumAt (now (card .entry)) location ⌝ }
 {
     if location == 0 {
+        return 0;
+    }
+    if LOCATIONS < location {
         return 0;
     }
     let from = (location as usize - 1) * SLOT;

@@ -17,8 +17,8 @@ ghost use Rattle.listing.specs.Shown.{OfLinks};
 
 const LISTS: u8 = 16;
 
-// The tables' nodes: no list has more blocks.
-const NODES: usize = 256;
+// No list has more blocks.
+const BLOCKS: usize = 64;
 
 // The lists taken, ascending.
 pub fn put_lists(out: &mut [u8], at: usize, next: &[u8; 256], owner: &[u8; 256]) -> usize
@@ -59,7 +59,7 @@ fn put_numbers(out: &mut [u8], at: usize, next: &[u8; 256], list: u8) -> usize
     let mut position = at;
     let mut block = block_after(next, list, 0);
     let mut i = 0usize;
-    while i < NODES {
+    while i < BLOCKS {
         if block == 0 {
             return position;
         }

@@ -1,16 +1,18 @@
--- The blank sums up to 0; every other location is a slot of the card. Assumes nothing.
-use mathlib.Core.Path.{refl, ap, _∙_}
+-- Location by location. Assumes nothing.
+use mathlib.Core.Path.{sym, ap, _∙_}
 use native.Mathlib.Omega.{arith}
 use borrow.Author.Needs.{needs}
 use Rattle.listing.specs.Listing.{total}
 use Rattle.listing.specs.Shown.{sumAt}
-use Rattle.listing.proofs.Lines.{part-length, part-sum}
+use Rattle.listing.proofs.Lines.{part-length, sum-blank, sum-in, sum-out}
 use Rattle.listing.proofs.block_lines.sum_at.Statement.{statement}
 use Rattle.listing.proofs.block_lines.sum_at.Tie as tie
 
 returns : tie.Need-returns
-unfolding sumAt
-returns c = rw (c .if1 .taken)
+returns c = let a = c .before .before .args in rw (c .if1 .taken) (sym (sum-blank (a .card .now)))
+
+returns-2 : tie.Need-returns-2
+returns-2 c = let a = c .before .before .before .args in sum-out (a .card .now) (a .location) (omega arith)
 
 sub-from : tie.Need-sub-from
 sub-from c = search needs
@@ -25,13 +27,13 @@ part-requires : tie.Need-part-requires
 part-requires c κs = search needs
 
 sum-requires : tie.Need-sum-requires
-sum-requires c κs = let a = c .before .before .before .args in rw (c .part .ensures) (part-length (a .card .now) (a .location))
+sum-requires c κs = let a = c .before .before .before .before .args in rw (c .part .ensures) (part-length (a .card .now) (a .location))
 
-returns-2 : tie.Need-returns-2
-returns-2 c =
-    let a = c .before .before .before .before .args in
-    c .sum .ensures ∙ ap total (c .before .part .ensures) ∙ part-sum (a .card .now) (a .location) (omega arith)
+returns-3 : tie.Need-returns-3
+returns-3 c =
+    let a = c .before .before .before .before .before .args in
+    c .sum .ensures ∙ ap total (c .before .part .ensures) ∙ sum-in (a .card .now) (a .location) (omega arith) (omega arith)
 
 pub sum-at-spec : {M : Type 1} → statement M
 sum-at-spec =
-    tie.close (tie.spec returns sub-from mul-from add-part part-requires sum-requires returns-2)
+    tie.close (tie.spec returns returns-2 sub-from mul-from add-part part-requires sum-requires returns-3)

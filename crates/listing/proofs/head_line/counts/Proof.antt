@@ -72,8 +72,7 @@ unfolding used entries
 returns c =
     let s = c .before in
     let card = s .before .before .args .card .now in
-    let e : s .loop .g ≡ length card / 4096 = omega arith in
-    (
+    let e : s .loop .g ≡ length card / 4096 = omega arith in (
       s .loop .inv .4 ∙ ap (λ (n : ℕ). total (from (λ k. cond (ltb 0 (count card k)) 1 0) 0 n)) e,
       s .loop .inv .5 ∙ ap (λ (n : ℕ). total (from (count card) 0 n)) e,
     )

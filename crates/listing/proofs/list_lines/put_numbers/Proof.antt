@@ -13,10 +13,10 @@ use Rattle.listing.proofs.list_lines.put_numbers.Tie as tie
 
 abbrev Inv-loop : tie.InvT-loop
 Inv-loop out₀ at next list position₀ block₀ i₀ out position block i =
-    (i ≤ 256) × (length out ≡ length out₀) × OfNext next (λ rs. taken list rs ≡ true → Putting out₀ at rs list i out position block)
+    (i ≤ 64) × (length out ≡ length out₀) × OfNext next (λ rs. taken list rs ≡ true → Putting out₀ at rs list i out position block)
 
 abbrev μ-loop : tie.MeasureT-loop
-μ-loop out₀ at next list position₀ block₀ i₀ out position block i = 256 - i
+μ-loop out₀ at next list position₀ block₀ i₀ out position block i = 64 - i
 
 block-after-requires : tie.Need-block-after-requires Inv-loop μ-loop
 block-after-requires c κs = tt
@@ -33,7 +33,7 @@ returns : tie.Need-returns Inv-loop μ-loop
 returns c =
     let s = c .before .before .loop in
     let a = c .before .before .before .before .before .args in
-    (s .inv .1, λ pv ow pl rs w h. putting-end (tables (a .next .now) pv ow pl) rs w (a .list) h (s .inv .2 pv ow pl rs w h) (c .if1 .taken))
+    (s .inv .1, λ pv ow pl rs w h. putting-end (tables (a .next .now) pv ow pl) rs w (a .list) (s .inv .2 pv ow pl rs w h) (c .if1 .taken))
 
 put-number-requires : tie.Need-put-number-requires Inv-loop μ-loop
 put-number-requires c κs = tt
@@ -54,7 +54,7 @@ loop-again c =
     let a = d .before .before .before .before .before .before .before .args in (
       omega arith,
       puts-length (d .put-number .ensures) ∙ s .inv .1,
-      λ pv ow pl rs w h. putting-more (tables (a .next .now) pv ow pl) rs w (a .list) h (s .inv .2 pv ow pl rs w h)
+      λ pv ow pl rs w h. putting-more (tables (a .next .now) pv ow pl) rs w (a .list) (s .inv .2 pv ow pl rs w h)
           (d .before .before .if1 .left) (d .put-number .ensures) (λ k. c .block-after2 .ensures pv ow pl rs w h k),
     )
 
@@ -65,7 +65,7 @@ returns-2 : tie.Need-returns-2 Inv-loop μ-loop
 returns-2 c =
     let s = c .before .loop in
     let a = c .before .before .before .before .args in
-    (s .inv .1, λ pv ow pl rs w h. putting-full (tables (a .next .now) pv ow pl) rs w (a .list) h (s .inv .2 pv ow pl rs w h) (omega arith))
+    (s .inv .1, λ pv ow pl rs w h. putting-full (tables (a .next .now) pv ow pl) rs w (a .list) (s .inv .2 pv ow pl rs w h) (omega arith))
 
 pub put-numbers-spec : {M : Type 1} → statement M
 put-numbers-spec =

@@ -1,0 +1,41 @@
+// A card's whole text but for its refusals, and a refusal's line.
+use crate::block_lines::put_blocks;
+use crate::head_line::put_head;
+use crate::list_lines::put_lists;
+use text::decimal::put_decimal;
+use text::put::put_byte;
+use text::put::put_bytes;
+ghost use mathlib.Core.Path.{_≡_};
+ghost use mathlib.Core.List.{List, _++_};
+ghost use Prim.Native.Nat.{ℕ};
+ghost use lib.ListN.{length};
+ghost use Rattle.lists.specs.State.{Row};
+ghost use Rattle.lists.specs.Tables.{Shows, tables};
+ghost use Rattle.text.specs.Written.{Puts};
+ghost use Rattle.listing.specs.Listing.{refusal, headLine, listLines, blockLines};
+ghost use Rattle.listing.specs.Shown.{sumAt};
+
+pub fn put_refusal(out: &mut [u8], number: u64) -> usize
+    ensures { λ r. ⌜ Puts (now (out .entry)) 0 (refusal number) (now (out .exit)) r ⌝ }
+{
+    let mut position = put_bytes(out, 0, b"refused ");
+    position = put_decimal(out, position, number);
+    put_byte(out, position, b'\n')
+}
+
+// The lines of a card whose log is acceptable; the tables show its state.
+pub fn put_state(
+    out: &mut [u8],
+    card: &[u8],
+    next: &[u8; 256],
+    owner: &[u8; 256],
+    place: &[u16; 256],
+) -> usize
+    ensures { λ r. ⌜ length (now (out .exit)) ≡ length (now (out .entry)) ⌝ }
+    ensures { λ r. ⌜ ((pv : List ℕ) (rs : List (Row ℕ)) → Shows (tables (now (next .entry)) pv (now (owner .entry)) (now (place .entry))) rs
+        → Puts (now (out .entry)) 0 (headLine (now (card .entry)) ++ listLines rs ++ blockLines (sumAt (now (card .entry))) rs) (now (out .exit)) r) ⌝ }
+{
+    let mut position = put_head(out, 0, card);
+    position = put_lists(out, position, next, owner);
+    put_blocks(out, position, card, owner, place)
+}
