@@ -64,7 +64,7 @@ module _ {D : Type 0} (p : ℕ → Bool) where
   puts-all (delBlock n) h = refl
   puts-all (delList l) h = refl
 
-  pub all-puts : (c : Change D) → all p (putBy c) ≡ true → (b : ℕ) → puts c b ≡ true → p b ≡ true
+  all-puts : (c : Change D) → all p (putBy c) ≡ true → (b : ℕ) → puts c b ≡ true → p b ≡ true
   unfolding putBy all
   all-puts (takeList l) h b e = absurd (false≢true e)
   all-puts (putFirst n l) h b e = ap p (sym (eqb-true n b e)) ∙ and-true (p n) true h .0
@@ -74,12 +74,12 @@ module _ {D : Type 0} (p : ℕ → Bool) where
   all-puts (delList l) h b e = absurd (false≢true e)
 
 -- A journal's change, sound for unit u: what it puts is held by u.
-pub journal-held : (r : Record) (u : ℕ) (c : Change Content) (b : ℕ) → journalSound r u c ≡ true → puts c b ≡ true → holderOf r b ≡ u
+journal-held : (r : Record) (u : ℕ) (c : Change Content) (b : ℕ) → journalSound r u c ≡ true → puts c b ≡ true → holderOf r b ≡ u
 unfolding journalSound
 journal-held r u c b h e =
     eqb-true (holderOf r b) u (all-puts (λ x. eqb (holderOf r x) u) c (and-true (legal (raw 0 (member c))) _ h .1) b e)
 
-pub journal-more : (r t : Record) (u : ℕ) (c : Change Content) → ((b : ℕ) → holderOf r b ≡ u → holderOf t b ≡ u)
+journal-more : (r t : Record) (u : ℕ) (c : Change Content) → ((b : ℕ) → holderOf r b ≡ u → holderOf t b ≡ u)
     → journalSound r u c ≡ true → journalSound t u c ≡ true
 unfolding journalSound
 journal-more r t u c f h =

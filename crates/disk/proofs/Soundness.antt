@@ -49,7 +49,7 @@ twelve-right c d h =
     let (u, e) = twelve-end c d h in
     subst (λ (x : Call). Right (refused x 12 d)) (sym e) (conflict-right u d (sym (ap (λ (x : Call). refusal x d) e) ∙ h))
 
-pub leaves-right : (c : Call) (d : Disk) → (refusal c d ≡ 0) ⊎ (refusal c d ≡ 12) → Right (perform c d .disk)
+leaves-right : (c : Call) (d : Disk) → (refusal c d ≡ 0) ⊎ (refusal c d ≡ 12) → Right (perform c d .disk)
 leaves-right c d (inl h) = rw (perform-accepted c d h) (accepted-right c d h)
 leaves-right c d (inr h) = rw (perform-refused c d 11 h) (twelve-right c d h)
 
@@ -62,7 +62,7 @@ refused-same c n d h = go (ends c) refl
     go none e = rw (e, refused)
     go (some u) e = rw (e, refused) (rw (eqb-false n 12 h, refused))
 
-pub stays-right : (c : Call) (d : Disk) → Right d → Right (perform c d .disk)
+stays-right : (c : Call) (d : Disk) → Right d → Right (perform c d .disk)
 stays-right c d r = go (refusal c d) refl
   where
     twelve : (n : ℕ) → refusal c d ≡ suc n → Dec (suc n ≡ 12) → Right (perform c d .disk)
@@ -132,3 +132,11 @@ stays-sound (c ∷ cs) d l r =
 pub never-refused : (c : Call) (d : Disk) → lengthsRight d ≡ true → recordSound d ≡ true → (refusal c d ≡ 0) ⊎ (4 ≤ refusal c d)
 unfolding refusal
 never-refused c d l s = first-late (questions c d) (questions-late c d l s (mounts d (right d l s)))
+
+-- Nor on a disk that any accepted call or refusal 12 left, whatever calls came since: so not after a mounting or a formatting.
+pub never-after : (b : Call) (d : Disk) (cs : List Call) (c : Call) → (refusal b d ≡ 0) ⊎ (refusal b d ≡ 12)
+    → let e = performAll cs (perform b d .disk) in (refusal c e ≡ 0) ⊎ (4 ≤ refusal c e)
+never-after b d cs c h =
+    let (l, s) = leaves-sound b d h in
+    let (m, t) = stays-sound cs (perform b d .disk) l s in
+    never-refused c (performAll cs (perform b d .disk)) m t
