@@ -250,17 +250,18 @@ module _ (e : LogEntry) (n : NoCommit e) where
         rw (entry-change false e n)
         (read-plain m run r k (changeAt e d) b u (ranged-map (λ s. d) (asChange e) .1 g) (rw (fields-change e d n) at w))
 
-    -- kept for a commit
-    pub read-later : ReadTo (read 0 r (mapEntry (λ s. d) (asEntry true e))) true
+    -- kept for a commit; where it is no write, any location serves
+    pub read-later : (d′ : ℕ) → fieldsChange e d′ ≡ fieldsChange e d
+        → ReadTo (read 0 r (mapEntry (λ s. d) (asEntry true e))) true
         (record {
           tables = m .tables;
           members = memberSet (m .members) run (fieldsOf e .kind) (fieldsOf e .block) (fieldsOf e .list) (fieldsOf e .predecessor);
-          locations = set (m .locations) (run % 16) d;
+          locations = set (m .locations) (run % 16) d′;
         }) (run + 1)
     unfolding mapEntry
-    read-later =
+    read-later d′ q =
         rw (entry-change true e n)
-        (read-member m run r k (fieldsOf e .kind) (fieldsOf e .block) (fieldsOf e .list) (fieldsOf e .predecessor) d (changeAt e d) (fields-change e d n)
+        (read-member m run r k (fieldsOf e .kind) (fieldsOf e .block) (fieldsOf e .list) (fieldsOf e .predecessor) d′ (changeAt e d) (q ∙ fields-change e d n)
         (ranged-map (λ s. d) (asChange e) .1 g))
 
 -- What is fed.
@@ -291,7 +292,7 @@ module _ (m : Lent) (run : ℕ) (r : Reader ℕ) (k : Kept m run r) (d : ℕ) (t
           members = memberSet (m .members) run (fieldsOf e .kind) (fieldsOf e .block) (fieldsOf e .list) (fieldsOf e .predecessor);
           locations = set (m .locations) (run % 16) d;
         })
-    fed-member q = rw q (read-later e n m run r k d (raw-ranged e n t l))
+    fed-member q = rw q (read-later e n m run r k d (raw-ranged e n t l) d refl)
 
     pub fed-plain : (b : Bool) (u : Tables) → t ≡ false → DidSome (fieldsChange e d) (m .tables) b u → FedTo (read 0 r (mapEntry (λ s. d) (asEntry t e))) (fedIf b) (ended m u)
     fed-plain b u q w = rw q (fed-read (read 0 r (mapEntry (λ s. d) (asEntry false e))) b (ended m u) (read-now e n m run r k d (raw-ranged e n t l) b u w))

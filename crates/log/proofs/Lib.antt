@@ -22,3 +22,4 @@ pub mod Stores
 pub mod Feeding
 pub mod Examples
 pub mod Numbers
+pub mod Walking

@@ -13,7 +13,7 @@ use lib.Seq.{getD-drop, drop-drop}
 use borrow.Author.Tests.{ne-eqb, lt-leb, le-leb, leb-true, leb-false}
 use Rattle.lists.specs.Basic.{guard, bind, all, from}
 use Rattle.lists.specs.Change.{Change}
-use Rattle.lists.proofs.Basic.{bind-bind, bind-ext, bind-some, eqb-true, all-from}
+use Rattle.lists.proofs.Basic.{bind-bind, bind-ext, bind-some, guard-some, eqb-true, all-from}
 use Rattle.log.specs.Entry.{Entry, plain, member, commit, hasMember, asEntry, changeOf, entryOf, checked, legal, legalChange, isBlock, isList, isSlot, isCount, sizeOf, decode, carried}
 use Rattle.log.specs.Card.{part, isNext, entryAt}
 use Rattle.log.specs.Parse.{byteAt, decodedAt}
@@ -126,6 +126,29 @@ size-marked : (m : ℕ) → m < 256 → sizeOf (m % 128) ≡ sizeOf m
 unfolding all from
 size-marked m h = eqb-true (sizeOf (m % 128)) (sizeOf m) (all-from (λ k. eqb (sizeOf (k % 128)) (sizeOf k)) (λ k. k) 0 256 refl m (omega arith) (omega arith))
 
+-- What a map says is legal.
+entry-legal : (m x y z : ℕ) (e : Entry ℕ) → entryOf m x y z ≡ some e → legal e ≡ true
+unfolding entryOf checked
+entry-legal m x y z e h = first (eqb m 16) h
+  where
+    tested : (d : Entry ℕ) → guard (legal d) (some d) ≡ some e → legal e ≡ true
+    tested d q = let (l, s) = guard-some (legal d) (some d) e q in ap legal (sym (Option·some-injective _ _ s)) ∙ l
+
+    change : (o : Option (Change ℕ)) (f : Change ℕ → Entry ℕ) → bind o (λ c. guard (legal (f c)) (some (f c))) ≡ some e → legal e ≡ true
+    change o f q = let (c, u, v) = bind-some o (λ c. guard (legal (f c)) (some (f c))) e q in tested (f c) v
+
+    second : (b : Bool) → cond b (bind (changeOf (m - 128) x y z) (λ c. guard (legal (member c)) (some (member c)))) (bind (changeOf m x y z) (λ c. guard (legal (plain c)) (some (plain c)))) ≡ some e
+        → legal e ≡ true
+    second true q = change (changeOf (m - 128) x y z) member q
+    second false q = change (changeOf m x y z) plain q
+
+    first : (b : Bool)
+        → cond b (guard (legal (commit x)) (some (commit x)))
+        (cond (leb 128 m) (bind (changeOf (m - 128) x y z) (λ c. guard (legal (member c)) (some (member c)))) (bind (changeOf m x y z) (λ c. guard (legal (plain c)) (some (plain c))))) ≡ some e
+        → legal e ≡ true
+    first true q = tested (commit x) q
+    first false q = second (leb 128 m) q
+
 -- The entry at the front of a part of the card.
 abbrev saidBy : List ℕ → ℕ → ℕ → ℕ → Option (Entry ℕ)
 saidBy c a e m = entryOf m (byteAt c e (a + 1)) (byteAt c e (a + 2)) (byteAt c e (a + 3))
@@ -152,7 +175,7 @@ module _ (c : List ℕ) (a e : ℕ) (l : e ≤ length c) where
   part-first : getD (part c a e) 0 0 ≡ byteAt c e a
   part-first = part-at 0 ∙ rw (add-zero a)
 
-  part-size : length (part c a e) ≡ e - a
+  pub part-size : length (part c a e) ≡ e - a
   part-size = simp (length-drop, length-take) (omega arith)
 
   module _ (m : ℕ) (q : m ≡ byteAt c e a) (h : m < 256) where
@@ -171,6 +194,9 @@ module _ (c : List ℕ) (a e : ℕ) (l : e ≤ length c) where
     module _ (k n : ℕ) (x : LogEntry) (d : _≡_ {A = Option (Entry ℕ × ℕ)} (some (asEntry false x, n)) (decodedAt c a e (m % 128))) where
       pub size-at : n ≡ sizeOf m
       size-at = decoded-some c a e (m % 128) (asEntry false x) n d .1 ∙ size-marked m h
+
+      pub legal-at : legal (asEntry false x) ≡ true
+      legal-at = entry-legal (m % 128) _ _ _ (asEntry false x) (decoded-some c a e (m % 128) (asEntry false x) n d .0)
 
       pub at-cut : e - a < n → entryAt k (part c a e) ≡ none
       unfolding entryAt

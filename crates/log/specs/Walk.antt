@@ -1,14 +1,16 @@
 -- What the walk of a card promises, step by step: of every reader that the lent tables keep, how the items of the log are met, and the place behind them.
 use mathlib.Core.Path.{_≡_}
+use mathlib.Core.Logic.{_≢_}
 use mathlib.Core.Bool.{Bool, true, false, cond}
 use mathlib.Core.Option.{Option, none, some}
 use mathlib.Core.List.{List, [], _∷_, _++_}
-use Prim.Native.Nat.{ℕ, suc, _+_, _-_, _*_, _≤_}
+use Prim.Native.Nat.{ℕ, suc, _+_, _-_, _*_, _≤_, _<_}
 use lib.Dec.{ltb, eqb}
+use lib.ListN.{length}
 use Rattle.lists.specs.Basic.{guard, bind}
 use Rattle.log.specs.Entry.{Entry, mapEntry, carried, entryLength, asEntry, legal}
 use Rattle.log.specs.Reader.{Reader, read}
-use Rattle.log.specs.Card.{part, usedBy, isNext, Item, good, bad, itemsOf, segmentItems, afterEmpty, sound, fault, walk, walkCard, segmentBytes}
+use Rattle.log.specs.Card.{part, count, usedBy, isNext, Item, good, bad, itemsOf, segmentItems, afterEmpty, sound, fault, walk, walkCard, segmentBytes}
 use Rattle.log.specs.Location.{blank, cardLocation}
 use Rattle.log.specs.Feed.{Lent, Kept, ReadTo}
 use Rattle.log.specs.Store.{opened, behindAll, tail}
@@ -47,34 +49,61 @@ abbrev pub Enters : Lent → ℕ → Bool → LogEntry → ℕ → Bool → Lent
 Enters m run t e d b m′ =
     (r : Reader ℕ) → Kept m run r → legal (asEntry false e) ≡ true → ReadTo (bind (entered t e) (λ x. read blank r (mapEntry (λ s. d) x))) b m′ (runAfter t run)
 
+-- a cursor in segment g of the card
+pub record OnSegment (c : List ℕ) (g : ℕ) (cur : Cursor) : Type 0 where
+  pub holds : segmentBytes * g + segmentBytes ≤ length c
+  pub small : length c ≤ 64 * segmentBytes
+  pub until : cur .at ≤ segmentBytes * g + segmentBytes
+  pub few : cur .slots < 256
+  pub short : cur .run < 1000000
+
+-- segment g of the card, which has an entry
+pub record OnCard (c : List ℕ) (g run : ℕ) : Type 0 where
+  pub holds : segmentBytes * g + segmentBytes ≤ length c
+  pub small : length c ≤ 64 * segmentBytes
+  pub used : count c g ≢ 0
+  pub short : run ≤ 64 * 255
+
 -- the items of segment g from the cursor on, of which n are to come, the next being number i
 abbrev pub itemsFrom : List ℕ → ℕ → Cursor → ℕ → ℕ → List (Item ℕ)
 itemsFrom c g cur n i = itemsOf cardLocation g n i (cur .slots) (part c (cur .at) (segmentBytes * g + segmentBytes))
 
--- one entry of segment g passed
-pub record Went (c : List ℕ) (g : ℕ) (cur : Cursor) (m : Lent) (next : Cursor) (m′ : Lent) : Type 0 where
+-- one entry of segment g passed by reader r
+pub record Went (c : List ℕ) (g : ℕ) (cur : Cursor) (r : Reader ℕ) (next : Cursor) (m : Lent) : Type 0 where
   pub entry : Entry ℕ
   pub items : (n i : ℕ) → itemsFrom c g cur (suc n) i ≡ good g i entry ∷ itemsFrom c g next n (suc i)
   pub at : next .at ≡ cur .at + entryLength entry
-  pub within : next .at ≤ segmentBytes * g + segmentBytes
   pub slots : next .slots ≡ cur .slots + usedBy (carried entry)
-  pub longer : next .run ≤ cur .run + 1
-  pub reads : (r : Reader ℕ) → Kept m (cur .run) r → (q : Reader ℕ) × (read blank r entry ≡ some q) × Kept m′ (next .run) q
+  pub reader : Reader ℕ
+  pub reads : read blank r entry ≡ some reader
+  pub kept : Kept m (next .run) reader
+
+pub record Stepped (c : List ℕ) (g : ℕ) (cur : Cursor) (m : Lent) (next : Cursor) (m′ : Lent) : Type 0 where
+  pub onward : cur .at ≤ next .at
+  pub until : next .at ≤ segmentBytes * g + segmentBytes
+  pub few : next .slots ≤ cur .slots + 1
+  pub short : next .run ≤ cur .run + 1
+  pub went : (r : Reader ℕ) → Kept m (cur .run) r → Went c g cur r next m′
 
 abbrev pub Steps : List ℕ → ℕ → Cursor → Lent → Step → Lent → Type 0
 Steps c g cur m Stuck m′ = (r : Reader ℕ) → Kept m (cur .run) r → (n i : ℕ) (is : List (Item ℕ)) → walk blank r (itemsFrom c g cur (suc n) i ++ is) ≡ fault g i
-Steps c g cur m (Next next) m′ = Went c g cur m next m′
+Steps c g cur m (Next next) m′ = Stepped c g cur m next m′
 
 -- the place in segment g that is entered from a place before
 abbrev pub seat : ℕ → Place → Place
 seat g p = cond (eqb (p .segment) g) p (opened g)
 
--- segment g passed, which has an entry
-pub record Passed (c : List ℕ) (g run : ℕ) (m : Lent) (p : Place) (n : ℕ) (m′ : Lent) : Type 0 where
-  pub longer : n ≤ run + 255
-  pub here : p .segment ≡ g
+-- segment g passed by reader r: the place behind it, and the reader there
+pub record Through (c : List ℕ) (g : ℕ) (r : Reader ℕ) (p : Place) (n : ℕ) (m : Lent) : Type 0 where
   pub place : (p₀ : Place) → seat g p₀ ≡ opened g → (is : List (Item ℕ)) → behindAll p₀ (segmentItems cardLocation c g ++ is) ≡ behindAll p is
-  pub reads : (r : Reader ℕ) → Kept m run r → (q : Reader ℕ) × Kept m′ n q × ((is : List (Item ℕ)) → walk blank r (segmentItems cardLocation c g ++ is) ≡ walk blank q is)
+  pub reader : Reader ℕ
+  pub kept : Kept m n reader
+  pub walked : (is : List (Item ℕ)) → walk blank r (segmentItems cardLocation c g ++ is) ≡ walk blank reader is
+
+pub record Passed (c : List ℕ) (g run : ℕ) (m : Lent) (p : Place) (n : ℕ) (m′ : Lent) : Type 0 where
+  pub here : p .segment ≡ g
+  pub short : n ≤ run + 255
+  pub through : (r : Reader ℕ) → Kept m run r → Through c g r p n m′
 
 abbrev pub Passes : List ℕ → ℕ → ℕ → Lent → Segment → Lent → Type 0
 Passes c g run m (Broken i) m′ = (r : Reader ℕ) → Kept m run r → (is : List (Item ℕ)) → walk blank r (segmentItems cardLocation c g ++ is) ≡ fault g i

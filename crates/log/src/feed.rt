@@ -6,6 +6,7 @@ use super::entry::LogEntry;
 use lists::kind;
 use lists::tables;
 ghost use mathlib.Core.Path.{_≡_};
+ghost use mathlib.Core.Bool.{true};
 ghost use Prim.Native.Nat.{_<_, _%_};
 ghost use lib.ListN.{set};
 ghost use Rattle.lists.specs.Tables.{tables};
@@ -31,7 +32,7 @@ pub enum Fed {
     Refused,
 }
 
-// Member `run` of the run, counted from 0, is kept. It acts at a commit.
+// Member `run` of the run, counted from 0, is kept until a commit; no member is refused before.
 pub fn keep(
     members: &mut [u8; 64],
     locations: &mut [u16; 16],
@@ -41,8 +42,8 @@ pub fn keep(
     list: u8,
     predecessor: u8,
     location: u16,
-)
-    ensures { λ r. ⌜ (now (members .exit) ≡ memberSet (now (members .entry)) run kind block list predecessor) × (now (locations .exit) ≡ set (now (locations .entry)) (run % 16) location) ⌝ }
+) -> bool
+    ensures { λ r. ⌜ (r ≡ true) × (now (members .exit) ≡ memberSet (now (members .entry)) run kind block list predecessor) × (now (locations .exit) ≡ set (now (locations .entry)) (run % 16) location) ⌝ }
 {
     let i = run % KEPT;
     members[4 * i] = kind;
@@ -50,6 +51,7 @@ pub fn keep(
     members[4 * i + 2] = list;
     members[4 * i + 3] = predecessor;
     locations[i] = location;
+    true
 }
 
 // Member `j` of the run acts.

@@ -1,5 +1,37 @@
-// The walk of a card's log, which mounting makes.
+// The walk of a card's log, which mounting makes: entry by entry from segment 0, up to each count, until an empty segment. The lent tables are those of `feed`.
+use super::encode::slots_of;
+use super::entry::LogEntry;
+use super::feed::commit;
+use super::feed::keep;
+use super::layout::COUNT_AT;
+use super::layout::ENTRIES_AT;
+use super::layout::SEGMENT;
+use super::layout::SLOT;
+use super::map;
+use super::parse::Parsed;
+use super::parse::byte_at;
+use super::parse::parse;
 use super::place::Place;
+use super::place::opened;
+use lists::kind;
+use lists::tables;
+use lists::tables::act;
+ghost use mathlib.Core.Path.{_≡_};
+ghost use mathlib.Core.Bool.{true, false};
+ghost use Prim.Native.Nat.{_*_, _≤_, _<_};
+ghost use lib.ListN.{length};
+ghost use Rattle.lists.specs.Tables.{Tables};
+ghost use Rattle.log.specs.Entry.{asEntry, carried};
+ghost use Rattle.log.specs.Card.{isNext, cardLength};
+ghost use Rattle.log.specs.Location.{cardLocation};
+ghost use Rattle.log.specs.Feed.{lent};
+ghost use Rattle.log.specs.Walk.{runAfter, Enters, OnSegment, Steps, OnCard, Passes, FirstUsed, Walks};
+
+// The mark of a member in an entry's map.
+const MARK: u8 = 1 << map::MEMBER;
+
+// How many locations a segment has; the blank is before them all.
+const LOCATIONS: usize = SEGMENT / SLOT;
 
 // The next entry of a segment: where it stands, how many slots are used before it, and how many members stand directly before it.
 pub struct Cursor {
@@ -23,4 +55,299 @@ pub enum Segment {
 pub enum Walked {
     Sound(Place, usize),
     Fault(usize, usize),
+}
+
+// A plain entry acts, or is refused.
+fn plain(
+    next: &mut [u8; 256],
+    prev: &mut [u8; 256],
+    owner: &mut [u8; 256],
+    place: &mut [u16; 256],
+    members: &[u8; 64],
+    locations: &[u16; 16],
+    run: usize,
+    e: LogEntry,
+    location: u16,
+) -> bool
+    ensures { λ r. ⌜ Enters (lent (now (next .entry)) (now (prev .entry)) (now (owner .entry)) (now (place .entry)) (now (members .entry)) (now (locations .entry))) run false e location r (lent (now (next .exit)) (now (prev .exit)) (now (owner .exit)) (now (place .exit)) (now (members .entry)) (now (locations .entry))) ⌝ }
+{
+    match e {
+        LogEntry::Take { list } => act(next, prev, owner, place, kind::TAKE, 0, list, 0, 0),
+        LogEntry::PutFirst { block, list } => {
+            act(next, prev, owner, place, kind::PUT_FIRST, block, list, 0, 0)
+        }
+        LogEntry::PutAfter {
+            block,
+            list,
+            predecessor,
+        } => {
+            let x = predecessor;
+            act(next, prev, owner, place, kind::PUT_AFTER, block, list, x, 0)
+        }
+        LogEntry::Write { block, slot: _ } => {
+            act(next, prev, owner, place, kind::WRITE, block, 0, 0, location)
+        }
+        LogEntry::DeleteBlock { block } => {
+            act(next, prev, owner, place, kind::DELETE_BLOCK, block, 0, 0, 0)
+        }
+        LogEntry::DeleteList { list } => {
+            act(next, prev, owner, place, kind::DELETE_LIST, 0, list, 0, 0)
+        }
+        LogEntry::Commit { count } => {
+            let n = count as usize;
+            commit(next, prev, owner, place, members, locations, run, n)
+        }
+    }
+}
+
+// A member is kept. A take and a commit are no members.
+fn member(
+    members: &mut [u8; 64],
+    locations: &mut [u16; 16],
+    run: usize,
+    e: LogEntry,
+    location: u16,
+) -> bool
+    ensures { λ r. ⌜ ((t : Tables) → Enters (record { tables = t; members = now (members .entry); locations = now (locations .entry) }) run true e location r (record { tables = t; members = now (members .exit); locations = now (locations .exit) })) ⌝ }
+{
+    match e {
+        LogEntry::Take { list: _ } => false,
+        LogEntry::PutFirst { block, list } => {
+            keep(members, locations, run, kind::PUT_FIRST, block, list, 0, 0)
+        }
+        LogEntry::PutAfter {
+            block,
+            list,
+            predecessor,
+        } => {
+            let x = predecessor;
+            keep(members, locations, run, kind::PUT_AFTER, block, list, x, 0)
+        }
+        LogEntry::Write { block, slot: _ } => {
+            keep(members, locations, run, kind::WRITE, block, 0, 0, location)
+        }
+        LogEntry::DeleteBlock { block } => {
+            keep(members, locations, run, kind::DELETE_BLOCK, block, 0, 0, 0)
+        }
+        LogEntry::DeleteList { list } => {
+            keep(members, locations, run, kind::DELETE_LIST, 0, list, 0, 0)
+        }
+        LogEntry::Commit { count: _ } => false,
+    }
+}
+
+// Is the slot that an entry writes from, if it is a write, the next one, `k`?
+fn slot_next(e: LogEntry, k: usize) -> bool
+    ensures { λ r. ⌜ r ≡ isNext k (carried (asEntry false e)) ⌝ }
+{
+    match e {
+        LogEntry::Take { list: _ } => true,
+        LogEntry::PutFirst { block: _, list: _ } => true,
+        LogEntry::PutAfter {
+            block: _,
+            list: _,
+            predecessor: _,
+        } => true,
+        LogEntry::Write { block: _, slot } => slot as usize == k,
+        LogEntry::DeleteBlock { block: _ } => true,
+        LogEntry::DeleteList { list: _ } => true,
+        LogEntry::Commit { count: _ } => true,
+    }
+}
+
+fn run_after(member: bool, run: usize) -> usize
+    requires { ⌜ run < 1000000 ⌝ }
+    ensures { λ r. ⌜ r ≡ runAfter member run ⌝ }
+{
+    if member { run + 1 } else { 0 }
+}
+
+fn location_of(g: usize, k: usize) -> u16
+    requires { ⌜ (g < 64) × (k < 256) ⌝ }
+    ensures { λ r. ⌜ r ≡ cardLocation g k ⌝ }
+{
+    (LOCATIONS * g + 1 + k) as u16
+}
+
+// A parsed entry, marked as a member or not.
+fn enter(
+    next: &mut [u8; 256],
+    prev: &mut [u8; 256],
+    owner: &mut [u8; 256],
+    place: &mut [u16; 256],
+    members: &mut [u8; 64],
+    locations: &mut [u16; 16],
+    run: usize,
+    marked: bool,
+    e: LogEntry,
+    location: u16,
+) -> bool
+    ensures { λ r. ⌜ Enters (lent (now (next .entry)) (now (prev .entry)) (now (owner .entry)) (now (place .entry)) (now (members .entry)) (now (locations .entry))) run marked e location r (lent (now (next .exit)) (now (prev .exit)) (now (owner .exit)) (now (place .exit)) (now (members .exit)) (now (locations .exit))) ⌝ }
+{
+    if marked {
+        member(members, locations, run, e, location)
+    } else {
+        plain(
+            next,
+            prev,
+            owner,
+            place,
+            members,
+            locations,
+            run,
+            e,
+            location,
+        )
+    }
+}
+
+// The entry at the cursor, in segment g.
+fn step_entry(
+    card: &[u8],
+    next: &mut [u8; 256],
+    prev: &mut [u8; 256],
+    owner: &mut [u8; 256],
+    place: &mut [u16; 256],
+    members: &mut [u8; 64],
+    locations: &mut [u16; 16],
+    g: usize,
+    cur: Cursor,
+) -> Step
+    requires { ⌜ OnSegment (now card) g cur ⌝ }
+    ensures { λ r. ⌜ Steps (now (card .entry)) g cur (lent (now (next .entry)) (now (prev .entry)) (now (owner .entry)) (now (place .entry)) (now (members .entry)) (now (locations .entry))) r (lent (now (next .exit)) (now (prev .exit)) (now (owner .exit)) (now (place .exit)) (now (members .exit)) (now (locations .exit))) ⌝ }
+{
+    let at = cur.at;
+    let slots = cur.slots;
+    let run = cur.run;
+    let end = SEGMENT * g + SEGMENT;
+    let map = byte_at(card, at, end);
+    let Parsed::Entry(e, size) = parse(card, at, end, map & (MARK - 1)) else {
+        return Step::Stuck;
+    };
+    if end - at < size {
+        return Step::Stuck;
+    }
+    if !slot_next(e, slots) {
+        return Step::Stuck;
+    }
+    let marked = MARK <= map;
+    let location = location_of(g, slots);
+    if !enter(
+        next,
+        prev,
+        owner,
+        place,
+        members,
+        locations,
+        run,
+        marked,
+        e,
+        location,
+    ) {
+        return Step::Stuck;
+    }
+    Step::Next(Cursor {
+        at: at + size,
+        slots: slots + slots_of(e),
+        run: run_after(marked, run),
+    })
+}
+
+// The entries of segment g, which has one.
+fn walk_segment(
+    card: &[u8],
+    next: &mut [u8; 256],
+    prev: &mut [u8; 256],
+    owner: &mut [u8; 256],
+    place: &mut [u16; 256],
+    members: &mut [u8; 64],
+    locations: &mut [u16; 16],
+    g: usize,
+    run: usize,
+) -> Segment
+    requires { ⌜ OnCard (now card) g run ⌝ }
+    ensures { λ r. ⌜ Passes (now (card .entry)) g run (lent (now (next .entry)) (now (prev .entry)) (now (owner .entry)) (now (place .entry)) (now (members .entry)) (now (locations .entry))) r (lent (now (next .exit)) (now (prev .exit)) (now (owner .exit)) (now (place .exit)) (now (members .exit)) (now (locations .exit))) ⌝ }
+{
+    let start = SEGMENT * g + ENTRIES_AT;
+    let n = card[SEGMENT * g + COUNT_AT] as usize;
+    let mut cur = Cursor {
+        at: start,
+        slots: 0,
+        run,
+    };
+    let mut i = 0;
+    while i < n {
+        match step_entry(card, next, prev, owner, place, members, locations, g, cur) {
+            Step::Next(after) => {
+                cur = after;
+            }
+            Step::Stuck => {
+                return Segment::Broken(i);
+            }
+        }
+        i += 1;
+    }
+    let behind = Place {
+        segment: g,
+        entries: n,
+        bytes: cur.at - start,
+        slots: cur.slots,
+    };
+    Segment::Done(behind, cur.run)
+}
+
+// The first used segment from g up to n, or n.
+fn first_used(card: &[u8], g: usize, n: usize) -> usize
+    requires { ⌜ (g ≤ n) × (4096 * n ≤ length (now card)) × (n ≤ 64) ⌝ }
+    ensures { λ r. ⌜ FirstUsed (now (card .entry)) g n r ⌝ }
+{
+    let mut h = g;
+    while h < n {
+        if card[SEGMENT * h + COUNT_AT] != 0 {
+            return h;
+        }
+        h += 1;
+    }
+    n
+}
+
+pub fn walk(
+    card: &[u8],
+    next: &mut [u8; 256],
+    prev: &mut [u8; 256],
+    owner: &mut [u8; 256],
+    place: &mut [u16; 256],
+    members: &mut [u8; 64],
+    locations: &mut [u16; 16],
+) -> Walked
+    requires { ⌜ cardLength (now card) ≡ true ⌝ }
+    ensures { λ r. ⌜ Walks (now (card .entry)) r (lent (now (next .exit)) (now (prev .exit)) (now (owner .exit)) (now (place .exit)) (now (members .exit)) (now (locations .exit))) ⌝ }
+{
+    tables::clear(next, prev, owner, place);
+    *members = [0u8; 64];
+    *locations = [0u16; 16];
+    let n = card.len() / SEGMENT;
+    let mut behind = opened(0);
+    let mut run = 0;
+    let mut g = 0;
+    while g < n {
+        if card[SEGMENT * g + COUNT_AT] == 0 {
+            let used = first_used(card, g + 1, n);
+            if used < n {
+                return Walked::Fault(used, 0);
+            }
+            return Walked::Sound(behind, run);
+        }
+        match walk_segment(card, next, prev, owner, place, members, locations, g, run) {
+            Segment::Done(p, m) => {
+                behind = p;
+                run = m;
+            }
+            Segment::Broken(i) => {
+                return Walked::Fault(g, i);
+            }
+        }
+        g += 1;
+    }
+    Walked::Sound(behind, run)
 }

@@ -40,7 +40,7 @@ returns-2 c =
     λ r k l.
     let s = c .before .before .before .before .before .before .before .args in
     let q = c .before .before .before .before .before .before .fields-of .ensures in
-    rw (c .keep .ensures .0, c .keep .ensures .1, q)
+    rw (c .keep .ensures .1, c .keep .ensures .2, q)
     (fed-member _ (s .run) r k (s .location) (s .member) (s .e) l (λ z. c .before .before .before .before .if1 .left (ap (λ (f : Fields). f .kind) q ∙ z)) (c .before .before .before .if2 .taken))
 
 act-requires : tie.Need-act-requires
