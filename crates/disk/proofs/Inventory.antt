@@ -25,7 +25,8 @@ use Rattle.disk.specs.Disk.{Disk, queued, journalOf, stateOf, persistent
 use Rattle.disk.specs.Sound.{isOpenUnit, journalSound}
 use Rattle.disk.specs.Call.{inventory}
 use Rattle.disk.specs.Questions.{streamOpen, viewOpen, questions, refusal}
-use Rattle.disk.specs.Perform.{listsOf, accepted, perform}
+use Rattle.lists.specs.Lookup.{listNums}
+use Rattle.disk.specs.Perform.{accepted, perform}
 use Rattle.disk.specs.Inventory.{occurs, Inventory}
 use Rattle.disk.proofs.Questions.{yes-all, unit-range}
 use Rattle.disk.proofs.Clauses.{Right, right, committed-is}
@@ -91,8 +92,8 @@ unfolding occurs
 rows-occur l [] = refl
 rows-occur l (r ∷ rs) = ap (λ (n : ℕ). one (eqb (r .num) l) + n) (rows-occur l rs)
 
-listed-meets : (s : State Content) (x : List ℕ) → Listed s → length x ≡ 16 → Inventory s (length (listsOf s)) x (listsOf s ++ drop (length (listsOf s)) x)
-unfolding listsOf
+listed-meets : (s : State Content) (x : List ℕ) → Listed s → length x ≡ 16 → Inventory s (length (listNums (s .lists))) x (listNums (s .lists) ++ drop (length (listNums (s .lists))) x)
+unfolding listNums
 listed-meets s x k e = record {
   many = n;
   once = λ l. ap (occurs l) (take-at ls (drop (length ls) x) (length ls) refl) ∙ rows-occur l (s .lists) ∙ list-once (s .lists) (k .distinct) l;

@@ -7,8 +7,7 @@ use lib.Dec.{eqb}
 use lib.ListN.{length, drop, take, set}
 use Rattle.lists.specs.Basic.{orElse}
 use Rattle.lists.specs.Change.{Change, takeList, putFirst, putAfter, write, delBlock, delList, carriedBy}
-use Rattle.lists.specs.State.{Row, State}
-use Rattle.lists.specs.Lookup.{contentOf, nextAfter}
+use Rattle.lists.specs.Lookup.{contentOf, nextAfter, listNums}
 use Rattle.log.specs.declared.entry.LogEntry.the-variants.{Commit}
 use Rattle.log.specs.Entry.{Entry, plain, member, commit, carried, logChange}
 use Rattle.log.specs.Card.{Content, zeros, slotBytes, segmentsIn, Outcome, sound, fault, mounted}
@@ -106,10 +105,6 @@ unitEntries cs = map member cs ++ commit (length cs) ∷ []
 unfoldable pub putAt : ℕ → ℕ → ℕ → Change Content
 putAt b l p = elim p [ zero ↦ putFirst b l | suc q ↦ putAfter b l (suc q) ]
 
--- the lists taken in a state, in the order of their taking: the inventory's order, which its promise (Inventory) leaves open
-unfoldable pub listsOf : State Content → List ℕ
-listsOf s = map (λ (r : Row Content). r .num) (s .lists)
-
 -- the flow that the disk stands in, and the disk that a flow leaves
 unfoldable pub flowOf : Disk → Flow
 flowOf d = record { card = d .card; place = tail (d .card); queue = queued d; done = d .rec .done }
@@ -156,7 +151,8 @@ accepted (begin u) d = reply (opening u d) 0 0 []
 accepted (end u) d = reply (closing u (enqueueAll (unitEntries (journalOf d u)) d)) 0 0 []
 accepted (flush a) d = let f = flushed a d in reply (afterFlush d (f .flow)) (f .stores) (endingNumber (f .ending)) []
 accepted (blockAfter v l p) d = reply d (nextAfter (view d v .lists) l p) 0 []
-accepted (inventory v x) d = let ls = listsOf (view d v) in reply d (length ls) 0 (ls ++ drop (length ls) x)
+-- in the order of their taking, which the inventory's promise (Inventory) leaves open
+accepted (inventory v x) d = let ls = listNums (view d v .lists) in reply d (length ls) 0 (ls ++ drop (length ls) x)
 
 -- "Beyond refusal 12's closing, a refusal changes nothing."
 unfoldable pub refused : Call → ℕ → Disk → Disk
