@@ -1,0 +1,102 @@
+//! Cards with full segments.
+
+use second::limits::{ENTRY_BYTES, SEGMENT_BYTES, SLOTS};
+use second::log::{count_at, entries_at};
+
+/// What the segments of a card are full of.
+#[derive(Clone, Copy, PartialEq, Eq)]
+pub enum Kind {
+    Lists,
+    Blocks,
+    Chains,
+    Writes,
+    Units,
+}
+
+impl Kind {
+    pub const ALL: [Kind; 5] = [Kind::Lists, Kind::Blocks, Kind::Chains, Kind::Writes, Kind::Units];
+
+    pub fn name(self) -> &'static str {
+        match self {
+            Kind::Lists => "lists",
+            Kind::Blocks => "blocks",
+            Kind::Chains => "chains",
+            Kind::Writes => "writes",
+            Kind::Units => "units",
+        }
+    }
+
+    /// Entries that leave the state as they found it: list 1 with block 1. The slot of a write is filled in later.
+    fn round(self, number: usize) -> Vec<Vec<u8>> {
+        let list = 2 + (number % 15) as u8;
+        let block = 2 + (number % 60) as u8;
+        match self {
+            Kind::Lists => vec![vec![TAKE, list], vec![DELETE_LIST, list]],
+            Kind::Blocks => vec![vec![PUT_FIRST, block, 1], vec![DELETE_BLOCK, block]],
+            Kind::Chains => vec![
+                vec![TAKE, list],
+                vec![PUT_FIRST, block, list],
+                vec![PUT_AFTER, block + 1, list, block],
+                vec![PUT_AFTER, block + 2, list, block],
+                vec![DELETE_LIST, list],
+            ],
+            Kind::Writes => vec![vec![WRITE, 1, 0]],
+            Kind::Units => vec![
+                vec![MEMBER | PUT_FIRST, block, 1],
+                vec![MEMBER | DELETE_BLOCK, block],
+                vec![COMMIT, 2],
+            ],
+        }
+    }
+}
+
+const TAKE: u8 = 2;
+const PUT_FIRST: u8 = 3;
+const PUT_AFTER: u8 = 7;
+const WRITE: u8 = 9;
+const COMMIT: u8 = 16;
+const DELETE_BLOCK: u8 = 33;
+const DELETE_LIST: u8 = 34;
+const MEMBER: u8 = 128;
+
+/// A card, and what its summaries hold.
+#[derive(Clone)]
+pub struct Card {
+    pub bytes: Vec<u8>,
+    pub entries: usize,
+    /// Where the used bytes of each summary end.
+    pub ends: Vec<usize>,
+}
+
+/// A card whose segments are all full: of entry bytes, or of slots if it is one of writes.
+pub fn full(kind: Kind, segments: usize) -> Card {
+    let mut card = Card {
+        bytes: vec![0; segments * SEGMENT_BYTES],
+        entries: 0,
+        ends: Vec::new(),
+    };
+    let opening = vec![vec![TAKE, 1], vec![PUT_FIRST, 1, 1]];
+    let rounds = (0..).flat_map(|number| kind.round(number));
+    let mut coming = opening.into_iter().chain(rounds).peekable();
+    for segment in 0..segments {
+        let mut slots = 0;
+        let mut at = entries_at(segment);
+        let end = at + ENTRY_BYTES;
+        while let Some(entry) = coming.next_if(|entry| fits(entry, at, end, slots)) {
+            card.bytes[at..at + entry.len()].copy_from_slice(&entry);
+            at += entry.len();
+            if entry[0] == WRITE {
+                card.bytes[at - 1] = slots;
+                slots += 1;
+            }
+            card.bytes[count_at(segment)] += 1;
+            card.entries += 1;
+        }
+        card.ends.push(at);
+    }
+    card
+}
+
+fn fits(entry: &[u8], at: usize, end: usize, slots: u8) -> bool {
+    at + entry.len() <= end && (entry[0] != WRITE || slots < SLOTS)
+}

@@ -1,0 +1,157 @@
+//! Times three ways over the summaries of full cards: the proved walk, the walk of the second implementation, and a
+//! plain sum of the bytes that both read.
+//!
+//! `bench` prints the times. `bench --once WAY KIND SEGMENTS` goes one way once, for a tool that counts its
+//! instructions, and prints the number of entries.
+
+mod cards;
+
+use cards::{full, Card, Kind};
+use second::log::{count_at, segments, Log};
+use std::hint::black_box;
+use std::time::Instant;
+
+extern "C" {
+    // `crates/bench`; a slice is passed as its pointer and its length.
+    fn bench_walk(card: *const u8, length: usize) -> u64;
+}
+
+const SIZES: [usize; 3] = [1, 16, 64];
+const ROUNDS: usize = 400;
+/// A timed batch walks about as many entries as stand on the largest card.
+const BATCH: usize = 64;
+
+#[derive(Clone, Copy, PartialEq, Eq)]
+enum Way {
+    Proved,
+    Second,
+    Sum,
+}
+
+impl Way {
+    const ALL: [Way; 3] = [Way::Proved, Way::Second, Way::Sum];
+
+    fn name(self) -> &'static str {
+        match self {
+            Way::Proved => "proved",
+            Way::Second => "second",
+            Way::Sum => "sum",
+        }
+    }
+
+    #[inline(always)]
+    fn go(self, card: &Card) -> u64 {
+        match self {
+            // Sound: the pointer and the length are those of a slice that is lent for the call.
+            Way::Proved => unsafe { bench_walk(card.bytes.as_ptr(), card.bytes.len()) },
+            Way::Second => second_walk(&card.bytes),
+            Way::Sum => byte_sum(card),
+        }
+    }
+
+    /// The best time of a batch, in ns an entry.
+    fn batch(self, card: &Card, times: usize) -> f64 {
+        let start = Instant::now();
+        for _ in 0..times {
+            black_box(self.go(black_box(card)));
+        }
+        start.elapsed().as_nanos() as f64 / (times * card.entries) as f64
+    }
+}
+
+/// The answer of `bench_walk`, by the second implementation.
+#[no_mangle]
+#[inline(never)]
+extern "Rust" fn second_walk(card: &[u8]) -> u64 {
+    if segments(card).is_none() {
+        return 1;
+    }
+    match Log::read(card) {
+        Ok(log) => {
+            black_box(&log);
+            0
+        }
+        Err(_) => 2,
+    }
+}
+
+/// The sum of the count bytes and of all bytes of entries.
+#[no_mangle]
+#[inline(never)]
+extern "Rust" fn byte_sum(card: &Card) -> u64 {
+    let summaries = card.ends.iter().enumerate();
+    summaries
+        .map(|(segment, &end)| {
+            card.bytes[count_at(segment)..end]
+                .iter()
+                .map(|&byte| u64::from(byte))
+                .sum::<u64>()
+        })
+        .sum()
+}
+
+/// Both walks must accept the card, refuse it with a byte more, and find a fault where the last entry is spoilt.
+fn check(kind: Kind, card: &Card) {
+    let mut other = card.clone();
+    for way in [Way::Proved, Way::Second] {
+        assert_eq!(way.go(card), 0, "{}, {}", way.name(), kind.name());
+    }
+    other.bytes.push(0);
+    for way in [Way::Proved, Way::Second] {
+        assert_eq!(way.go(&other), 1, "{}, {}", way.name(), kind.name());
+    }
+    other.bytes.pop();
+    if let Some(&end) = card.ends.last() {
+        other.bytes[end - 1] = 255;
+    }
+    for way in [Way::Proved, Way::Second] {
+        assert_eq!(way.go(&other), 2, "{}, {}", way.name(), kind.name());
+    }
+}
+
+fn times() {
+    println!("| full of | segments | entries | proved, ns an entry | second | sum | proved / second | proved / sum |");
+    println!("|---|---|---|---|---|---|---|---|");
+    for kind in Kind::ALL {
+        for size in SIZES {
+            let card = full(kind, size);
+            check(kind, &card);
+            let mut best = [f64::INFINITY; 3];
+            for _ in 0..ROUNDS {
+                for (way, best) in Way::ALL.into_iter().zip(&mut best) {
+                    *best = best.min(way.batch(&card, BATCH / size));
+                }
+            }
+            let [proved, second, sum] = best;
+            println!(
+                "| {} | {size} | {} | {proved:.2} | {second:.2} | {sum:.3} | {:.2} | {:.0} |",
+                kind.name(),
+                card.entries,
+                proved / second,
+                proved / sum
+            );
+        }
+    }
+}
+
+fn once(way: &str, kind: &str, size: &str) -> Option<()> {
+    let way = Way::ALL.into_iter().find(|known| known.name() == way)?;
+    let kind = Kind::ALL.into_iter().find(|known| known.name() == kind)?;
+    let card = full(kind, size.parse().ok()?);
+    black_box(way.go(black_box(&card)));
+    println!("{}", card.entries);
+    Some(())
+}
+
+fn main() {
+    let words: Vec<String> = std::env::args().skip(1).collect();
+    let words: Vec<&str> = words.iter().map(String::as_str).collect();
+    match words[..] {
+        [] => times(),
+        ["--once", way, kind, size] if once(way, kind, size).is_some() => (),
+        _ => {
+            eprintln!("bench [--once proved|second|sum lists|blocks|chains|writes|units SEGMENTS]");
+            std::process::exit(2);
+        }
+    }
+}
