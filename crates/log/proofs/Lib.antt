@@ -23,3 +23,4 @@ pub mod Feeding
 pub mod Examples
 pub mod Numbers
 pub mod Walking
+pub mod Locations

@@ -8,3 +8,4 @@ pub mod Within
 pub mod Location
 pub mod Feed
 pub mod Walk
+pub mod Mount

@@ -7,6 +7,7 @@ pub mod format;
 pub mod layout;
 pub mod legal;
 pub mod map;
+pub mod mount;
 pub mod parse;
 pub mod place;
 pub mod store;

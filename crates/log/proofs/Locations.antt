@@ -1,0 +1,97 @@
+-- What the locations name, and that the walk at locations is the walk with the contents that stand there.
+use mathlib.Core.Path.{_≡_, refl, sym, ap, _∙_}
+use mathlib.Core.Bool.{Bool, true, _&&_}
+use mathlib.Core.Option.{Option, none, some, Option·some-injective}
+use mathlib.Core.List.{List, [], _∷_, _++_}
+use Prim.Native.Nat.{ℕ, zero, suc, _+_, _-_, _*_, _≤_, _<_}
+use native.Mathlib.Omega.{arith}
+use borrow.Author.Tests.{lt-ltb, le-ltb, leb-true}
+use Rattle.lists.specs.Basic.{guard, bind}
+use Rattle.lists.specs.Change.{Change, takeList, putFirst, putAfter, write, delBlock, delList, mapChange}
+use Rattle.lists.proofs.Basic.{and-true, bind-some, guard-some}
+use Rattle.log.specs.Entry.{Entry, plain, member, commit, mapEntry, carried, isBlock, isSlot, legalChange, hasMember, legal, decode}
+use Rattle.log.specs.Card.{Content, zeros, slot, cardSlot, cardLength, segmentsIn, count, segmentEntries, segmentItems, isNext, usedBy, entryAt, Item, good, bad, itemsOf, afterEmpty, items, sound, fault, walkCard, mounted}
+use Rattle.log.specs.Reader.{Reader}
+use Rattle.log.specs.Location.{cardLocation, queueLocation, journalLocation, contentAt}
+use Rattle.log.proofs.Decode.{decode-complete}
+use Rattle.log.proofs.Naturality.{mapReader, mapOutcome, walkCard-map}
+use Rattle.log.proofs.Walking.{card-small}
+
+module _ (c q j : List ℕ) where
+  pub content-card : (g k : ℕ) → g < 64 → k < 16 → contentAt c q j (cardLocation g k) ≡ cardSlot c g k
+  unfolding contentAt cardSlot
+  content-card g k h l = let e : 16 * g + 1 + k ≡ suc (16 * g + k) = omega arith in rw (e, lt-ltb (16 * g + k) 1024 (omega arith))
+
+  pub content-queue : (p : ℕ) → p < 32 → contentAt c q j (queueLocation p) ≡ slot q p
+  unfolding contentAt
+  content-queue p h =
+      let e : 1025 + p ≡ suc (1024 + p) = omega arith in
+      let d : 1024 + p - 1024 ≡ p = omega arith in
+      rw (e, le-ltb (1024 + p) 1024 (omega arith), lt-ltb (1024 + p) 1056 (omega arith), d)
+
+  pub content-journal : (p : ℕ) → contentAt c q j (journalLocation p) ≡ slot j p
+  unfolding contentAt
+  content-journal p =
+      let e : 1057 + p ≡ suc (1056 + p) = omega arith in
+      let d : 1056 + p - 1056 ≡ p = omega arith in
+      rw (e, le-ltb (1056 + p) 1024 (omega arith), le-ltb (1056 + p) 1056 (omega arith), d)
+
+-- Two ways to say what stands in the slots, that agree on a card's slots, give the same items.
+module _ {D : Type 0} (f h : ℕ → D) (same : (k : ℕ) → k ≤ 13 → f k ≡ h k) where
+  change-same : (x : Change ℕ) → legalChange x ≡ true → mapChange f x ≡ mapChange h x
+  unfolding mapChange legalChange
+  change-same (takeList l) p = refl
+  change-same (putFirst b l) p = refl
+  change-same (putAfter b l x) p = refl
+  change-same (write b s) p = ap (write b) (same s (leb-true s 13 (and-true (isBlock b) (isSlot s) p .1)))
+  change-same (delBlock b) p = refl
+  change-same (delList l) p = refl
+
+  entry-same : (e : Entry ℕ) → legal e ≡ true → mapEntry f e ≡ mapEntry h e
+  unfolding mapEntry legal
+  entry-same (plain x) p = ap plain (change-same x p)
+  entry-same (member x) p = ap member (change-same x (and-true (hasMember x) (legalChange x) p .1))
+  entry-same (commit n) p = refl
+
+entry-legal : (k : ℕ) (bs : List ℕ) (z : Entry ℕ × List ℕ) → entryAt k bs ≡ some z → legal (z .0) ≡ true
+unfolding entryAt
+entry-legal k bs z h =
+    let (y, p, q) = bind-some (decode bs) (λ x. guard (isNext k (carried (x .0))) (some x)) z h in
+    let w : y ≡ z = Option·some-injective _ _ (guard-some (isNext k (carried (y .0))) (some y) z q .1) in
+    decode-complete bs z (p ∙ ap some w) .1
+
+module _ {D : Type 0} (f h : ℕ → ℕ → D) (same : (g k : ℕ) → g < 64 → k ≤ 13 → f g k ≡ h g k) where
+  itemsOf-same : (g n i k : ℕ) (bs : List ℕ) → g < 64 → itemsOf f g n i k bs ≡ itemsOf h g n i k bs
+  unfolding itemsOf
+  itemsOf-same g zero i k bs l = refl
+  itemsOf-same g (suc n) i k bs l = go (λ k′ bs′. itemsOf-same g n (suc i) k′ bs′ l) (entryAt k bs) refl
+    where
+      go : ((k′ : ℕ) (bs′ : List ℕ) → itemsOf f g n (suc i) k′ bs′ ≡ itemsOf h g n (suc i) k′ bs′) → (o : Option (Entry ℕ × List ℕ)) → entryAt k bs ≡ o
+          → _≡_ {A = List (Item D)} (elim o [ none ↦ bad g i ∷ [] | some x ↦ good g i (mapEntry (f g) (x .0)) ∷ itemsOf f g n (suc i) (k + usedBy (carried (x .0))) (x .1) ])
+          (elim o [ none ↦ bad g i ∷ [] | some x ↦ good g i (mapEntry (h g) (x .0)) ∷ itemsOf h g n (suc i) (k + usedBy (carried (x .0))) (x .1) ])
+      go ih none e = refl
+      go ih (some x) e = rw (entry-same (f g) (h g) (λ j m. same g j l m) (x .0) (entry-legal k bs x e), ih (k + usedBy (carried (x .0))) (x .1))
+
+  items-same : (c : List ℕ) (m g : ℕ) → g + m ≤ 64 → items f c m g ≡ items h c m g
+  unfolding items segmentItems
+  items-same c zero g l = refl
+  items-same c (suc m) g l = go (items-same c m (suc g) (omega arith)) (count c g)
+    where
+      go : items f c m (suc g) ≡ items h c m (suc g) → (x : ℕ)
+          → _≡_ {A = List (Item D)} (elim x [ zero ↦ afterEmpty c m (suc g) | suc n ↦ itemsOf f g (count c g) 0 0 (segmentEntries c g) ++ items f c m (suc g) ])
+          (elim x [ zero ↦ afterEmpty c m (suc g) | suc n ↦ itemsOf h g (count c g) 0 0 (segmentEntries c g) ++ items h c m (suc g) ])
+      go ih zero = refl
+      go ih (suc n) = rw (itemsOf-same g (count c g) 0 0 (segmentEntries c g) (omega arith), ih)
+
+-- the card's log, walked at locations, with the contents that those name
+pub mounted-at : (c q j : List ℕ) → cardLength c ≡ true → mounted c ≡ mapOutcome (contentAt c q j) (walkCard cardLocation 0 c)
+unfolding mounted contentAt walkCard
+mounted-at c q j l =
+    rw (items-same (cardSlot c) (λ g k. contentAt c q j (cardLocation g k)) (λ g k a b. sym (content-card c q j g k a (omega arith))) c (segmentsIn c) 0 (omega (arith, card-small c l .1)))
+    (walkCard-map (contentAt c q j) cardLocation 0 c)
+
+pub sound-at : (c q j : List ℕ) (r : Reader ℕ) → cardLength c ≡ true → walkCard cardLocation 0 c ≡ sound r → mounted c ≡ sound (mapReader (contentAt c q j) r)
+sound-at c q j r l h = mounted-at c q j l ∙ rw h
+
+pub fault-at : (c : List ℕ) (g i : ℕ) → cardLength c ≡ true → walkCard cardLocation 0 c ≡ fault g i → mounted c ≡ fault g i
+fault-at c g i l h = mounted-at c [] [] l ∙ rw h

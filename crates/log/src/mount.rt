@@ -1,0 +1,52 @@
+// Mounting: questions 1 and 2 of a card.
+use super::layout::SEGMENT;
+use super::legal::both;
+use super::place::Place;
+use super::walk::Walked;
+use super::walk::walk;
+ghost use mathlib.Core.Path.{_≡_};
+ghost use Rattle.log.specs.Card.{cardLength};
+ghost use Rattle.log.specs.Mount.{Mounts};
+
+// The most segments of a card.
+pub const SEGMENTS: usize = 64;
+
+// What mounting finds: a length that is no card's; the segment and the entry of the first fault; or the place behind an acceptable log.
+pub enum Mounted {
+    WrongLength,
+    Fault(usize, usize),
+    Sound(Place),
+}
+
+pub fn is_card(card: &[u8]) -> bool
+    ensures { λ r. ⌜ r ≡ cardLength (now (card .entry)) ⌝ }
+{
+    let n = card.len() / SEGMENT;
+    both(both(card.len() % SEGMENT == 0, 1 <= n), n <= SEGMENTS)
+}
+
+pub fn mount(card: &[u8]) -> Mounted
+    ensures { λ r. ⌜ Mounts (now (card .entry)) r ⌝ }
+{
+    if !is_card(card) {
+        return Mounted::WrongLength;
+    }
+    let mut next = [0u8; 256];
+    let mut prev = [0u8; 256];
+    let mut owner = [0u8; 256];
+    let mut place = [0u16; 256];
+    let mut members = [0u8; 64];
+    let mut locations = [0u16; 16];
+    match walk(
+        card,
+        &mut next,
+        &mut prev,
+        &mut owner,
+        &mut place,
+        &mut members,
+        &mut locations,
+    ) {
+        Walked::Sound(behind, _) => Mounted::Sound(behind),
+        Walked::Fault(g, i) => Mounted::Fault(g, i),
+    }
+}
