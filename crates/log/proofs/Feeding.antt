@@ -1,5 +1,5 @@
 -- Members that the tables recall, and how plain entries, members and commits lead from one reader kept to the next.
-use mathlib.Core.Path.{_≡_, refl, sym, ap, _∙_, subst}
+use mathlib.Core.Path.{_≡_, refl, sym, _∙_, subst}
 use mathlib.Core.Logic.{_≢_}
 use mathlib.Core.Bool.{Bool, true, false, _&&_, cond, true≢false, false≢true}
 use mathlib.Core.Option.{Option, none, some}
@@ -18,13 +18,12 @@ use Rattle.lists.specs.State.{State, apply, applyAll}
 use Rattle.lists.specs.Tables.{Tables, Shows, Ranged, Represents, Did, DidSome, ofKind}
 use Rattle.lists.proofs.Basic.{and-true}
 use Rattle.lists.proofs.Represents.{did-apply}
-use Rattle.log.specs.Entry.{Entry, plain, member, commit, mapEntry, isBlock, isList, isSlot, legalChange, legal, hasMember, raw, asChange, asEntry}
+use Rattle.log.specs.Entry.{plain, member, commit, mapEntry, isBlock, isList, isSlot, legalChange, legal, hasMember, raw, asChange, asEntry}
 use Rattle.log.specs.Reader.{Reader, reader, settled, read, lastOf}
-use Rattle.log.specs.Feed.{Lent, recalled, memberSet, Recalled, Recalls, Kept, ReadTo, fieldsOf, FedTo, fedIf, Commits}
+use Rattle.log.specs.Feed.{Lent, memberSet, Recalled, Recalls, Kept, ReadTo, fieldsOf, FedTo, fedIf, RunUpTo, Commits}
 use Rattle.log.specs.declared.entry.LogEntry.{LogEntry}
 use Rattle.log.specs.declared.entry.LogEntry.the-variants.{Take, PutFirst, PutAfter, Write, DeleteBlock, DeleteList, Commit}
-use Rattle.log.specs.declared.feed.Fed.{Fed}
-use Rattle.log.specs.declared.feed.Fed.the-variants.{Run, Refused}
+use Rattle.log.specs.declared.feed.Fed.the-variants.{Run}
 
 -- Four bytes stored in a row.
 module _ (bs : List ℕ) (i k b l p : ℕ) (h : i + 3 < length bs) where
@@ -265,6 +264,10 @@ module _ (e : LogEntry) (n : NoCommit e) where
         (ranged-map (λ s. d) (asChange e) .1 g))
 
 -- What is fed.
+pub run-settled : (n : ℕ) (b : Bool) → RunUpTo n (fedIf b)
+run-settled n true = omega arith
+run-settled n false = tt
+
 fed-read : (o : Option (Reader ℕ)) (b : Bool) (m : Lent) → ReadTo o b m 0 → FedTo o (fedIf b) m
 fed-read o true m h = h
 fed-read o false m h = h

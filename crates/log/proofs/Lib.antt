@@ -22,5 +22,6 @@ pub mod Stores
 pub mod Feeding
 pub mod Examples
 pub mod Numbers
+pub mod Entering
 pub mod Walking
 pub mod Locations

@@ -1,16 +1,16 @@
 -- What the locations name, and that the walk at locations is the walk with the contents that stand there.
 use mathlib.Core.Path.{_≡_, refl, sym, ap, _∙_}
-use mathlib.Core.Bool.{Bool, true, _&&_}
+use mathlib.Core.Bool.{true}
 use mathlib.Core.Option.{Option, none, some, Option·some-injective}
 use mathlib.Core.List.{List, [], _∷_, _++_}
 use Prim.Native.Nat.{ℕ, zero, suc, _+_, _-_, _*_, _≤_, _<_}
 use native.Mathlib.Omega.{arith}
 use borrow.Author.Tests.{lt-ltb, le-ltb, leb-true}
-use Rattle.lists.specs.Basic.{guard, bind}
+use Rattle.lists.specs.Basic.{guard}
 use Rattle.lists.specs.Change.{Change, takeList, putFirst, putAfter, write, delBlock, delList, mapChange}
 use Rattle.lists.proofs.Basic.{and-true, bind-some, guard-some}
 use Rattle.log.specs.Entry.{Entry, plain, member, commit, mapEntry, carried, isBlock, isSlot, legalChange, hasMember, legal, decode}
-use Rattle.log.specs.Card.{Content, zeros, slot, cardSlot, cardLength, segmentsIn, count, segmentEntries, segmentItems, isNext, usedBy, entryAt, Item, good, bad, itemsOf, afterEmpty, items, sound, fault, walkCard, mounted}
+use Rattle.log.specs.Card.{slot, cardSlot, cardLength, segmentsIn, count, segmentEntries, segmentItems, isNext, usedBy, entryAt, Item, good, bad, itemsOf, afterEmpty, items, sound, fault, walkCard, mounted}
 use Rattle.log.specs.Reader.{Reader}
 use Rattle.log.specs.Location.{cardLocation, queueLocation, journalLocation, contentAt}
 use Rattle.log.proofs.Decode.{decode-complete}

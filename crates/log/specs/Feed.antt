@@ -83,6 +83,11 @@ abbrev pub fedIf : Bool → Fed
 fedIf true = Run 0
 fedIf false = Refused
 
+abbrev pub RunUpTo : ℕ → Fed → Type 0
+RunUpTo n Refused = Unit {0}
+RunUpTo n (Run k) = k ≤ n
+
 -- a legal entry, a write's data standing at location d
-abbrev pub Feeds : Lent → ℕ → Bool → LogEntry → ℕ → Fed → Lent → Type 0
-Feeds m run t e d f m′ = (r : Reader ℕ) → Kept m run r → legal (raw 0 (asEntry t e)) ≡ true → FedTo (read blank r (mapEntry (λ s. d) (asEntry t e))) f m′
+pub record Feeds (m : Lent) (run : ℕ) (t : Bool) (e : LogEntry) (d : ℕ) (f : Fed) (m′ : Lent) : Type 0 where
+  pub short : RunUpTo (run + 1) f
+  pub reads : (r : Reader ℕ) → Kept m run r → legal (raw 0 (asEntry t e)) ≡ true → FedTo (read blank r (mapEntry (λ s. d) (asEntry t e))) f m′

@@ -79,11 +79,8 @@ fn plain(
         LogEntry::PutAfter {
             block,
             list,
-            predecessor,
-        } => {
-            let x = predecessor;
-            act(next, prev, owner, place, kind::PUT_AFTER, block, list, x, 0)
-        }
+            predecessor: x,
+        } => { act(next, prev, owner, place, kind::PUT_AFTER, block, list, x, 0) }
         LogEntry::Write { block, slot: _ } => {
             act(next, prev, owner, place, kind::WRITE, block, 0, 0, location)
         }
@@ -118,11 +115,8 @@ fn member(
         LogEntry::PutAfter {
             block,
             list,
-            predecessor,
-        } => {
-            let x = predecessor;
-            keep(members, locations, run, kind::PUT_AFTER, block, list, x, 0)
-        }
+            predecessor: x,
+        } => { keep(members, locations, run, kind::PUT_AFTER, block, list, x, 0) }
         LogEntry::Write { block, slot: _ } => {
             keep(members, locations, run, kind::WRITE, block, 0, 0, location)
         }

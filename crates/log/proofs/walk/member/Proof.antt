@@ -3,7 +3,7 @@ use mathlib.Core.Path.{refl}
 use native.Mathlib.Omega.{arith}
 use Rattle.lists.specs.Tables.{ofKind}
 use Rattle.log.specs.Entry.{asEntry}
-use Rattle.log.proofs.Walking.{enters-later, enters-never}
+use Rattle.log.proofs.Entering.{enters-later, enters-never}
 use borrow.Author.Needs.{needs}
 use Rattle.log.proofs.walk.member.Statement.{statement}
 use Rattle.log.proofs.walk.member.Tie as tie

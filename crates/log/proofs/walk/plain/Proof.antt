@@ -2,7 +2,7 @@
 use native.Mathlib.Omega.{arith}
 use Rattle.lists.specs.Tables.{tables, ofKind}
 use Rattle.log.specs.Feed.{lent}
-use Rattle.log.proofs.Walking.{enters-now, enters-commit}
+use Rattle.log.proofs.Entering.{enters-now, enters-commit}
 use borrow.Author.Needs.{needs}
 use Rattle.log.proofs.walk.plain.Statement.{statement}
 use Rattle.log.proofs.walk.plain.Tie as tie

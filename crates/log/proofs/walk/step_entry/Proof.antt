@@ -6,7 +6,7 @@ use lib.Bits.{mask-lt}
 use borrow.Author.Tests.{not-true, not-false}
 use Rattle.log.specs.Entry.{carried, asEntry}
 use Rattle.log.specs.Feed.{lent}
-use Rattle.log.proofs.Walking.{steps-bad, steps-cut, steps-wrong, steps-refused, steps-next, used-one}
+use Rattle.log.proofs.Entering.{steps-bad, steps-cut, steps-wrong, steps-refused, steps-next, used-one}
 use borrow.Author.Needs.{needs}
 use Rattle.log.proofs.walk.step_entry.Statement.{statement}
 use Rattle.log.proofs.walk.step_entry.Tie as tie

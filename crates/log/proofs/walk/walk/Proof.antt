@@ -1,6 +1,6 @@
 -- The invariant: the walk has come to segment g, the tables keep its reader, and what is left of the card's items is that of the segments from g on. Assumes nothing.
-use mathlib.Core.Path.{_≡_, refl, _∙_}
-use Prim.Native.Nat.{ℕ, _+_, _-_, _*_, _≤_, _<_}
+use mathlib.Core.Path.{_≡_, refl}
+use Prim.Native.Nat.{_-_, _*_, _≤_}
 use native.Mathlib.Omega.{arith}
 use lib.ListN.{length}
 use Rattle.log.specs.Card.{segmentsIn, count}
