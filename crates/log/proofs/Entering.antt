@@ -19,7 +19,7 @@ use Rattle.log.specs.Card.{part, usedBy, isNext, entryAt, Item, good, it
 use Rattle.log.specs.Feed.{Lent, memberSet, fieldsOf, ReadTo, Commits}
 use Rattle.log.specs.Location.{cardLocation}
 use Rattle.log.specs.Parse.{byteAt, decodedAt}
-use Rattle.log.specs.Walk.{entered, admitted, runAfter, Enters, Steps, Went}
+use Rattle.log.specs.Walk.{entered, runAfter, Enters, Steps, Went}
 use Rattle.log.specs.declared.walk.Cursor.{Cursor}
 use Rattle.log.specs.declared.walk.Step.the-variants.{Next, Stuck}
 use Rattle.log.specs.declared.entry.LogEntry.{LogEntry}
@@ -27,7 +27,7 @@ use Rattle.log.specs.declared.entry.LogEntry.the-variants.{Take, PutFirs
 use Rattle.log.proofs.Decode.{decode-complete}
 use Rattle.log.proofs.Naturality.{entryLength-map}
 use Rattle.log.proofs.Segment.{used-map}
-use Rattle.log.proofs.Parsing.{at-bad, at-cut, at-entry, legal-at, part-size}
+use Rattle.log.proofs.Parsing.{admitted, at-bad, at-cut, at-entry, legal-at, part-size}
 use Rattle.log.proofs.Feeding.{NoCommit, fieldsChange, ended, legal-ranged, read-now, read-later}
 
 -- A parsed entry, which is x.

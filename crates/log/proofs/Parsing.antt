@@ -17,7 +17,7 @@ use Rattle.lists.proofs.Basic.{bind-bind, bind-ext, bind-some, guard-some, eqb-
 use Rattle.log.specs.Entry.{Entry, plain, member, commit, hasMember, asEntry, changeOf, entryOf, checked, legal, legalChange, isBlock, isList, isSlot, isCount, sizeOf, decode, carried}
 use Rattle.log.specs.Card.{part, isNext, entryAt}
 use Rattle.log.specs.Parse.{byteAt, decodedAt}
-use Rattle.log.specs.Walk.{entered, admitted}
+use Rattle.log.specs.Walk.{entered}
 use Rattle.log.specs.declared.entry.LogEntry.{LogEntry}
 use Rattle.log.specs.declared.entry.LogEntry.the-variants.{Take, PutFirst, PutAfter, Write, DeleteBlock, DeleteList, Commit}
 
@@ -148,6 +148,10 @@ entry-legal m x y z e h = first (eqb m 16) h
         → legal e ≡ true
     first true q = tested (commit x) q
     first false q = second (leb 128 m) q
+
+-- The entry that x and its mark stand for, its slot being the next one.
+abbrev pub admitted : Bool → LogEntry → ℕ → Option (Entry ℕ)
+admitted t x k = bind (entered t x) (λ y. guard (isNext k (carried y)) (some y))
 
 -- The entry at the front of a part of the card.
 abbrev saidBy : List ℕ → ℕ → ℕ → ℕ → Option (Entry ℕ)

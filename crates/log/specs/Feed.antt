@@ -1,4 +1,5 @@
--- What is promised where one entry after the other is fed to a reader that lent tables show: its state in the linked tables, its run of members in two more.
+-- What is promised where one entry after the other is fed to a reader that lent tables keep: its state in the linked tables, its run of members in
+-- two more.
 use mathlib.Core.Path.{_≡_}
 use mathlib.Core.Bool.{Bool, true, false}
 use mathlib.Core.Option.{Option, none, some}

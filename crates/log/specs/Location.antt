@@ -1,5 +1,5 @@
--- Where a block's 256 bytes stand. A location is one number, so that a table holds it: 0 is the blank; then come the card's slots, 16 numbers for each segment (it is 16 times
--- 256 bytes); then the places of the queue data; then those of the journal data.
+-- Where a block's 256 bytes stand. A location is one number, so that a table holds it: 0 is the blank; then come the card's slots, 16 numbers for each
+-- segment (it is 16 times 256 bytes); then the places of the queue data; then those of the journal data.
 use mathlib.Core.Bool.{cond}
 use mathlib.Core.List.{List}
 use Prim.Native.Nat.{ℕ, zero, suc, _+_, _-_, _*_}

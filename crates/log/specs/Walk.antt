@@ -1,4 +1,5 @@
--- What the walk of a card promises, step by step: of every reader that the lent tables keep, how the items of the log are met, and the place behind them.
+-- What the walk of a card promises, step by step, of every reader that the lent tables keep: how it meets the items of the log, and the place behind
+-- them.
 use mathlib.Core.Path.{_≡_}
 use mathlib.Core.Logic.{_≢_}
 use mathlib.Core.Bool.{Bool, true, false, cond}
@@ -7,10 +8,10 @@ use mathlib.Core.List.{List, [], _∷_, _++_}
 use Prim.Native.Nat.{ℕ, suc, _+_, _-_, _*_, _≤_, _<_}
 use lib.Dec.{ltb, eqb}
 use lib.ListN.{length}
-use Rattle.lists.specs.Basic.{guard, bind}
+use Rattle.lists.specs.Basic.{bind}
 use Rattle.log.specs.Entry.{Entry, mapEntry, carried, entryLength, asEntry, legal}
 use Rattle.log.specs.Reader.{Reader, read}
-use Rattle.log.specs.Card.{part, count, usedBy, isNext, Item, good, bad, itemsOf, segmentItems, afterEmpty, sound, fault, walk, walkCard, segmentBytes}
+use Rattle.log.specs.Card.{part, count, usedBy, Item, good, bad, itemsOf, segmentItems, afterEmpty, sound, fault, walk, walkCard, segmentBytes}
 use Rattle.log.specs.Location.{blank, cardLocation}
 use Rattle.log.specs.Feed.{Lent, Kept, ReadTo}
 use Rattle.log.specs.Store.{opened, behindAll, tail}
@@ -35,10 +36,6 @@ entered true (Write b s) = some (asEntry true (Write b s))
 entered true (DeleteBlock b) = some (asEntry true (DeleteBlock b))
 entered true (DeleteList l) = some (asEntry true (DeleteList l))
 entered true (Commit n) = none
-
--- the same, its slot being the next one
-abbrev pub admitted : Bool → LogEntry → ℕ → Option (Entry ℕ)
-admitted t e k = bind (entered t e) (λ x. guard (isNext k (carried x)) (some x))
 
 -- the length of the run behind it
 abbrev pub runAfter : Bool → ℕ → ℕ

@@ -1,7 +1,7 @@
 // One entry after the other, fed to the reader that lent tables show.
 //
-// `next`, `prev`, `owner` and `place` are the linked tables of the reader's state. Its run of members may be long, but a commit takes at most 15 of them, so the last
-// KEPT are kept: member j of the run in four bytes of `members`, from 4 * (j % KEPT) on, and its location in `locations`.
+// `next`, `prev`, `owner` and `place` are the linked tables of the reader's state. Its run of members may be long, but a commit takes at most 15 of
+// them, so the last KEPT are kept: member j of the run in four bytes of `members`, from 4 * (j % KEPT) on, and its location in `locations`.
 use super::entry::LogEntry;
 use lists::kind;
 use lists::tables;

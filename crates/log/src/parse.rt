@@ -34,8 +34,8 @@ pub enum Parsed {
     Bad,
 }
 
-// The entry whose map stands at `at`, its bytes ending before `end`; a byte from there on is read as 0, and that the whole entry stands before `end` is the caller's
-// question. `kind` is the map without the mark of a member.
+// The entry whose map stands at `at`; `kind` is that map without the mark of a member. A byte from `end` on is read as 0: whether all of the entry
+// stands before `end` is the caller's question.
 pub fn parse(card: &[u8], at: usize, end: usize, kind: u8) -> Parsed
     requires { ⌜ Inside (now card) at end × (kind < 128) ⌝ }
     ensures { λ r. ⌜ parsedOf r ≡ decodedAt (now (card .entry)) at end kind ⌝ }

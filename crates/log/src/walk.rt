@@ -1,4 +1,5 @@
-// The walk of a card's log, which mounting makes: entry by entry from segment 0, up to each count, until an empty segment. The lent tables are those of `feed`.
+// The walk of a card's log, which mounting makes: entry by entry from segment 0, up to each count, until an empty segment.
+// It sets up the lent tables, which are those of `feed`, and leaves in them the reader behind the log.
 use super::encode::slots_of;
 use super::entry::LogEntry;
 use super::feed::commit;
@@ -305,6 +306,7 @@ fn first_used(card: &[u8], g: usize, n: usize) -> usize
     n
 }
 
+// The whole card. What the tables held does not matter.
 pub fn walk(
     card: &[u8],
     next: &mut [u8; 256],

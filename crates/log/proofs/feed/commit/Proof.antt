@@ -1,4 +1,5 @@
--- The invariant: the members from number j on, acting on the state that the tables show, lead where all of them lead from the reader's. Assumes nothing.
+-- The invariant: the members from number j on lead from the state that the tables show to where all of them lead from the reader's.
+-- Assumes nothing.
 use mathlib.Core.Path.{_≡_, sym, ap, _∙_}
 use mathlib.Core.Bool.{true, false}
 use mathlib.Core.List.{List}

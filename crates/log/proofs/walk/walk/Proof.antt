@@ -1,4 +1,5 @@
--- The invariant: the walk has come to segment g, the tables keep its reader, and what is left of the card's items is that of the segments from g on. Assumes nothing.
+-- The invariant: the walk has come to segment g, the tables keep its reader, and the items left are those of the segments from g on.
+-- Assumes nothing.
 use mathlib.Core.Path.{_≡_, refl}
 use Prim.Native.Nat.{_-_, _*_, _≤_}
 use native.Mathlib.Omega.{arith}
