@@ -41,8 +41,24 @@ impl Generator<'_> {
         small + (1 << self.random.pick(&[8, 16, 24, 31, 32, 48, 63]))
     }
 
+    /// Whether an argument is to be wrong: seldom, but often in calls that are to be wrong in several ways.
+    fn is_wrong(&mut self) -> bool {
+        self.random.chance(self.wrong_arguments)
+    }
+
+    /// One of `numbers`, or one that is strange.
+    fn wrong_number(&mut self, numbers: &[u64]) -> u64 {
+        let strange_number = self.strange_number();
+        let number = self.random.pick(numbers);
+        self.random.pick(&[number, number, number, strange_number])
+    }
+
     /// A stream: 0 or an open unit; sometimes a closed unit, 5 or what is no stream at all.
     pub(super) fn stream(&mut self) -> u64 {
+        if self.is_wrong() {
+            let any_unit = self.random.between(1, u64::from(UNITS));
+            return self.wrong_number(&[any_unit, 5, 6]);
+        }
         match self.random.below(100) {
             0..=44 => 0,
             45..=93 => {
@@ -66,6 +82,10 @@ impl Generator<'_> {
 
     /// A unit's number for Begin or End, most of the time one that is open or one that is closed.
     pub(super) fn unit(&mut self, is_open: bool) -> u64 {
+        if self.is_wrong() {
+            let any_unit = self.random.between(1, u64::from(UNITS));
+            return self.wrong_number(&[0, any_unit, 5]);
+        }
         let units = self.units(is_open);
         match self.random.below(20) {
             0..=16 => self.random.pick_if_any(&units).unwrap_or(1),
@@ -76,6 +96,10 @@ impl Generator<'_> {
 
     /// A list, most of the time one that is taken.
     pub(super) fn list(&mut self, state: Option<&State>) -> u64 {
+        if self.is_wrong() {
+            let any_list = self.random.between(1, u64::from(LISTS));
+            return self.wrong_number(&[0, any_list, u64::from(LISTS) + 1]);
+        }
         let taken = state.map_or(&[][..], State::lists);
         match self.random.below(100) {
             0..=89 if !taken.is_empty() => u64::from(self.random.pick(taken)),
@@ -86,6 +110,10 @@ impl Generator<'_> {
 
     /// A block, most of the time one that is on a list.
     pub(super) fn block(&mut self, state: Option<&State>) -> u64 {
+        if self.is_wrong() {
+            let any_block = self.random.between(1, u64::from(BLOCKS));
+            return self.wrong_number(&[0, any_block, u64::from(BLOCKS) + 1]);
+        }
         let blocks = state.map(blocks_of).unwrap_or_default();
         match self.random.below(100) {
             0..=89 if !blocks.is_empty() => u64::from(self.random.pick(&blocks)),
@@ -97,6 +125,10 @@ impl Generator<'_> {
 
     /// A predecessor: 0, or most of the time a block on that list.
     pub(super) fn predecessor(&mut self, state: Option<&State>, list: u64) -> u64 {
+        if self.is_wrong() {
+            let any_block = self.random.between(1, u64::from(BLOCKS));
+            return self.wrong_number(&[any_block, u64::from(BLOCKS) + 1]);
+        }
         let blocks = match (state, u8::try_from(list)) {
             (Some(state), Ok(list @ 1..=LISTS)) if state.is_taken(list) => state.blocks_on(list).collect(),
             _ => Vec::new(),
@@ -137,6 +169,9 @@ impl Generator<'_> {
 
     /// How many bytes are lent to `write`, `read` or `inventory`: nothing said, most of the time.
     pub(super) fn part(&mut self, right: u64) -> String {
+        if self.is_wrong() {
+            return format!(" {}", self.random.pick(&[0, right - 1, right + 1, 300]));
+        }
         match self.random.below(100) {
             0..=92 => String::new(),
             93..=95 => format!(" {right}"),
@@ -149,6 +184,9 @@ impl Generator<'_> {
 
     /// An allowance: at the end of an entry or of its parts, one less, one more, or any.
     pub(super) fn allowance(&mut self) -> u64 {
+        if self.is_wrong() {
+            return self.wrong_number(&[65_536, 65_537]);
+        }
         match self.random.below(100) {
             0..=34 => {
                 let step = self.stores_to_a_step();

@@ -27,6 +27,8 @@ enum Action {
     Change,
     /// A look-up.
     LookUp,
+    /// A call with several arguments that are wrong: which question comes first?
+    WrongCall,
     /// Everything in a view, or what the lister says.
     Show,
     /// Units begin and end.
@@ -72,6 +74,7 @@ struct Profile {
 const COMMON: &[(Action, u64)] = &[
     (Action::Change, 30),
     (Action::LookUp, 12),
+    (Action::WrongCall, 4),
     (Action::Show, 3),
     (Action::Begin, 6),
     (Action::End, 6),
@@ -263,6 +266,8 @@ struct Generator<'a> {
     shell: Shell,
     printed: String,
     lines_left: usize,
+    /// How many arguments in a hundred are wrong on purpose.
+    wrong_arguments: u64,
     /// What someone else has written on the card: where, and the byte that stood there.
     damage: Vec<(usize, u8)>,
     observer: &'a mut Observer<'a>,
@@ -280,6 +285,7 @@ pub fn generate<'a>(seed: u64, lines: Option<usize>, observer: &'a mut Observer<
         shell: Shell::new(Vec::new()),
         printed: String::new(),
         lines_left: lines.unwrap_or(lines_of_profile),
+        wrong_arguments: 0,
         damage: Vec::new(),
         observer,
     };
@@ -337,6 +343,7 @@ impl Generator<'_> {
         match action {
             Action::Change => self.change(),
             Action::LookUp => self.look_up(),
+            Action::WrongCall => self.wrong_call(),
             Action::Show => self.show(),
             Action::Begin => self.begin(),
             Action::End => self.end(),
@@ -378,6 +385,13 @@ impl Generator<'_> {
             14 => self.cut_flush(),
             _ => self.show(),
         }
+    }
+
+    /// A call of which about half of the arguments are wrong.
+    fn wrong_call(&mut self) {
+        self.wrong_arguments = 50;
+        self.any_call();
+        self.wrong_arguments = 0;
     }
 
     /// A card of the profile's size, formatted.
