@@ -4,12 +4,50 @@ mod head_line;
 mod list_lines;
 mod state_lines;
 
+use crate::state_lines::put_refusal;
+use crate::state_lines::put_state;
 use log::layout::SEGMENT;
+use log::walk::Walked;
+use log::walk::walk;
 ghost use mathlib.Core.Path.{_≡_};
+ghost use Rattle.text.specs.Written.{Puts};
+ghost use Rattle.listing.specs.Listing.{listing as Listing·listing};
 ghost use Rattle.listing.specs.Listing.{listable};
 
 // The most segments that are listed.
 const SEGMENTS: usize = 16;
+
+// What a refusal says of a wrong length, and of a log that is not acceptable.
+const LENGTH: u64 = 1;
+
+const LOG: u64 = 2;
+
+// The position after the text is returned; one past the buffer's end says that it did not fit.
+pub fn listing(card: &[u8], out: &mut [u8]) -> usize
+    ensures { λ r. ⌜ Puts (now (out .entry)) 0 (Listing·listing (now (card .entry))) (now (out .exit)) r ⌝ }
+{
+    if !is_listable(card) {
+        return put_refusal(out, LENGTH);
+    }
+    let mut next = [0u8; 256];
+    let mut prev = [0u8; 256];
+    let mut owner = [0u8; 256];
+    let mut place = [0u16; 256];
+    let mut members = [0u8; 64];
+    let mut locations = [0u16; 16];
+    match walk(
+        card,
+        &mut next,
+        &mut prev,
+        &mut owner,
+        &mut place,
+        &mut members,
+        &mut locations,
+    ) {
+        Walked::Sound(_, _) => put_state(out, card, &next, &owner, &place),
+        Walked::Fault(_, _) => put_refusal(out, LOG),
+    }
+}
 
 fn is_listable(card: &[u8]) -> bool
     ensures { λ r. ⌜ r ≡ listable (now (card .entry)) ⌝ }
