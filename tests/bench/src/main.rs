@@ -17,8 +17,11 @@ extern "C" {
 }
 
 const SIZES: [usize; 3] = [1, 16, 64];
-const ROUNDS: usize = 400;
-/// A timed batch walks about as many entries as stand on the largest card.
+/// Every round times every card, so that each is timed all along the run.
+const ROUNDS: usize = 40;
+/// Batches of a card in a round, after one that warms the caches.
+const BATCHES: usize = 10;
+/// A timed batch walks as many segments as the largest card has.
 const BATCH: usize = 64;
 
 #[derive(Clone, Copy, PartialEq, Eq)]
@@ -49,7 +52,7 @@ impl Way {
         }
     }
 
-    /// The best time of a batch, in ns an entry.
+    /// The time of a batch, in ns an entry.
     fn batch(self, card: &Card, times: usize) -> f64 {
         let start = Instant::now();
         for _ in 0..times {
@@ -110,27 +113,33 @@ fn check(kind: Kind, card: &Card) {
 }
 
 fn times() {
-    println!("| full of | segments | entries | proved, ns an entry | second | sum | proved / second | proved / sum |");
-    println!("|---|---|---|---|---|---|---|---|");
-    for kind in Kind::ALL {
-        for size in SIZES {
-            let card = full(kind, size);
-            check(kind, &card);
-            let mut best = [f64::INFINITY; 3];
-            for _ in 0..ROUNDS {
-                for (way, best) in Way::ALL.into_iter().zip(&mut best) {
-                    *best = best.min(way.batch(&card, BATCH / size));
+    let configurations = Kind::ALL.into_iter().flat_map(|kind| SIZES.map(|size| (kind, size)));
+    let cards: Vec<(Kind, usize, Card)> = configurations
+        .map(|(kind, size)| (kind, size, full(kind, size)))
+        .collect();
+    let mut best = vec![[f64::INFINITY; 3]; cards.len()];
+    for (kind, _, card) in &cards {
+        check(*kind, card);
+    }
+    for _ in 0..ROUNDS {
+        for ((_, size, card), best) in cards.iter().zip(&mut best) {
+            for _ in 0..=BATCHES {
+                for (way, best) in Way::ALL.into_iter().zip(best.iter_mut()) {
+                    *best = best.min(way.batch(card, BATCH / size));
                 }
             }
-            let [proved, second, sum] = best;
-            println!(
-                "| {} | {size} | {} | {proved:.2} | {second:.2} | {sum:.3} | {:.2} | {:.0} |",
-                kind.name(),
-                card.entries,
-                proved / second,
-                proved / sum
-            );
         }
+    }
+    println!("| full of | segments | entries | proved, ns an entry | second | sum | proved / second | proved / sum |");
+    println!("|---|---|---|---|---|---|---|---|");
+    for ((kind, size, card), [proved, second, sum]) in cards.iter().zip(best) {
+        println!(
+            "| {} | {size} | {} | {proved:.2} | {second:.2} | {sum:.2} | {:.2} | {:.0} |",
+            kind.name(),
+            card.entries,
+            proved / second,
+            proved / sum
+        );
     }
 }
 
