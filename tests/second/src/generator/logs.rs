@@ -17,6 +17,19 @@ impl Generator<'_> {
         self.store_log(&log);
     }
 
+    /// The same with a log whose only segment in use is nearly full; then entries are added.
+    pub(super) fn full_log(&mut self) {
+        let segments = self.segments_of_profile();
+        let mut writer = Writer::new(segments);
+        let steps = self.random.below(4);
+        writer.write_log(&mut self.random, steps, 0);
+        writer.fill(self.random.between(0, 7) as usize);
+        self.store_log(&writer.card);
+        if self.shell.versions().is_some() {
+            self.go_on();
+        }
+    }
+
     /// The same with a short log that has a fault.
     pub(super) fn faulty_log(&mut self) {
         let segments = self.segments_of_profile();
@@ -40,7 +53,27 @@ impl Generator<'_> {
         if self.run(format_args!("mount")).is_accepted() {
             self.run(format_args!("show 0"));
             self.run(format_args!("sum"));
+            if self.random.chance(50) {
+                self.go_on();
+            }
         }
+    }
+
+    /// Adds a few entries behind the log and mounts what is left.
+    fn go_on(&mut self) {
+        for _ in 0..self.random.between(1, 4) {
+            if self.random.chance(70) {
+                self.change_on(0);
+            } else {
+                self.run(format_args!("begin 1"));
+                self.run(format_args!("end 1"));
+            }
+            if self.random.chance(50) {
+                self.run(format_args!("flush 65535"));
+            }
+        }
+        self.flush();
+        self.mount();
     }
 }
 
@@ -50,9 +83,6 @@ pub(super) fn random_log(random: &mut Random, segments: usize) -> Vec<u8> {
     if random.chance(if segments > 16 { 60 } else { 20 }) {
         writer.write_sparse_log(random);
     } else {
-        if random.chance(25) {
-            writer.fill(random.between(0, 9) as usize);
-        }
         let (steps, opens_early) = random.pick(&[(1, 0), (2, 20), (4, 0), (8, 20), (15, 5), (40, 5), (20, 60)]);
         writer.write_log(random, steps, opens_early);
     }

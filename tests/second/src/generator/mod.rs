@@ -54,6 +54,7 @@ enum Action {
     /// Another card, formatted or with a log stored byte by byte.
     NewCard,
     StoredLog,
+    FullLog,
     FaultyLog,
     /// Someone else writes on the card.
     Damage,
@@ -190,6 +191,7 @@ const PROFILES: &[Profile] = &[
     Profile {
         actions: &[
             (Action::StoredLog, 8),
+            (Action::FullLog, 4),
             (Action::Show, 4),
             (Action::Flush, 8),
             (Action::Damage, 2),
@@ -197,7 +199,7 @@ const PROFILES: &[Profile] = &[
             (Action::End, 6),
         ],
         segments: (1, 12),
-        lines: (800, 2_000),
+        lines: (1_500, 4_000),
     },
     // Logs with a fault.
     Profile {
@@ -225,10 +227,10 @@ const PROFILES: &[Profile] = &[
             (Action::End, 10),
             (Action::Flush, 40),
             (Action::CutFlush, 3),
-            (Action::StoredLog, 2),
+            (Action::StoredLog, 3),
         ],
         segments: (15, 64),
-        lines: (500, 1_500),
+        lines: (800, 2_500),
     },
     // Formattings and remounts.
     Profile {
@@ -362,6 +364,7 @@ impl Generator<'_> {
             Action::Format => self.format(),
             Action::NewCard => self.new_card(),
             Action::StoredLog => self.stored_log(),
+            Action::FullLog => self.full_log(),
             Action::FaultyLog => self.faulty_log(),
             Action::Damage => self.damage(),
             Action::Lend => self.lend(),
