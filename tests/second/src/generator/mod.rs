@@ -205,7 +205,7 @@ const PROFILES: &[Profile] = &[
     Profile {
         actions: &[(Action::FaultyLog, 100), (Action::Damage, 10)],
         segments: (1, 4),
-        lines: (500, 1_500),
+        lines: (1_000, 2_500),
     },
     // Numbers that run out.
     Profile {
