@@ -23,8 +23,11 @@ pub record Disk : Type 0 where
   pub journalData : List ℕ
   pub rec : Record
 
+abbrev pub disk : List ℕ → List ℕ → List ℕ → Record → Disk
+disk c q j r = record { card = c; queueData = q; journalData = j; rec = r }
+
 abbrev pub withRecord : Disk → Record → Disk
-withRecord d r = record { card = d .card; queueData = d .queueData; journalData = d .journalData; rec = r }
+withRecord d r = disk (d .card) (d .queueData) (d .journalData) r
 
 -- the queue's entry k, its data at its place of the queue data
 unfoldable pub queuedAt : Disk → ℕ → Entry Content

@@ -10,10 +10,10 @@ use native.Mathlib.Decide.{decLt}
 use lib.Dec.{leb, eqb}
 use lib.ListN.{length, drop, take, drop-of-length-le}
 use Rattle.lists.specs.Basic.{from, joined}
-use Rattle.lists.specs.State.{Block, Row}
+use Rattle.lists.specs.State.{Block, Row, mapBlock, mapRow}
 use Rattle.lists.specs.Lookup.{contentIn, contentOf, blocksOf}
 use Rattle.lists.proofs.Basic.{either, and-true, eqb-true, leb-true, le-true, from-shift}
-use Rattle.lists.proofs.Naturality.{mapOption, mapBlock, mapRow, taken-map}
+use Rattle.lists.proofs.Naturality.{mapOption, taken-map}
 use Rattle.log.specs.Card.{Content, Outcome, sound, fault, zeros, slot, cardSlot, cardLength, mounted, walkCard}
 use Rattle.log.specs.Reader.{Reader}
 use Rattle.log.specs.Location.{blank, cardLocation, contentAt}

@@ -240,6 +240,18 @@ module _ {A : Type 0} where
   from-snoc f k (suc n) =
       ap {B = List A} (λ r. f k ∷ r) (from-snoc f (suc k) n ∙ ap (λ (m : ℕ). from f (suc k) n ++ f m ∷ []) (suc-add k n ∙ sym (add-suc k n)))
 
+  -- what is left of n elements at element i: as a loop meets it
+  pub from-step : (f : ℕ → A) (i n : ℕ) → i < n → from f i (n - i) ≡ f i ∷ from f (i + 1) (n - (i + 1))
+  unfolding from
+  from-step f i n l =
+      let e : n - i ≡ suc (n - (i + 1)) = omega arith in
+      let e′ : suc i ≡ i + 1 = omega arith in
+      ap (from f i) e ∙ ap (λ (k : ℕ). f i ∷ from f k (n - (i + 1))) e′
+
+  pub from-none : (f : ℕ → A) (i n : ℕ) → n ≤ i → from f i (n - i) ≡ []
+  unfolding from
+  from-none f i n l = let e : n - i ≡ 0 = omega arith in ap (from f i) e
+
   pub from-drop : (f : ℕ → A) (k m n : ℕ) → drop m (from f k (m + n)) ≡ from f (k + m) n
   unfolding from
   from-drop f k zero n = rw (zero-add n, add-zero k)

@@ -7,21 +7,12 @@ use Prim.Native.Nat.{ℕ}
 use lib.Dec.{eqb}
 use Rattle.lists.specs.Basic.{guard, bind, orElse, keep}
 use Rattle.lists.specs.Change.{Change, takeList, putFirst, putAfter, write, delBlock, delList, mapChange, carriedBy}
-use Rattle.lists.specs.State.{Block, Row, State, block, row, state, isBlockNum, isRow, onRow, isRowWith, taken, placed, onList, applies, insertAfter, onBlocks, at, put, otherBlock, otherRow, changed, apply, applyAll, overlay}
+use Rattle.lists.specs.State.{Block, Row, State, block, row, state, isBlockNum, isRow, onRow, isRowWith, taken, placed, onList, applies, insertAfter, onBlocks, at, put, otherBlock, otherRow, changed, apply, applyAll, overlay, mapBlock, mapRow, mapState}
 use Rattle.lists.proofs.Basic.{cond-map, any-map, keep-map}
 
 abbrev pub mapOption : {A B : Type 0} → (A → B) → Option A → Option B
 mapOption f none = none
 mapOption f (some a) = some (f a)
-
-abbrev pub mapBlock : {D E : Type 0} → (D → E) → Block D → Block E
-mapBlock h x = block (x .num) (h (x .content))
-
-abbrev pub mapRow : {D E : Type 0} → (D → E) → Row D → Row E
-mapRow h r = row (r .num) (map (mapBlock h) (r .blocks))
-
-abbrev pub mapState : {D E : Type 0} → (D → E) → State D → State E
-mapState h s = state (map (mapRow h) (s .lists))
 
 pub guard-map : {A B : Type 0} (f : A → B) (b : Bool) (o : Option A) → guard b (mapOption f o) ≡ mapOption f (guard b o)
 guard-map f true o = refl

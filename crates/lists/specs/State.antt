@@ -106,3 +106,13 @@ applyAll z (c ∷ cs) s = bind (apply z c s) (λ t. applyAll z cs t)
 unfoldable pub overlay : {D : Type 0} → D → List (Change D) → State D → State D
 overlay z [] s = s
 overlay z (c ∷ cs) s = overlay z cs (orElse s (apply z c s))
+
+-- a state with other contents
+abbrev pub mapBlock : {D E : Type 0} → (D → E) → Block D → Block E
+mapBlock h x = block (x .num) (h (x .content))
+
+abbrev pub mapRow : {D E : Type 0} → (D → E) → Row D → Row E
+mapRow h r = row (r .num) (map (mapBlock h) (r .blocks))
+
+abbrev pub mapState : {D E : Type 0} → (D → E) → State D → State E
+mapState h s = state (map (mapRow h) (s .lists))

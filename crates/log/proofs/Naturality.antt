@@ -8,9 +8,9 @@ use lib.Dec.{leb, eqb}
 use lib.ListN.{length, drop, length-map}
 use Rattle.lists.specs.Basic.{bind}
 use Rattle.lists.specs.Change.{Change, mapChange}
-use Rattle.lists.specs.State.{State, apply, applyAll}
+use Rattle.lists.specs.State.{State, apply, applyAll, mapState}
 use Rattle.lists.proofs.Basic.{map-drop}
-use Rattle.lists.proofs.Naturality.{mapOption, mapState, guard-map, change-comp, carriedBy-map, apply-map, applyAll-map}
+use Rattle.lists.proofs.Naturality.{mapOption, guard-map, change-comp, carriedBy-map, apply-map, applyAll-map}
 use Rattle.log.specs.Entry.{Entry, plain, member, commit, mapEntry, carried, raw, entryLength}
 use Rattle.log.specs.Reader.{Reader, reader, settled, start, lastOf, read, replay}
 use Rattle.log.specs.Card.{Item, good, bad, itemsOf, entryAt, usedBy, segmentItems, segmentEntries, segmentsIn, afterEmpty, items, count, Outcome, sound, fault, walk, walkCard}
