@@ -1,7 +1,7 @@
 -- The lists of every open view are numbered 1 to 16 and stand once each; so an accepted inventory fills and returns what its promise says
 -- (`inventory-meets`).
 use mathlib.Core.Path.{_≡_, refl, ap, _∙_}
-use mathlib.Core.Bool.{Bool, true, false}
+use mathlib.Core.Bool.{true}
 use mathlib.Core.List.{List, [], _∷_, _++_, map}
 use Prim.Native.Nat.{ℕ, _+_}
 use native.Mathlib.Omega.{arith}
@@ -24,11 +24,11 @@ use Rattle.disk.specs.declared.record.Record.{Record}
 use Rattle.disk.specs.Disk.{Disk, queued, journalOf, stateOf, persistent, committed, view}
 use Rattle.disk.specs.Sound.{isOpenUnit, journalSound}
 use Rattle.disk.specs.Call.{inventory}
-use Rattle.disk.specs.Questions.{streamOpen, viewOpen, questions, refusal}
+use Rattle.disk.specs.Questions.{viewOpen, questions, refusal}
 use Rattle.lists.specs.Lookup.{listNums}
 use Rattle.disk.specs.Perform.{accepted, perform}
 use Rattle.disk.specs.Inventory.{occurs, Inventory}
-use Rattle.disk.proofs.Questions.{yes-all, unit-range}
+use Rattle.disk.proofs.Questions.{yes-all, unit-range, open-views}
 use Rattle.disk.proofs.Clauses.{Right, right, committed-is}
 use Rattle.disk.proofs.Performing.{perform-accepted}
 use Rattle.disk.proofs.Draining.{Open, open-log}
@@ -78,13 +78,7 @@ module _ (d : Disk) (k : Right d) where
       }
 
   view-listed : (v : ℕ) → viewOpen d v ≡ true → Listed (view d v)
-  unfolding view viewOpen streamOpen
-  view-listed v h = go (eqb v 5) refl (eqb v 0) refl
-    where
-      go : (a : Bool) → eqb v 5 ≡ a → (b : Bool) → eqb v 0 ≡ b → Listed (view d v)
-      go true e b f = rw e persistent-listed
-      go false e true f = rw (e, f) committed-listed
-      go false e false f = rw (e, f) (unit-listed v (rw (e, f) at h))
+  view-listed v h = open-views d Listed persistent-listed committed-listed unit-listed v h
 
 -- The numbers of a state's lists.
 rows-occur : (l : ℕ) (rs : List (Row Content)) → occurs l (map (λ r. r .num) rs) ≡ rowsOf l rs

@@ -21,3 +21,4 @@ pub mod Flushing
 pub mod Allowance
 pub mod Order
 pub mod Inventory
+pub mod Contents

@@ -10,15 +10,15 @@ use native.Mathlib.Nat.{mod-lt}
 use lib.Dec.{leb, eqb, eqb·suc-zero}
 use lib.ListN.{length, getD}
 use Rattle.lists.specs.Basic.{isSome, orElse, any}
-use Rattle.lists.specs.State.{taken, placed}
+use Rattle.lists.specs.State.{State, taken, placed, overlay}
 use Rattle.lists.proofs.Basic.{and-true, or-both, false-not, eqb-same, eqb-true, leb-true, ltb-true, le-true, some-of}
 use Rattle.log.specs.Entry.{isBlock, isList}
-use Rattle.log.specs.Card.{cardLength}
+use Rattle.log.specs.Card.{Content, zeros, cardLength}
 use Rattle.disk.specs.Record.{holderOf}
-use Rattle.disk.specs.Disk.{Disk, unitOf, committed}
+use Rattle.disk.specs.Disk.{Disk, unitOf, journalOf, persistent, committed, view}
 use Rattle.disk.specs.Sound.{lengthsRight, isOpenUnit}
 use Rattle.disk.specs.Call.{Call, format, mount, conflictCount, newList, newBlock, writeBlock, readBlock, deleteBlock, deleteList, begin, end, flush, blockAfter, inventory}
-use Rattle.disk.specs.Questions.{streamOpen, journalRoom, queueRoom, streamRoom, freeFrom, freeBlock, freeList, questions, ask, firstNo, refusal}
+use Rattle.disk.specs.Questions.{streamOpen, viewOpen, journalRoom, queueRoom, streamRoom, freeFrom, freeBlock, freeList, questions, ask, firstNo, refusal}
 
 -- Questions in general: each has its number and its answer.
 abbrev pub test : List (ℕ × Bool) → ℕ → Bool
@@ -131,6 +131,17 @@ unit-range d u h =
 pub open-range : (d : Disk) (u : ℕ) → streamOpen d (suc u) ≡ true → (1 ≤ suc u) × (suc u ≤ 4) × (unitOf d (suc u) .opened ≡ true)
 unfolding streamOpen
 open-range d u h = unit-range d (suc u) (rw (eqb·suc-zero u) at h)
+
+-- what holds of the persistent state, of the committed one and of each open unit's view holds of every open view
+pub open-views : (d : Disk) (P : State Content → Type 0) → P (persistent d) → P (committed d)
+    → ((u : ℕ) → isOpenUnit d u ≡ true → P (overlay zeros (journalOf d u) (committed d))) → (v : ℕ) → viewOpen d v ≡ true → P (view d v)
+unfolding view viewOpen streamOpen
+open-views d P p c f v h = go (eqb v 5) refl (eqb v 0) refl
+  where
+    go : (a : Bool) → eqb v 5 ≡ a → (b : Bool) → eqb v 0 ≡ b → P (view d v)
+    go true e b g = rw e p
+    go false e true g = rw (e, g) c
+    go false e false g = rw (e, g) (f v (rw (e, g) at h))
 
 pub queue-room : (d : Disk) (n : ℕ) → queueRoom d n ≡ true → d .rec .len + n ≤ 32
 unfolding queueRoom

@@ -1,19 +1,18 @@
 -- The text of a card says the same by contents as by their locations.
 use mathlib.Core.Path.{_≡_, refl, sym, ap, ap₂, fun-ext, _∙_}
-use mathlib.Core.Logic.{⊎-elim}
 use mathlib.Core.Bool.{true, false, _&&_}
 use mathlib.Core.Option.{Option, none, some}
-use mathlib.Core.List.{List, [], _∷_, _++_, map}
+use mathlib.Core.List.{List, [], _++_, map}
 use Prim.Native.Nat.{ℕ, suc, _+_, _*_, _/_, _%_, _≤_, _<_}
 use native.Mathlib.Omega.{arith}
 use native.Mathlib.Decide.{decLt}
 use lib.Dec.{leb, eqb}
 use lib.ListN.{length, drop, take, drop-of-length-le}
 use Rattle.lists.specs.Basic.{from, joined}
-use Rattle.lists.specs.State.{Block, Row, mapBlock, mapRow}
-use Rattle.lists.specs.Lookup.{contentIn, contentOf, blocksOf}
-use Rattle.lists.proofs.Basic.{either, and-true, eqb-true, leb-true, le-true, from-shift}
-use Rattle.lists.proofs.Naturality.{mapOption, taken-map}
+use Rattle.lists.specs.State.{Row, mapRow}
+use Rattle.lists.specs.Lookup.{contentOf}
+use Rattle.lists.proofs.Basic.{and-true, eqb-true, leb-true, le-true, from-shift}
+use Rattle.lists.proofs.Naturality.{mapOption, taken-map, blocksOf-map, contentOf-map}
 use Rattle.log.specs.Card.{Content, Outcome, sound, fault, zeros, slot, cardSlot, cardLength, mounted, walkCard}
 use Rattle.log.specs.Reader.{Reader}
 use Rattle.log.specs.Location.{blank, cardLocation, contentAt}
@@ -23,45 +22,15 @@ use Rattle.listing.specs.Shown.{sumAt}
 use Rattle.listing.proofs.Lines.{content-in, content-out}
 
 module _ {D E : Type 0} (h : D → E) where
-  nums-map : (xs : List (Block D)) → map (λ x. x .num) (map (mapBlock h) xs) ≡ map (λ x. x .num) xs
-  nums-map [] = refl
-  nums-map (x ∷ xs) = ap {B = List ℕ} (λ ns. x .num ∷ ns) (nums-map xs)
-
-  blocksOf-map : (rs : List (Row D)) (l : ℕ) → blocksOf (map (mapRow h) rs) l ≡ blocksOf rs l
-  unfolding blocksOf
-  blocksOf-map [] l = refl
-  blocksOf-map (r ∷ rs) l = ⊎-elim
-      (λ (e : eqb (r .num) l ≡ true). rw (e, blocksOf) (nums-map (r .blocks)))
-      (λ (e : eqb (r .num) l ≡ false). rw (e, blocksOf) (blocksOf-map rs l))
-      (either (eqb (r .num) l))
-
-  contentIn-map : (xs : List (Block D)) (b : ℕ) → contentIn (map (mapBlock h) xs) b ≡ mapOption h (contentIn xs b)
-  unfolding contentIn
-  contentIn-map [] b = refl
-  contentIn-map (x ∷ xs) b = ⊎-elim
-      (λ (e : eqb (x .num) b ≡ true). rw (e, contentIn))
-      (λ (e : eqb (x .num) b ≡ false). rw (e, contentIn) (contentIn-map xs b))
-      (either (eqb (x .num) b))
-
-  contentOf-map : (rs : List (Row D)) (b : ℕ) → contentOf (map (mapRow h) rs) b ≡ mapOption h (contentOf rs b)
-  unfolding contentOf
-  contentOf-map [] b = refl
-  contentOf-map (r ∷ rs) b = rw (contentIn-map (r .blocks) b, contentOf) (go (contentOf-map rs b) (contentIn (r .blocks) b))
-    where
-      go : contentOf (map (mapRow h) rs) b ≡ mapOption h (contentOf rs b) → (o : Option D)
-          → _≡_ {A = Option E} (elim (mapOption h o) [ none ↦ contentOf (map (mapRow h) rs) b | some x ↦ some x ]) (mapOption h (elim o [ none ↦ contentOf rs b | some x ↦ some x ]))
-      go ih none = ih
-      go ih (some x) = refl
-
   listLines-map : (rs : List (Row D)) → listLines (map (mapRow h) rs) ≡ listLines rs
   unfolding listLines listPart
   listLines-map rs =
-      ap joined (from-shift (listPart (map (mapRow h) rs)) (listPart rs) 1 1 16 (λ k l. rw (taken-map h (1 + k) rs, blocksOf-map rs (1 + k))))
+      ap joined (from-shift (listPart (map (mapRow h) rs)) (listPart rs) 1 1 16 (λ k l. rw (taken-map h (1 + k) rs, blocksOf-map h rs (1 + k))))
 
   blockLines-map : (sum : E → ℕ) (rs : List (Row D)) → blockLines sum (map (mapRow h) rs) ≡ blockLines (λ d. sum (h d)) rs
   unfolding blockLines blockPart
   blockLines-map sum rs =
-      ap joined (from-shift (blockPart sum (map (mapRow h) rs)) (blockPart (λ d. sum (h d)) rs) 1 1 64 (λ k l. rw (blockPart, contentOf-map rs (1 + k)) (go (1 + k) (contentOf rs (1 + k)))))
+      ap joined (from-shift (blockPart sum (map (mapRow h) rs)) (blockPart (λ d. sum (h d)) rs) 1 1 64 (λ k l. rw (blockPart, contentOf-map h rs (1 + k)) (go (1 + k) (contentOf rs (1 + k)))))
     where
       go : (b : ℕ) (o : Option D) → _≡_ {A = List ℕ} (elim (mapOption h o) [ none ↦ [] | some e ↦ blockLine b (sum e) ]) (elim o [ none ↦ [] | some d ↦ blockLine b (sum (h d)) ])
       go b none = refl

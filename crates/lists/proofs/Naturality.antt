@@ -1,5 +1,7 @@
--- Content is carried along: a map of contents commutes with a change of a state, and no test of a state looks at contents.
+-- Content is carried along: a map of contents commutes with a change of a state and with a lookup in it, and no test of a state looks
+-- at contents.
 use mathlib.Core.Path.{_≡_, refl, sym, ap}
+use mathlib.Core.Logic.{⊎-elim}
 use mathlib.Core.Bool.{Bool, true, false, _&&_}
 use mathlib.Core.Option.{Option, none, some}
 use mathlib.Core.List.{List, [], _∷_, map, map-append}
@@ -8,7 +10,8 @@ use lib.Dec.{eqb}
 use Rattle.lists.specs.Basic.{guard, bind, orElse, keep}
 use Rattle.lists.specs.Change.{Change, takeList, putFirst, putAfter, write, delBlock, delList, mapChange, carriedBy}
 use Rattle.lists.specs.State.{Block, Row, State, block, row, state, isBlockNum, isRow, onRow, isRowWith, taken, placed, onList, applies, insertAfter, onBlocks, at, put, otherBlock, otherRow, changed, apply, applyAll, overlay, mapBlock, mapRow, mapState}
-use Rattle.lists.proofs.Basic.{cond-map, any-map, keep-map}
+use Rattle.lists.specs.Lookup.{contentIn, contentOf, blocksOf}
+use Rattle.lists.proofs.Basic.{either, cond-map, any-map, keep-map}
 
 abbrev pub mapOption : {A B : Type 0} → (A → B) → Option A → Option B
 mapOption f none = none
@@ -113,3 +116,34 @@ module _ {D E : Type 0} (h : D → E) where
   unfolding overlay
   overlay-map z [] s = refl
   overlay-map z (c ∷ cs) s = rw (overlay, apply-map z c s, orElse-map s (apply z c s)) (overlay-map z cs (orElse s (apply z c s)))
+
+  -- what is looked up
+  nums-map : (xs : List (Block D)) → map (λ x. x .num) (map (mapBlock h) xs) ≡ map (λ x. x .num) xs
+  nums-map [] = refl
+  nums-map (x ∷ xs) = ap {B = List ℕ} (λ ns. x .num ∷ ns) (nums-map xs)
+
+  pub blocksOf-map : (rs : List (Row D)) (l : ℕ) → blocksOf (map (mapRow h) rs) l ≡ blocksOf rs l
+  unfolding blocksOf
+  blocksOf-map [] l = refl
+  blocksOf-map (r ∷ rs) l = ⊎-elim
+      (λ (e : eqb (r .num) l ≡ true). rw (e, blocksOf) (nums-map (r .blocks)))
+      (λ (e : eqb (r .num) l ≡ false). rw (e, blocksOf) (blocksOf-map rs l))
+      (either (eqb (r .num) l))
+
+  contentIn-map : (xs : List (Block D)) (b : ℕ) → contentIn (map (mapBlock h) xs) b ≡ mapOption h (contentIn xs b)
+  unfolding contentIn
+  contentIn-map [] b = refl
+  contentIn-map (x ∷ xs) b = ⊎-elim
+      (λ (e : eqb (x .num) b ≡ true). rw (e, contentIn))
+      (λ (e : eqb (x .num) b ≡ false). rw (e, contentIn) (contentIn-map xs b))
+      (either (eqb (x .num) b))
+
+  pub contentOf-map : (rs : List (Row D)) (b : ℕ) → contentOf (map (mapRow h) rs) b ≡ mapOption h (contentOf rs b)
+  unfolding contentOf
+  contentOf-map [] b = refl
+  contentOf-map (r ∷ rs) b = rw (contentIn-map (r .blocks) b, contentOf) (go (contentOf-map rs b) (contentIn (r .blocks) b))
+    where
+      go : contentOf (map (mapRow h) rs) b ≡ mapOption h (contentOf rs b) → (o : Option D)
+          → _≡_ {A = Option E} (elim (mapOption h o) [ none ↦ contentOf (map (mapRow h) rs) b | some x ↦ some x ]) (mapOption h (elim o [ none ↦ contentOf rs b | some x ↦ some x ]))
+      go ih none = ih
+      go ih (some x) = refl
