@@ -77,7 +77,7 @@ pub fn hex(line: &[u8], start: usize, end: usize, out: &mut [u8; 256]) -> bool
 }
 
 // One or more pairs of digits, at most 256, or a dash.
-fn is_hex(text: &[u8]) -> bool
+pub fn is_hex(text: &[u8]) -> bool
     ensures { λ r. ⌜ r ≡ isHex (now (text .entry)) ⌝ }
 {
     if is_same(text, b"-") {

@@ -1,0 +1,161 @@
+-- What a line of a script asks for: the rows of the language's table, in order.
+use mathlib.Core.Bool.{Bool, true, false, _&&_, _||_, cond}
+use mathlib.Core.List.{List, [], _∷_}
+use Prim.Native.Nat.{ℕ}
+use Prim.Native.String.{String}
+use lib.Dec.{leb, ltb, eqb}
+use lib.ListN.{length, getD}
+use lib.Seq.{slice}
+use Rattle.text.specs.declared.number.Number.{Number}
+use Rattle.text.specs.declared.number.Number.the-variants.{Value, Bad}
+use Rattle.text.specs.declared.word.Word.{Word}
+use Rattle.text.specs.Hex.{isHex}
+use Rattle.text.specs.Line.{wordFrom, same}
+use Rattle.script.specs.declared.arguments.Two as T
+use Rattle.script.specs.declared.arguments.Three as H
+use Rattle.script.specs.declared.command.Command.{Command}
+use Rattle.script.specs.declared.command.Command.the-variants as C
+use Rattle.script.specs.Arguments.{textOf, numberAt, endedAt, pair, triple, oneFrom, twoFrom, threeFrom, partFrom}
+use Rattle.script.specs.Spelling.{bytes}
+
+-- "Anything else that is not a command below, with its words, prints `?` and does nothing."
+abbrev pub ofOne : (ℕ → Command) → Number → Command
+ofOne f (Value a) = f a
+ofOne f Bad = C.Unknown
+
+abbrev pub ofTwo : (ℕ → ℕ → Command) → T.Two → Command
+ofTwo f (T.the-variants.Values a b) = f a b
+ofTwo f T.the-variants.Bad = C.Unknown
+
+abbrev pub ofThree : (ℕ → ℕ → ℕ → Command) → H.Three → Command
+ofThree f (H.the-variants.Values a b c) = f a b c
+ofThree f H.the-variants.Bad = C.Unknown
+
+abbrev pub ofWrite : Word → H.Three → Command
+ofWrite digits n = ofThree (λ s b k. C.Write s b k digits) n
+
+-- "LEN bytes (0 to 266,240) of value BYTE"
+abbrev pub cardOf : T.Two → Command
+cardOf n = ofTwo (λ k b. cond (leb k 266240 && leb b 255) (C.Card k b) C.Unknown) n
+
+abbrev pub pokeOf : T.Two → Command
+pokeOf n = ofTwo (λ a b. cond (leb b 255) (C.Poke a b) C.Unknown) n
+
+-- a command without further words
+unfoldable pub alone : List ℕ → ℕ → Command → Command
+alone line from c = cond (endedAt line from) c C.Unknown
+
+-- `S B HEX`, `S B HEX N`
+unfoldable pub writeFrom : List ℕ → ℕ → Command
+writeFrom line from =
+    let s = wordFrom line from in
+    let b = wordFrom line (s .end) in
+    let x = wordFrom line (b .end) in
+    cond (isHex (textOf line x)) (ofWrite x (triple (numberAt line s) (pair (numberAt line b) (partFrom line (x .end) 256)))) C.Unknown
+
+-- `V B`, `V B N`
+unfoldable pub readFrom : List ℕ → ℕ → Command
+readFrom line from =
+    let v = wordFrom line from in
+    let b = wordFrom line (v .end) in
+    ofThree C.Read (triple (numberAt line v) (pair (numberAt line b) (partFrom line (b .end) 256)))
+
+-- `V`, `V N`
+unfoldable pub inventoryFrom : List ℕ → ℕ → Command
+inventoryFrom line from =
+    let v = wordFrom line from in
+    ofTwo C.Inventory (pair (numberAt line v) (partFrom line (v .end) 16))
+
+-- a row of the table: a name, and what the words behind it make
+pub record Row : Type 0 where
+  pub name : String
+  pub command : Command
+
+infix 75 _⇒_
+abbrev pub _⇒_ : String → Command → Row
+s ⇒ c = record { name = s; command = c }
+
+-- the row that the word names
+unfoldable pub pick : List ℕ → List Row → Command → Command
+pick word [] other = other
+pick word (r ∷ rs) other = elim (same word (bytes (r .name))) [ true ↦ r .command | false ↦ pick word rs other ]
+
+-- `flush N K`, `format K`
+unfoldable pub cutRows : List ℕ → ℕ → List Row
+cutRows line at =
+    "flush" ⇒ ofTwo C.CutFlush (twoFrom line at)
+    ∷ "format" ⇒ ofOne C.CutFormat (oneFrom line at)
+    ∷ []
+
+unfoldable pub cutNamed : List ℕ → ℕ → ℕ → Command
+cutNamed line start at = pick (slice start at line) (cutRows line at) C.Unknown
+
+-- nothing more, or one of these
+unfoldable pub cutFrom : List ℕ → ℕ → Command
+cutFrom line from = let w = wordFrom line from in cond (endedAt line from) C.Cut (cutNamed line (w .start) (w .end))
+
+-- `card N`, `queue N`, `journal N`, `all`
+unfoldable pub lendRows : List ℕ → ℕ → List Row
+lendRows line at =
+    "card" ⇒ ofOne C.LendCard (oneFrom line at)
+    ∷ "queue" ⇒ ofOne C.LendQueue (oneFrom line at)
+    ∷ "journal" ⇒ ofOne C.LendJournal (oneFrom line at)
+    ∷ "all" ⇒ alone line at C.LendAll
+    ∷ []
+
+unfoldable pub lendNamed : List ℕ → ℕ → ℕ → Command
+lendNamed line start at = pick (slice start at line) (lendRows line at) C.Unknown
+
+unfoldable pub lendFrom : List ℕ → ℕ → Command
+lendFrom line from = let w = wordFrom line from in lendNamed line (w .start) (w .end)
+
+unfoldable pub firstRows : List ℕ → ℕ → List Row
+firstRows line at =
+    "card" ⇒ cardOf (twoFrom line at)
+    ∷ "format" ⇒ alone line at C.Format
+    ∷ "mount" ⇒ alone line at C.Mount
+    ∷ "begin" ⇒ ofOne C.Begin (oneFrom line at)
+    ∷ "end" ⇒ ofOne C.End (oneFrom line at)
+    ∷ "newlist" ⇒ ofOne C.NewList (oneFrom line at)
+    ∷ "newblock" ⇒ ofThree C.NewBlock (threeFrom line at)
+    ∷ []
+
+unfoldable pub middleRows : List ℕ → ℕ → List Row
+middleRows line at =
+    "write" ⇒ writeFrom line at
+    ∷ "read" ⇒ readFrom line at
+    ∷ "delblock" ⇒ ofTwo C.DeleteBlock (twoFrom line at)
+    ∷ "dellist" ⇒ ofTwo C.DeleteList (twoFrom line at)
+    ∷ "flush" ⇒ ofOne C.Flush (oneFrom line at)
+    ∷ "next" ⇒ ofThree C.Next (threeFrom line at)
+    ∷ "conflicts" ⇒ alone line at C.Conflicts
+    ∷ []
+
+unfoldable pub lastRows : List ℕ → ℕ → List Row
+lastRows line at =
+    "inventory" ⇒ inventoryFrom line at
+    ∷ "cut" ⇒ cutFrom line at
+    ∷ "poke" ⇒ pokeOf (twoFrom line at)
+    ∷ "lend" ⇒ lendFrom line at
+    ∷ "sum" ⇒ alone line at C.Sum
+    ∷ "list" ⇒ alone line at C.Listing
+    ∷ "show" ⇒ ofOne C.Show (oneFrom line at)
+    ∷ []
+
+-- a line whose name stands between two positions
+unfoldable pub lastNamed : List ℕ → ℕ → ℕ → Command
+lastNamed line start at = pick (slice start at line) (lastRows line at) C.Unknown
+
+unfoldable pub middleNamed : List ℕ → ℕ → ℕ → Command
+middleNamed line start at = pick (slice start at line) (middleRows line at) (lastNamed line start at)
+
+unfoldable pub named : List ℕ → ℕ → ℕ → Command
+named line start at = pick (slice start at line) (firstRows line at) (middleNamed line start at)
+
+-- "Blank lines and lines that begin with `#`"
+unfoldable pub isQuiet : List ℕ → Bool
+isQuiet line = eqb (getD line 0 0) 35 || endedAt line 0
+
+-- "A line is at most 1,023 bytes (longer: `?`)."
+unfoldable pub commandOf : List ℕ → Command
+commandOf line = cond (ltb 1023 (length line)) C.Unknown (cond (isQuiet line) C.Nothing (let w = wordFrom line 0 in named line (w .start) (w .end)))

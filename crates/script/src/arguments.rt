@@ -1,0 +1,97 @@
+// The words behind a command's name: so many numbers and nothing more.
+use text::decimal::number;
+use text::line::word;
+use text::number::Number;
+ghost use mathlib.Core.Path.{_≡_};
+ghost use Rattle.script.specs.Arguments.{endedAt, oneFrom, twoFrom, threeFrom, partFrom, atMost};
+ghost use Rattle.script.specs.Arguments.{pair as Arguments·pair, triple as Arguments·triple};
+
+pub enum Two {
+    Values(u64, u64),
+    Bad,
+}
+
+pub enum Three {
+    Values(u64, u64, u64),
+    Bad,
+}
+
+// The most bytes that a line can have lent for data, a destination or an inventory.
+const PART: u64 = 300;
+
+// Does no word stand behind the position?
+pub fn is_end(line: &[u8], from: usize) -> bool
+    ensures { λ r. ⌜ r ≡ endedAt (now (line .entry)) from ⌝ }
+{
+    let w = word(line, from);
+    w.start == w.end
+}
+
+pub fn one_number(line: &[u8], from: usize) -> Number
+    ensures { λ r. ⌜ r ≡ oneFrom (now (line .entry)) from ⌝ }
+{
+    let w = word(line, from);
+    if is_end(line, w.end) {
+        number(line, w.start, w.end)
+    } else {
+        Number::Bad
+    }
+}
+
+pub fn two_numbers(line: &[u8], from: usize) -> Two
+    ensures { λ r. ⌜ r ≡ twoFrom (now (line .entry)) from ⌝ }
+{
+    let w = word(line, from);
+    pair(number(line, w.start, w.end), one_number(line, w.end))
+}
+
+pub fn three_numbers(line: &[u8], from: usize) -> Three
+    ensures { λ r. ⌜ r ≡ threeFrom (now (line .entry)) from ⌝ }
+{
+    let w = word(line, from);
+    triple(number(line, w.start, w.end), two_numbers(line, w.end))
+}
+
+// How many bytes are lent: the number behind the position, or so many where no word stands there.
+pub fn part_lent(line: &[u8], from: usize, whole: u64) -> Number
+    ensures { λ r. ⌜ r ≡ partFrom (now (line .entry)) from whole ⌝ }
+{
+    if is_end(line, from) {
+        Number::Value(whole)
+    } else {
+        at_most(one_number(line, from), PART)
+    }
+}
+
+pub fn at_most(n: Number, most: u64) -> Number
+    ensures { λ r. ⌜ r ≡ atMost n most ⌝ }
+{
+    let Number::Value(value) = n else {
+        return Number::Bad;
+    };
+    if value <= most { n } else { Number::Bad }
+}
+
+pub fn pair(a: Number, b: Number) -> Two
+    ensures { λ r. ⌜ r ≡ Arguments·pair a b ⌝ }
+{
+    let Number::Value(first) = a else {
+        return Two::Bad;
+    };
+    let Number::Value(second) = b else {
+        return Two::Bad;
+    };
+    Two::Values(first, second)
+}
+
+pub fn triple(a: Number, rest: Two) -> Three
+    ensures { λ r. ⌜ r ≡ Arguments·triple a rest ⌝ }
+{
+    let Number::Value(first) = a else {
+        return Three::Bad;
+    };
+    let Two::Values(second, third) = rest else {
+        return Three::Bad;
+    };
+    Three::Values(first, second, third)
+}
