@@ -1,3 +1,4 @@
 pub mod Arguments
 pub mod Commands
+pub mod Lines
 pub mod Spelling

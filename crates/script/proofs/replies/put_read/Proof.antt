@@ -1,0 +1,48 @@
+-- By the cases of the reply. Assumes nothing.
+use Rattle.script.specs.Lines.{readLine}
+use borrow.Author.Needs.{needs}
+use Rattle.script.proofs.replies.put_read.Statement.{statement}
+use Rattle.script.proofs.replies.put_read.Tie as tie
+
+enum-told : tie.Need-enum-told
+enum-told c = search needs
+
+put-content-requires : tie.Need-put-content-requires
+put-content-requires c κs = search needs
+
+enum-known-reply : tie.Need-enum-known-reply
+enum-known-reply c = search needs
+
+number-of-requires : tie.Need-number-of-requires
+number-of-requires c κs = search needs
+
+put-number-requires : tie.Need-put-number-requires
+put-number-requires c κs = search needs
+
+same-length : tie.Need-same-length
+same-length c = search needs
+
+returns : tie.Need-returns
+unfolding readLine
+returns c = rw (c .before .before .before .before .enum-told .given .1) (c .before .before .put-content .ensures)
+
+same-length-2 : tie.Need-same-length-2
+same-length-2 c = search needs
+
+returns-2 : tie.Need-returns-2
+unfolding readLine
+returns-2 c = rw (c .before .before .before .before .before .before .reply .given .1, ← (c .before .before .before .number-of .ensures)) (c .before .before .put-number .ensures)
+
+pub put-read-spec : {M : Type 1} → statement M
+put-read-spec =
+    tie.close
+    (tie.spec
+    enum-told
+    put-content-requires
+    enum-known-reply
+    number-of-requires
+    put-number-requires
+    same-length
+    returns
+    same-length-2
+    returns-2)

@@ -1,0 +1,133 @@
+// The lines that say what a call replied.
+use crate::lines::put_number;
+use crate::lines::put_numbers;
+use crate::lines::put_pair;
+use crate::lines::put_spaced;
+use crate::lines::put_triple;
+use disk::answer::FlushReply;
+use disk::answer::MountReply;
+use disk::answer::NumberReply;
+use disk::answer::Refusal;
+use disk::answer::Reply;
+use text::decimal::put_decimal;
+use text::hex::put_hex;
+use text::line::part;
+use text::put::put_byte;
+use text::put::put_bytes;
+ghost use mathlib.Core.Path.{_≡_};
+ghost use Rattle.text.specs.Written.{Puts};
+ghost use Rattle.disk.specs.Answers.{number};
+ghost use Rattle.script.specs.Lines.{answerLine, numberedLine, mountLine, flushLine, endedLine, readLine, contentLine, inventoryLine, countedLine};
+
+// `A`
+pub fn put_answer(out: &mut [u8], at: usize, reply: Reply) -> usize
+    ensures { λ r. ⌜ Puts (now (out .entry)) at (answerLine reply) (now (out .exit)) r ⌝ }
+{
+    match reply {
+        Reply::Accepted => put_number(out, at, 0),
+        Reply::Refused(x) => put_number(out, at, number_of(x)),
+    }
+}
+
+// `A N`
+pub fn put_numbered(out: &mut [u8], at: usize, reply: NumberReply) -> usize
+    ensures { λ r. ⌜ Puts (now (out .entry)) at (numberedLine reply) (now (out .exit)) r ⌝ }
+{
+    match reply {
+        NumberReply::Number(n) => put_pair(out, at, 0, n as u64),
+        NumberReply::Refused(x) => put_pair(out, at, number_of(x), 0),
+    }
+}
+
+// `A SEGMENT ENTRY`
+pub fn put_mounted(out: &mut [u8], at: usize, reply: MountReply) -> usize
+    ensures { λ r. ⌜ Puts (now (out .entry)) at (mountLine reply) (now (out .exit)) r ⌝ }
+{
+    match reply {
+        MountReply::Accepted => put_triple(out, at, 0, 0, 0),
+        MountReply::Fault { segment, entry } => {
+            put_triple(out, at, 2, segment as u64, entry as u64)
+        }
+        MountReply::Refused(x) => put_triple(out, at, number_of(x), 0, 0),
+    }
+}
+
+// `A STORES ENDING`
+pub fn put_flushed(out: &mut [u8], at: usize, reply: FlushReply) -> usize
+    ensures { λ r. ⌜ Puts (now (out .entry)) at (flushLine reply) (now (out .exit)) r ⌝ }
+{
+    match reply {
+        FlushReply::Drained(n) => put_ended(out, at, 0, n as u64, b"drained"),
+        FlushReply::Full(n) => put_ended(out, at, 0, n as u64, b"full"),
+        FlushReply::Spent(n) => put_ended(out, at, 0, n as u64, b"spent"),
+        FlushReply::Refused(x) => put_ended(out, at, number_of(x), 0, b"-"),
+    }
+}
+
+fn put_ended(out: &mut [u8], at: usize, a: u64, stores: u64, ending: &[u8]) -> usize
+    ensures { λ r. ⌜ Puts (now (out .entry)) at (endedLine a stores (now (ending .entry))) (now (out .exit)) r ⌝ }
+{
+    let mut position = put_decimal(out, at, a);
+    position = put_spaced(out, position, stores);
+    position = put_byte(out, position, b' ');
+    position = put_bytes(out, position, ending);
+    put_byte(out, position, b'\n')
+}
+
+// `A HEX`, refused: `A`
+pub fn put_read(out: &mut [u8], at: usize, reply: Reply, content: &[u8]) -> usize
+    ensures { λ r. ⌜ Puts (now (out .entry)) at (readLine reply (now (content .entry))) (now (out .exit)) r ⌝ }
+{
+    match reply {
+        Reply::Accepted => put_content(out, at, content),
+        Reply::Refused(x) => put_number(out, at, number_of(x)),
+    }
+}
+
+fn put_content(out: &mut [u8], at: usize, content: &[u8]) -> usize
+    ensures { λ r. ⌜ Puts (now (out .entry)) at (contentLine (now (content .entry))) (now (out .exit)) r ⌝ }
+{
+    let mut position = put_bytes(out, at, b"0 ");
+    position = put_hex(out, position, content);
+    put_byte(out, position, b'\n')
+}
+
+// `A COUNT L L ..`: so many of the lists stand in the lent bytes.
+pub fn put_inventory(out: &mut [u8], at: usize, reply: NumberReply, lists: &[u8]) -> usize
+    ensures { λ r. ⌜ Puts (now (out .entry)) at (inventoryLine reply (now (lists .entry))) (now (out .exit)) r ⌝ }
+{
+    match reply {
+        NumberReply::Number(n) => put_counted(out, at, n as u64, part(lists, 0, n)),
+        NumberReply::Refused(x) => put_pair(out, at, number_of(x), 0),
+    }
+}
+
+fn put_counted(out: &mut [u8], at: usize, n: u64, lists: &[u8]) -> usize
+    ensures { λ r. ⌜ Puts (now (out .entry)) at (countedLine n (now (lists .entry))) (now (out .exit)) r ⌝ }
+{
+    let mut position = put_bytes(out, at, b"0");
+    position = put_spaced(out, position, n);
+    position = put_numbers(out, position, lists);
+    put_byte(out, position, b'\n')
+}
+
+// The question's number.
+pub fn number_of(x: Refusal) -> u64
+    ensures { λ r. ⌜ r ≡ number x ⌝ }
+{
+    match x {
+        Refusal::WrongLength => 1,
+        Refusal::LogFault => 2,
+        Refusal::RecordUnsound => 3,
+        Refusal::StreamClosed => 4,
+        Refusal::OutOfRange => 5,
+        Refusal::UnitOpen => 6,
+        Refusal::ListNotTaken => 7,
+        Refusal::BlockNotPlaced => 8,
+        Refusal::PredecessorElsewhere => 9,
+        Refusal::NoNumberFree => 10,
+        Refusal::JournalFull => 11,
+        Refusal::Conflict => 12,
+        Refusal::QueueFull => 13,
+    }
+}
