@@ -1,10 +1,11 @@
 -- One parsed entry: how it is read, and what a step says of the items of its segment.
 use mathlib.Core.Path.{_≡_, refl, sym, ap, _∙_}
-use mathlib.Core.Bool.{Bool, true, false}
+use mathlib.Core.Bool.{Bool, true, false, true≢false}
 use mathlib.Core.Option.{Option, none, some, Option·none-ne-some, Option·some-injective}
 use mathlib.Core.List.{List, _∷_, _++_}
 use Prim.Native.Nat.{ℕ, suc, _+_, _-_, _*_, _%_, _≤_, _<_}
 use native.Mathlib.Omega.{arith}
+use native.Mathlib.Nat.{add-zero}
 use lib.Bits.{bitAnd, and-mask}
 use lib.Dec.{leb}
 use lib.ListN.{length, set, length-append}
@@ -19,8 +20,9 @@ use Rattle.log.specs.Card.{part, usedBy, isNext, entryAt, Item, good, it
 use Rattle.log.specs.Feed.{Lent, memberSet, fieldsOf, ReadTo, Commits}
 use Rattle.log.specs.Location.{cardLocation}
 use Rattle.log.specs.Parse.{byteAt, decodedAt}
-use Rattle.log.specs.Walk.{entered, runAfter, Enters, Steps, Went}
+use Rattle.log.specs.Walk.{entered, runAfter, Reads, inTurn, stepIf, Enters, Steps, Went}
 use Rattle.log.specs.declared.walk.Cursor.{Cursor}
+use Rattle.log.specs.declared.walk.Step.{Step}
 use Rattle.log.specs.declared.walk.Step.the-variants.{Next, Stuck}
 use Rattle.log.specs.declared.entry.LogEntry.{LogEntry}
 use Rattle.log.specs.declared.entry.LogEntry.the-variants.{Take, PutFirst, PutAfter, Write, DeleteBlock, DeleteList, Commit}
@@ -30,26 +32,56 @@ use Rattle.log.proofs.Segment.{used-map}
 use Rattle.log.proofs.Parsing.{admitted, at-bad, at-cut, at-entry, legal-at, part-size}
 use Rattle.log.proofs.Feeding.{NoCommit, fieldsChange, ended, legal-ranged, read-now, read-later}
 
--- A parsed entry, which is x.
+-- A parsed entry, which is x, read.
 module _ (m : Lent) (run : ℕ) (e x : LogEntry) (q : e ≡ x) (d : ℕ) where
-  pub enters-now : (b : Bool) (u : Tables) → NoCommit x → DidSome (fieldsChange x d) (m .tables) b u → Enters m run false e d b (ended m u)
-  enters-now b u n w r k l = rw q (read-now x n m run r k d (legal-ranged x n (rw q at l)) b u w)
+  reads-now : (b : Bool) (u : Tables) → NoCommit x → DidSome (fieldsChange x d) (m .tables) b u → Reads m run false e d b (ended m u)
+  reads-now b u n w r k l = rw q (read-now x n m run r k d (legal-ranged x n (rw q at l)) b u w)
 
-  pub enters-later : (d′ : ℕ) → NoCommit x → entered true x ≡ some (asEntry true x) → fieldsChange x d′ ≡ fieldsChange x d
-      → Enters m run true e d true
+  reads-later : (d′ : ℕ) → NoCommit x → entered true x ≡ some (asEntry true x) → fieldsChange x d′ ≡ fieldsChange x d
+      → Reads m run true e d true
       (record {
         tables = m .tables;
         members = memberSet (m .members) run (fieldsOf x .kind) (fieldsOf x .block) (fieldsOf x .list) (fieldsOf x .predecessor);
         locations = set (m .locations) (run % 16) d′;
       })
-  enters-later d′ n p v r k l = rw (q, p) (read-later x n m run r k d (legal-ranged x n (rw q at l)) d′ v)
+  reads-later d′ n p v r k l = rw (q, p) (read-later x n m run r k d (legal-ranged x n (rw q at l)) d′ v)
 
-  pub enters-never : (m′ : Lent) → entered true x ≡ none → Enters m run true e d false m′
-  enters-never m′ p r k l = rw (q, p) refl
-
-pub enters-commit : (m : Lent) (run : ℕ) (e : LogEntry) (n d : ℕ) → e ≡ Commit n → (b : Bool) (m′ : Lent) → Commits m run n b m′ → Enters m run false e d b m′
+reads-commit : (m : Lent) (run : ℕ) (e : LogEntry) (n d : ℕ) → e ≡ Commit n → (b : Bool) (m′ : Lent) → Commits m run n b m′ → Reads m run false e d b m′
 unfolding asEntry mapEntry legal
-enters-commit m run e n d q b m′ w r k l = rw q (w r k (leb-true n 15 (rw q at l)))
+reads-commit m run e n d q b m′ w r k l = rw q (w r k (leb-true n 15 (rw q at l)))
+
+-- Its slot compared too, k slots being used before it, j behind it.
+module _ (m : Lent) (run : ℕ) (e x : LogEntry) (q : e ≡ x) (d a k : ℕ) where
+  enters-if : (t b : Bool) (m′ : Lent) (s : Step) (j : ℕ) → s ≡ stepIf b a j (runAfter t run) → inTurn x k ≡ true → j ≡ k + usedBy (carried (asEntry false x)) → Reads m run t e d b m′
+      → Enters m run t e d a k s m′
+  enters-if t true m′ s j g p u w = rw (g, u, q) (p, refl, rw q at w)
+  enters-if t false m′ s j g p u w = rw g (λ p′. w)
+
+  pub enters-now : (b : Bool) (u : Tables) (s : Step) (j : ℕ) → s ≡ stepIf b a j 0 → inTurn x k ≡ true → j ≡ k + usedBy (carried (asEntry false x)) → NoCommit x
+      → DidSome (fieldsChange x d) (m .tables) b u → Enters m run false e d a k s (ended m u)
+  enters-now b u s j g p l n w = enters-if false b (ended m u) s j g p l (reads-now m run e x q d b u n w)
+
+  pub enters-later : (d′ : ℕ) (s : Step) (j : ℕ) → s ≡ stepIf true a j (run + 1) → inTurn x k ≡ true → j ≡ k + usedBy (carried (asEntry false x)) → NoCommit x
+      → entered true x ≡ some (asEntry true x) → fieldsChange x d′ ≡ fieldsChange x d
+      → Enters m run true e d a k s
+      (record {
+        tables = m .tables;
+        members = memberSet (m .members) run (fieldsOf x .kind) (fieldsOf x .block) (fieldsOf x .list) (fieldsOf x .predecessor);
+        locations = set (m .locations) (run % 16) d′;
+      })
+  enters-later d′ s j g p l n o v = enters-if true true _ s j g p l (reads-later m run e x q d d′ n o v)
+
+  -- a take or a commit with the mark, or a write from another slot
+  pub enters-never : (m′ : Lent) → entered true x ≡ none → Enters m run true e d a k Stuck m′
+  enters-never m′ p p′ r h l = rw (q, p) refl
+
+  pub enters-wrong : (t : Bool) (m′ : Lent) → inTurn x k ≡ false → Enters m run t e d a k Stuck m′
+  enters-wrong t m′ p p′ = absurd (true≢false (sym (rw q at p′) ∙ p))
+
+pub enters-commit : (m : Lent) (run : ℕ) (e : LogEntry) (n d a k : ℕ) (q : e ≡ Commit n) (b : Bool) (m′ : Lent) (s : Step) → s ≡ stepIf b a k 0 → Commits m run n b m′
+    → Enters m run false e d a k s m′
+unfolding asEntry isNext carried usedBy
+enters-commit m run e n d a k q b m′ s g w = enters-if m run e (Commit n) q d a k false b m′ s k g refl (sym (add-zero k)) (reads-commit m run e n d q b m′ w)
 
 -- The mark of a member changes nothing of what an entry carries.
 carried-mark : (e : LogEntry) (y : Entry ℕ) (t : Bool) → entered t e ≡ some y → carried y ≡ carried (asEntry false e)
@@ -159,7 +191,7 @@ module _ (c : List ℕ) (g : ℕ) (cur : Cursor) (m m′ : Lent) (h : 4096 * g +
           ≡ bind (admitted (leb 128 b) x (cur .slots)) (λ y. some (y, part c (cur .at + n) (4096 * g + 4096)))
       here = at-entry c (cur .at) (4096 * g + 4096) h b q v (cur .slots) n x (rw (and-mask b 7) at d) w
 
-      pub steps-wrong : isNext (cur .slots) (carried (asEntry false x)) ≡ false → Steps c g cur m Stuck m′
+      steps-wrong : isNext (cur .slots) (carried (asEntry false x)) ≡ false → Steps c g cur m Stuck m′
       steps-wrong p = stuck-at (here ∙ rw (admitted-wrong (leb 128 b) x (cur .slots) p))
 
       module _ (p : isNext (cur .slots) (carried (asEntry false x)) ≡ true) where
@@ -173,7 +205,7 @@ module _ (c : List ℕ) (g : ℕ) (cur : Cursor) (m m′ : Lent) (h : 4096 * g +
         next-slot : (y : Entry ℕ) → entered (leb 128 b) x ≡ some y → isNext (cur .slots) (carried y) ≡ true
         next-slot y u = rw (carried-mark x y (leb 128 b) u) p
 
-        pub steps-refused : Enters m (cur .run) (leb 128 b) x (cardLocation g (cur .slots)) false m′ → Steps c g cur m Stuck m′
+        steps-refused : Reads m (cur .run) (leb 128 b) x (cardLocation g (cur .slots)) false m′ → Steps c g cur m Stuck m′
         steps-refused f r k j i is = go (entered (leb 128 b) x) refl (f r k legal-here)
           where
             go : (o : Option (Entry ℕ)) → entered (leb 128 b) x ≡ o → bind o (λ y. read 0 r (mapEntry (λ s. cardLocation g (cur .slots)) y)) ≡ none
@@ -183,7 +215,7 @@ module _ (c : List ℕ) (g : ℕ) (cur : Cursor) (m m′ : Lent) (h : 4096 * g +
                 items-stuck cardLocation g (cur .slots) j i (part c (cur .at) (4096 * g + 4096)) is r y (part c (cur .at + n) (4096 * g + 4096)) (here-is (some y) u)
                 (rw (place-next (cardLocation g) (cur .slots) y (next-slot y u)) at z)
 
-        pub steps-next : cur .at ≤ 4096 * g + 4096 → Enters m (cur .run) (leb 128 b) x (cardLocation g (cur .slots)) true m′
+        steps-next : cur .at ≤ 4096 * g + 4096 → Reads m (cur .run) (leb 128 b) x (cardLocation g (cur .slots)) true m′
             → Steps c g cur m (Next (cursor (cur .at + n) (cur .slots + usedBy (carried (asEntry false x))) (runAfter (leb 128 b) (cur .run)))) m′
         steps-next a f = record {
           onward = omega arith;
@@ -221,3 +253,11 @@ module _ (c : List ℕ) (g : ℕ) (cur : Cursor) (m m′ : Lent) (h : 4096 * g +
                   reads = rw (place-next (cardLocation g) (cur .slots) y (next-slot y u)) at (z .1);
                   kept = z .2;
                 }
+
+      pub steps-entered : (s : Step) → cur .at ≤ 4096 * g + 4096 → Enters m (cur .run) (leb 128 b) x (cardLocation g (cur .slots)) (cur .at + n) (cur .slots) s m′ → Steps c g cur m s m′
+      steps-entered Stuck l f = go (inTurn x (cur .slots)) refl
+        where
+          go : (t : Bool) → inTurn x (cur .slots) ≡ t → Steps c g cur m Stuck m′
+          go true p = steps-refused p (f p)
+          go false p = steps-wrong p
+      steps-entered (Next next) l f = rw (f .1) (steps-next (f .0) l (f .2))

@@ -11,7 +11,7 @@ use lib.ListN.{length}
 use Rattle.lists.specs.Basic.{bind}
 use Rattle.log.specs.Entry.{Entry, mapEntry, carried, entryLength, asEntry, legal}
 use Rattle.log.specs.Reader.{Reader, read}
-use Rattle.log.specs.Card.{part, count, usedBy, Item, good, bad, itemsOf, segmentItems, afterEmpty, sound, fault, walk, walkCard, segmentBytes}
+use Rattle.log.specs.Card.{part, count, usedBy, isNext, Item, good, bad, itemsOf, segmentItems, afterEmpty, sound, fault, walk, walkCard, segmentBytes}
 use Rattle.log.specs.Location.{blank, cardLocation}
 use Rattle.log.specs.Feed.{Lent, Kept, ReadTo}
 use Rattle.log.specs.Store.{opened, behindAll, tail}
@@ -42,9 +42,23 @@ abbrev pub runAfter : Bool → ℕ → ℕ
 runAfter t run = cond t (run + 1) 0
 
 -- a parsed entry read, a write's data standing at location d
-abbrev pub Enters : Lent → ℕ → Bool → LogEntry → ℕ → Bool → Lent → Type 0
-Enters m run t e d b m′ =
+abbrev pub Reads : Lent → ℕ → Bool → LogEntry → ℕ → Bool → Lent → Type 0
+Reads m run t e d b m′ =
     (r : Reader ℕ) → Kept m run r → legal (asEntry false e) ≡ true → ReadTo (bind (entered t e) (λ x. read blank r (mapEntry (λ s. d) x))) b m′ (runAfter t run)
+
+-- is its slot, if it writes, the next one, k?
+abbrev pub inTurn : LogEntry → ℕ → Bool
+inTurn e k = isNext k (carried (asEntry false e))
+
+abbrev pub stepIf : Bool → ℕ → ℕ → ℕ → Step
+stepIf true a k run = Next (record { at = a; slots = k; run = run })
+stepIf false a k run = Stuck
+
+-- its slot compared and the entry read, k slots being used before it; a is behind it
+abbrev pub Enters : Lent → ℕ → Bool → LogEntry → ℕ → ℕ → ℕ → Step → Lent → Type 0
+Enters m run t e d a k Stuck m′ = inTurn e k ≡ true → Reads m run t e d false m′
+Enters m run t e d a k (Next next) m′ =
+    (inTurn e k ≡ true) × (next ≡ record { at = a; slots = k + usedBy (carried (asEntry false e)); run = runAfter t run }) × Reads m run t e d true m′
 
 -- a cursor in segment g of the card
 pub record OnSegment (c : List ℕ) (g : ℕ) (cur : Cursor) : Type 0 where

@@ -1,11 +1,24 @@
 -- Each arm acts as its kind does; a commit takes its members. Assumes nothing.
+use mathlib.Core.Path.{refl, sym}
+use mathlib.Core.Bool.{false}
+use Prim.Native.Nat.{_+_}
 use native.Mathlib.Omega.{arith}
+use native.Mathlib.Nat.{add-zero}
+use borrow.Author.Tests.{eq-eqb, ne-eqb}
+use Rattle.lists.specs.Change.{carriedBy}
 use Rattle.lists.specs.Tables.{tables, ofKind}
+use Rattle.log.specs.Entry.{asEntry, carried}
+use Rattle.log.specs.Card.{isNext, usedBy}
 use Rattle.log.specs.Feed.{lent}
-use Rattle.log.proofs.Entering.{enters-now, enters-commit}
+use Rattle.log.proofs.Entering.{enters-now, enters-wrong, enters-commit}
 use borrow.Author.Needs.{needs}
 use Rattle.log.proofs.walk.plain.Statement.{statement}
 use Rattle.log.proofs.walk.plain.Tie as tie
+use Rattle.log.proofs.walk.plain.Reads as reads
+use Rattle.log.proofs.walk.plain.Lts as lts
+use Rattle.lists.proofs.tables.act.Reads as act-reads
+use Rattle.log.proofs.feed.commit.Reads as commit-reads
+use Rattle.log.proofs.walk.go.Reads as go-reads
 
 enum-known-e : tie.Need-enum-known-e
 enum-known-e c = search needs
@@ -13,11 +26,17 @@ enum-known-e c = search needs
 act-requires : tie.Need-act-requires
 act-requires c κs = search needs
 
+go-requires : tie.Need-go-requires
+go-requires c κs = search needs
+
 enum-known-e-2 : tie.Need-enum-known-e-2
 enum-known-e-2 c = search needs
 
 act-requires-2 : tie.Need-act-requires-2
 act-requires-2 c κs = search needs
+
+go-requires-2 : tie.Need-go-requires-2
+go-requires-2 c κs = search needs
 
 enum-known-e-3 : tie.Need-enum-known-e-3
 enum-known-e-3 c = search needs
@@ -25,11 +44,29 @@ enum-known-e-3 c = search needs
 act-requires-3 : tie.Need-act-requires-3
 act-requires-3 c κs = search needs
 
+go-requires-3 : tie.Need-go-requires-3
+go-requires-3 c κs = search needs
+
 enum-known-e-4 : tie.Need-enum-known-e-4
 enum-known-e-4 c = search needs
 
+cast-if1 : tie.Need-cast-if1
+cast-if1 c = search needs
+
+returns : tie.Need-returns
+unfolding ofKind isNext carried carriedBy asEntry usedBy
+returns c =
+    let s = c .before .before .before .before .args in
+    enters-wrong (lent (s .next .now) (s .prev .now) (s .owner .now) (s .place .now) (s .members .now) (s .locations .now)) (s .run) (s .e) _ (c .before .before .e4 .given .1) (s .location) (s .at) (s .slots) false (lent (s .next .now) (s .prev .now) (s .owner .now) (s .place .now) (s .members .now) (s .locations .now)) (ne-eqb _ _ (c .if1 .taken))
+
 act-requires-4 : tie.Need-act-requires-4
 act-requires-4 c κs = search needs
+
+add-go : tie.Need-add-go
+add-go c = search needs
+
+go-requires-4 : tie.Need-go-requires-4
+go-requires-4 c κs = search needs
 
 enum-known-e-5 : tie.Need-enum-known-e-5
 enum-known-e-5 c = search needs
@@ -37,11 +74,17 @@ enum-known-e-5 c = search needs
 act-requires-5 : tie.Need-act-requires-5
 act-requires-5 c κs = search needs
 
+go-requires-5 : tie.Need-go-requires-5
+go-requires-5 c κs = search needs
+
 enum-known-e-6 : tie.Need-enum-known-e-6
 enum-known-e-6 c = search needs
 
 act-requires-6 : tie.Need-act-requires-6
 act-requires-6 c κs = search needs
+
+go-requires-6 : tie.Need-go-requires-6
+go-requires-6 c κs = search needs
 
 enum-known-e-7 : tie.Need-enum-known-e-7
 enum-known-e-7 c = search needs
@@ -52,58 +95,61 @@ cast-n c = search needs
 commit-requires : tie.Need-commit-requires
 commit-requires c κs = search needs
 
-returns : tie.Need-returns
-unfolding ofKind
-returns c =
-    let s = c .before .before .before .before .before .before .before .before .args in
-    let a = c .act in
-    enters-now (lent (s .next .now) (s .prev .now) (s .owner .now) (s .place .now) (s .members .now) (s .locations .now)) (s .run) (s .e) _ (c .before .before .before .before .before .before .e .given .1) (s .location) (a .result) (tables (a .last .0) (a .last .1 .0) (a .last .1 .1 .0) (a .last .1 .1 .1 .0)) (λ z. omega arith)
-    (a .ensures)
+go-requires-7 : tie.Need-go-requires-7
+go-requires-7 c κs = search needs
 
 returns-2 : tie.Need-returns-2
-unfolding ofKind
+unfolding ofKind isNext carried carriedBy asEntry usedBy
 returns-2 c =
-    let s = c .before .before .before .before .before .before .before .before .args in
-    let a = c .act2 in
-    enters-now (lent (s .next .now) (s .prev .now) (s .owner .now) (s .place .now) (s .members .now) (s .locations .now)) (s .run) (s .e) _ (c .before .before .before .before .before .before .e2 .given .1) (s .location) (a .result) (tables (a .last .0) (a .last .1 .0) (a .last .1 .1 .0) (a .last .1 .1 .1 .0)) (λ z. omega arith)
+    let s = c .before .before .before .before .before .before .before .before .before .args in
+    let a = c .before .act in
+    enters-now (lent (s .next .now) (s .prev .now) (s .owner .now) (s .place .now) (s .members .now) (s .locations .now)) (s .run) (s .e) _ (c .before .before .before .before .before .before .before .e .given .1) (s .location) (s .at) (s .slots) (a .result) (tables (a .last .0) (a .last .1 .0) (a .last .1 .1 .0) (a .last .1 .1 .1 .0)) _ (s .slots) (c .go .ensures) refl (sym (add-zero (s .slots))) (λ z. omega arith)
     (a .ensures)
 
 returns-3 : tie.Need-returns-3
-unfolding ofKind
+unfolding ofKind isNext carried carriedBy asEntry usedBy
 returns-3 c =
-    let s = c .before .before .before .before .before .before .before .before .args in
-    let a = c .act3 in
-    enters-now (lent (s .next .now) (s .prev .now) (s .owner .now) (s .place .now) (s .members .now) (s .locations .now)) (s .run) (s .e) _ (c .before .before .before .before .before .before .e3 .given .1) (s .location) (a .result) (tables (a .last .0) (a .last .1 .0) (a .last .1 .1 .0) (a .last .1 .1 .1 .0)) (λ z. omega arith)
+    let s = c .before .before .before .before .before .before .before .before .before .args in
+    let a = c .before .act2 in
+    enters-now (lent (s .next .now) (s .prev .now) (s .owner .now) (s .place .now) (s .members .now) (s .locations .now)) (s .run) (s .e) _ (c .before .before .before .before .before .before .before .e2 .given .1) (s .location) (s .at) (s .slots) (a .result) (tables (a .last .0) (a .last .1 .0) (a .last .1 .1 .0) (a .last .1 .1 .1 .0)) _ (s .slots) (c .go2 .ensures) refl (sym (add-zero (s .slots))) (λ z. omega arith)
     (a .ensures)
 
 returns-4 : tie.Need-returns-4
-unfolding ofKind
+unfolding ofKind isNext carried carriedBy asEntry usedBy
 returns-4 c =
-    let s = c .before .before .before .before .before .before .before .before .args in
-    let a = c .act4 in
-    enters-now (lent (s .next .now) (s .prev .now) (s .owner .now) (s .place .now) (s .members .now) (s .locations .now)) (s .run) (s .e) _ (c .before .before .before .before .before .before .e4 .given .1) (s .location) (a .result) (tables (a .last .0) (a .last .1 .0) (a .last .1 .1 .0) (a .last .1 .1 .1 .0)) (λ z. omega arith)
+    let s = c .before .before .before .before .before .before .before .before .before .args in
+    let a = c .before .act3 in
+    enters-now (lent (s .next .now) (s .prev .now) (s .owner .now) (s .place .now) (s .members .now) (s .locations .now)) (s .run) (s .e) _ (c .before .before .before .before .before .before .before .e3 .given .1) (s .location) (s .at) (s .slots) (a .result) (tables (a .last .0) (a .last .1 .0) (a .last .1 .1 .0) (a .last .1 .1 .1 .0)) _ (s .slots) (c .go3 .ensures) refl (sym (add-zero (s .slots))) (λ z. omega arith)
     (a .ensures)
 
 returns-5 : tie.Need-returns-5
-unfolding ofKind
+unfolding ofKind isNext carried carriedBy asEntry usedBy
 returns-5 c =
-    let s = c .before .before .before .before .before .before .before .before .args in
-    let a = c .act5 in
-    enters-now (lent (s .next .now) (s .prev .now) (s .owner .now) (s .place .now) (s .members .now) (s .locations .now)) (s .run) (s .e) _ (c .before .before .before .before .before .before .e5 .given .1) (s .location) (a .result) (tables (a .last .0) (a .last .1 .0) (a .last .1 .1 .0) (a .last .1 .1 .1 .0)) (λ z. omega arith)
+    let s = c .before .before .before .before .before .before .before .before .before .before .args in
+    let a = c .before .act4 in
+    enters-now (lent (s .next .now) (s .prev .now) (s .owner .now) (s .place .now) (s .members .now) (s .locations .now)) (s .run) (s .e) _ (c .before .before .before .before .before .before .before .before .e4 .given .1) (s .location) (s .at) (s .slots) (a .result) (tables (a .last .0) (a .last .1 .0) (a .last .1 .1 .0) (a .last .1 .1 .1 .0)) _ (s .slots + 1) (c .go4 .ensures) (eq-eqb _ _ (c .before .before .before .before .before .before .if1 .left)) refl (λ z. omega arith)
     (a .ensures)
 
 returns-6 : tie.Need-returns-6
-unfolding ofKind
+unfolding ofKind isNext carried carriedBy asEntry usedBy
 returns-6 c =
-    let s = c .before .before .before .before .before .before .before .before .args in
-    let a = c .act6 in
-    enters-now (lent (s .next .now) (s .prev .now) (s .owner .now) (s .place .now) (s .members .now) (s .locations .now)) (s .run) (s .e) _ (c .before .before .before .before .before .before .e6 .given .1) (s .location) (a .result) (tables (a .last .0) (a .last .1 .0) (a .last .1 .1 .0) (a .last .1 .1 .1 .0)) (λ z. omega arith)
+    let s = c .before .before .before .before .before .before .before .before .before .args in
+    let a = c .before .act5 in
+    enters-now (lent (s .next .now) (s .prev .now) (s .owner .now) (s .place .now) (s .members .now) (s .locations .now)) (s .run) (s .e) _ (c .before .before .before .before .before .before .before .e5 .given .1) (s .location) (s .at) (s .slots) (a .result) (tables (a .last .0) (a .last .1 .0) (a .last .1 .1 .0) (a .last .1 .1 .1 .0)) _ (s .slots) (c .go5 .ensures) refl (sym (add-zero (s .slots))) (λ z. omega arith)
     (a .ensures)
 
 returns-7 : tie.Need-returns-7
+unfolding ofKind isNext carried carriedBy asEntry usedBy
 returns-7 c =
-    let s = c .before .before .before .before .before .before .before .before .args in
-    enters-commit (lent (s .next .now) (s .prev .now) (s .owner .now) (s .place .now) (s .members .now) (s .locations .now)) (s .run) (s .e) _ (s .location) (c .before .before .before .before .before .before .e7 .given .1) (c .commit .result) _ (c .commit .ensures)
+    let s = c .before .before .before .before .before .before .before .before .before .args in
+    let a = c .before .act6 in
+    enters-now (lent (s .next .now) (s .prev .now) (s .owner .now) (s .place .now) (s .members .now) (s .locations .now)) (s .run) (s .e) _ (c .before .before .before .before .before .before .before .e6 .given .1) (s .location) (s .at) (s .slots) (a .result) (tables (a .last .0) (a .last .1 .0) (a .last .1 .1 .0) (a .last .1 .1 .1 .0)) _ (s .slots) (c .go6 .ensures) refl (sym (add-zero (s .slots))) (λ z. omega arith)
+    (a .ensures)
+
+returns-8 : tie.Need-returns-8
+returns-8 c =
+    let s = c .before .before .before .before .before .before .before .before .before .args in
+    enters-commit (lent (s .next .now) (s .prev .now) (s .owner .now) (s .place .now) (s .members .now) (s .locations .now)) (s .run) (s .e) _ (s .location) (s .at) (s .slots) (c .before .before .before .before .before .before .before .e7 .given .1) (c .before .commit .result) _ _ (c .go7 .ensures) (c .before .commit .ensures)
 
 pub plain-spec : {M : Type 1} → statement M
 plain-spec =
@@ -111,23 +157,33 @@ plain-spec =
     (tie.spec
     enum-known-e
     act-requires
+    go-requires
     enum-known-e-2
     act-requires-2
+    go-requires-2
     enum-known-e-3
     act-requires-3
+    go-requires-3
     enum-known-e-4
+    cast-if1
+    returns
     act-requires-4
+    add-go
+    go-requires-4
     enum-known-e-5
     act-requires-5
+    go-requires-5
     enum-known-e-6
     act-requires-6
+    go-requires-6
     enum-known-e-7
     cast-n
     commit-requires
-    returns
+    go-requires-7
     returns-2
     returns-3
     returns-4
     returns-5
     returns-6
-    returns-7)
+    returns-7
+    returns-8)
