@@ -1,0 +1,138 @@
+-- Question 3 by its parts: the clauses that the record decides, and those behind the log, asked at locations.
+use mathlib.Core.Path.{_≡_, refl, sym, ap, _∙_}
+use mathlib.Core.Bool.{Bool, true, false, _&&_}
+use mathlib.Core.Option.{Option, none, some}
+use mathlib.Core.List.{List, [], _∷_, _++_, map}
+use Prim.Native.Nat.{ℕ, zero, suc}
+use lib.Dec.{leb, ltb}
+use Rattle.lists.specs.Basic.{isSome, all, each, from}
+use Rattle.lists.specs.Change.{Change, takeList, putFirst, putAfter, write, delBlock, delList, mapChange}
+use Rattle.lists.specs.State.{mapRow}
+use Rattle.lists.proofs.Naturality.{mapOption, placed-map}
+use Rattle.log.specs.Entry.{member, raw, legal, mapEntry, isBlock, isList}
+use Rattle.log.specs.Reader.{Reader, replay}
+use Rattle.log.specs.Card.{Content, slot, sound, fault, mounted, cardLength, walkCard}
+use Rattle.log.specs.Location.{blank, cardLocation}
+use Rattle.log.proofs.Naturality.{mapReader, raw-map}
+use Rattle.disk.specs.declared.record.Record.{Record}
+use Rattle.disk.specs.Record.{shaped, unitAt, unitCount}
+use Rattle.disk.specs.Disk.{Disk, disk, unitOf, queuedAt, queued, journalPlace, journalAt, journalOf, readerOf, committedReader, stateOf, committed}
+use Rattle.disk.specs.Sound.{isOpenUnit, putBy, journalSound, unitSound, holderSound, headStanding, recordSound}
+use Rattle.inspect.specs.Located.{contents, queueHere}
+use Rattle.inspect.specs.Clauses.{numbersRight, changeRight, changeIn, unitRight, unitsRight, openUnit, holderRight, holdersRight, lawful, rowsOf, settled}
+use Rattle.inspect.specs.Inspect.{behindLog}
+use Rattle.inspect.proofs.Judging.{and-no}
+use Rattle.inspect.proofs.Locating.{queue-here, committed-here, some-map}
+
+-- two tests that agree
+module _ {A B : Type 0} (p : A → Bool) (q : B → Bool) where
+  all-same : (f : ℕ → A) (g : ℕ → B) (k n : ℕ) → ((i : ℕ) → p (f i) ≡ q (g i)) → all p (from f k n) ≡ all q (from g k n)
+  unfolding all from
+  all-same f g k zero e = refl
+  all-same f g k (suc n) e = rw (e k, all-same f g (suc k) n e)
+
+  all-map : (f : B → A) → ((x : B) → p (f x) ≡ q x) → (xs : List B) → all p (map f xs) ≡ all q xs
+  unfolding all
+  all-map f e [] = refl
+  all-map f e (x ∷ xs) = rw (e x, all-map f e xs)
+
+each-append : (xs ys : List Bool) → each (xs ++ ys) ≡ each xs && each ys
+unfolding each
+each-append [] ys = refl
+each-append (true ∷ xs) ys = each-append xs ys
+each-append (false ∷ xs) ys = refl
+
+-- five tests in another order
+turned : (l u s h o : Bool) → each (l ∷ u ∷ s ∷ h ∷ o ∷ []) ≡ u && each (l ∷ s ∷ o ∷ h ∷ [])
+unfolding each
+turned false false s h o = refl
+turned false true s h o = refl
+turned true false s h o = refl
+turned true true false h o = refl
+turned true true true false false = refl
+turned true true true false true = refl
+turned true true true true false = refl
+turned true true true true true = refl
+
+-- The units.
+putBy-map : {D E : Type 0} (f : D → E) (c : Change D) → putBy (mapChange f c) ≡ putBy c
+unfolding putBy mapChange
+putBy-map f (takeList l) = refl
+putBy-map f (putFirst b l) = refl
+putBy-map f (putAfter b l p) = refl
+putBy-map f (write b d) = refl
+putBy-map f (delBlock b) = refl
+putBy-map f (delList l) = refl
+
+change-is : (r : Record) (u : ℕ) (f : ℕ → Content) (c : Change ℕ) → journalSound r u (mapChange f c) ≡ changeRight (r .holder) u c
+unfolding journalSound changeRight mapEntry
+change-is r u f c = rw (putBy-map f c, ← raw-map f 0 (member c), mapEntry)
+
+module _ (d : Disk) where
+  unit-is : (u : ℕ) → unitSound d u ≡ unitRight (d .rec .holder) (unitAt (d .rec) u) u
+  unfolding unitSound unitRight unitOf journalOf journalAt each
+  unit-is u = rw (all-same (journalSound (d .rec) u) (changeRight (d .rec .holder) u) (journalAt d u) (changeIn (unitAt (d .rec) u)) 0 (unitAt (d .rec) u .len) change-at)
+    where
+      change-at : (k : ℕ) → journalSound (d .rec) u (journalAt d u k) ≡ changeRight (d .rec .holder) u (changeIn (unitAt (d .rec) u) k)
+      change-at k = change-is (d .rec) u (λ s. slot (d .journalData) (journalPlace u k)) (changeIn (unitAt (d .rec) u) k)
+
+  units-is : all (unitSound d) (from (λ u. u) 1 unitCount) ≡ unitsRight (d .rec)
+  unfolding unitsRight
+  units-is = all-same (unitSound d) (λ u. unitRight (d .rec .holder) (unitAt (d .rec) u) u) (λ u. u) (λ u. u) 1 unitCount unit-is
+
+  pub parts : shaped (d .rec) ≡ true → recordSound d ≡ numbersRight (d .rec) && (unitsRight (d .rec) && behindLog d)
+  unfolding recordSound numbersRight behindLog each
+  parts h =
+      let r = d .rec in
+      let l = all (λ e. legal (raw 0 e)) (queued d) in
+      let u = all (unitSound d) (from (λ u. u) 1 unitCount) in
+      let s = isSome (committedReader d) in
+      let k = headStanding (d .card) (r .done) (queued d) in
+      let o = all (holderSound d) (from (λ b. b) 1 64) in
+      let ns = leb (r .len) 32 ∷ ltb (r .head) 32 ∷ isBlock (r .«last_block») ∷ isList (r .«last_list») ∷ leb (r .conflicts) 65535 ∷ [] in
+      ap (λ (b : Bool). b && each (ns ++ l ∷ u ∷ s ∷ k ∷ o ∷ [])) h
+      ∙ each-append ns (l ∷ u ∷ s ∷ k ∷ o ∷ [])
+      ∙ ap (λ (b : Bool). each ns && b) (turned l u s k o ∙ ap (λ (b : Bool). b && behindLog d) units-is)
+
+  -- A card with a fault.
+  pub fault-behind : (g i : ℕ) → mounted (d .card) ≡ fault g i → behindLog d ≡ false
+  unfolding behindLog each committedReader readerOf isSome
+  fault-behind g i e = rw e (and-no (all (λ e. legal (raw 0 e)) (queued d)))
+
+  -- A card whose log leads to reader x.
+  module _ (x : Reader ℕ) (l : cardLength (d .card) ≡ true) (w : walkCard cardLocation blank (d .card) ≡ sound x) where
+    abbrev o : Option (Reader ℕ)
+    o = replay blank x (queueHere (d .rec))
+
+    lawful-is : all (λ e. legal (raw 0 e)) (queued d) ≡ lawful (queueHere (d .rec))
+    lawful-is =
+        sym (ap (all (λ e. legal (raw 0 e))) (queue-here d))
+        ∙ all-map (λ e. legal (raw 0 e)) (λ e. legal (raw 0 e)) (mapEntry (contents d)) (λ e. rw (raw-map (contents d) 0 e)) (queueHere (d .rec))
+
+    some-is : isSome (committedReader d) ≡ isSome o
+    some-is = ap isSome (committed-here d x w l) ∙ some-map (mapReader (contents d)) o
+
+    rows-of : (p : Option (Reader ℕ)) → stateOf (mapOption (mapReader (contents d)) p) .lists ≡ map (mapRow (contents d)) (rowsOf p)
+    unfolding stateOf
+    rows-of none = refl
+    rows-of (some y) = refl
+
+    rows-is : committed d .lists ≡ map (mapRow (contents d)) (rowsOf o)
+    unfolding committed
+    rows-is = ap (λ (p : Option (Reader Content)). stateOf p .lists) (committed-here d x w l) ∙ rows-of o
+
+    holder-is : (b : ℕ) → holderSound d b ≡ holderRight (d .rec) (rowsOf o) b
+    unfolding holderSound holderRight isOpenUnit openUnit unitOf
+    holder-is b = rw (rows-is, placed-map (contents d) b (rowsOf o))
+
+    holders-is : all (holderSound d) (from (λ b. b) 1 64) ≡ holdersRight (d .rec) (rowsOf o)
+    unfolding holdersRight
+    holders-is = all-same (holderSound d) (holderRight (d .rec) (rowsOf o)) (λ b. b) (λ b. b) 1 64 holder-is
+
+    queued-is : queued d ≡ queued (disk (d .card) (d .queueData) [] (d .rec))
+    unfolding queued queuedAt
+    queued-is = refl
+
+    pub settled-is : behindLog d ≡ settled (d .card) (d .queueData) (d .rec) x
+    unfolding settled behindLog each
+    settled-is = rw (lawful-is, some-is, holders-is, queued-is)

@@ -1,0 +1,167 @@
+-- A loop that tests one element after the other; what the tests of units and holders say of the record's clauses.
+use mathlib.Core.Path.{_≡_, refl, sym, ap, _∙_}
+use mathlib.Core.Logic.{_≢_, inl, inr}
+use mathlib.Core.Bool.{Bool, true, false, _&&_}
+use mathlib.Core.List.{List, [], _∷_}
+use Prim.Native.Nat.{ℕ, _+_, _-_, _≤_, _<_}
+use native.Mathlib.Omega.{arith}
+use lib.Dec.{eqb, leb, ltb}
+use lib.ListN.{getD}
+use denote.Enum.Declared.{tagOf}
+use types.Run.{OneOf}
+use Rattle.lists.specs.Basic.{all, each, from}
+use Rattle.lists.specs.Change.{Change, putFirst, putAfter, mapChange}
+use Rattle.lists.specs.State.{Row, placed}
+use Rattle.lists.proofs.Basic.{from-step, from-none, from-shift, eqb-true, eqb-false, le-true, gt-false, leb-true, and-true}
+use Rattle.log.specs.Entry.{member, raw, legal, legalChange, hasMember, mapEntry, asChange, isBlock, isList}
+use Rattle.log.specs.declared.entry.LogEntry.{LogEntry}
+use Rattle.log.specs.declared.entry.LogEntry.the-variants.{Take, PutFirst, PutAfter, Write, DeleteBlock, DeleteList, Commit}
+use Rattle.log.proofs.entry.LogEntry.{the-type}
+use Rattle.disk.specs.declared.record.Unit.{Unit}
+use Rattle.disk.specs.declared.record.Record.{Record}
+use Rattle.disk.specs.Record.{unitAt, holderOf, unitCount}
+use Rattle.disk.specs.Sound.{putBy}
+use Rattle.inspect.specs.Clauses.{numbersRight, changeRight, changeIn, unitRight, unitsRight, openUnit, holderRight, holdersRight}
+
+pub and-yes : (b : Bool) → b && true ≡ b
+and-yes true = refl
+and-yes false = refl
+
+pub and-no : (b : Bool) → b && false ≡ false
+and-no true = refl
+and-no false = refl
+
+-- n elements, of which those before i pass
+module _ {A : Type 0} (p : A → Bool) (f : ℕ → A) (n i : ℕ) where
+  abbrev pub Left : Type 0
+  Left = all p (from f i (n - i)) ≡ all p (from f 0 n)
+
+  pub left-fails : Left → i < n → p (f i) ≡ false → false ≡ all p (from f 0 n)
+  unfolding all
+  left-fails h l e = sym (ap (λ (b : Bool). b && all p (from f (i + 1) (n - (i + 1)))) e) ∙ sym (ap (all p) (from-step f i n l)) ∙ h
+
+  pub left-ends : Left → n ≤ i → true ≡ all p (from f 0 n)
+  unfolding all
+  left-ends h l = sym (ap (all p) (from-none f i n l)) ∙ h
+
+pub left-all : {A : Type 0} (p : A → Bool) (f : ℕ → A) (n : ℕ) → Left p f n 0
+left-all p f n = let e : n - 0 ≡ n = omega arith in ap (λ (k : ℕ). all p (from f 0 k)) e
+
+pub left-passes : {A : Type 0} (p : A → Bool) (f : ℕ → A) (n i : ℕ) → Left p f n i → i < n → p (f i) ≡ true → Left p f n (i + 1)
+unfolding all
+left-passes p f n i h l e =
+    sym (ap (λ (b : Bool). b && all p (from f (i + 1) (n - (i + 1)))) e) ∙ sym (ap (all p) (from-step f i n l)) ∙ h
+
+-- numbers from 1 on, by an index from 0
+pub from-one : (n : ℕ) → from (λ u. u) 1 n ≡ from (λ i. i + 1) 0 n
+from-one n = from-shift (λ u. u) (λ i. i + 1) 1 0 n (λ k l. omega arith)
+
+-- an entry that is none of the two puts
+no-tag : (t : ℕ) → t ≢ 0 → t ≢ 3 → t ≢ 4 → t ≢ 5 → t ≢ 6 → OneOf (0 ∷ 3 ∷ 4 ∷ 5 ∷ 6 ∷ []) t → ⊥
+no-tag t a b c d e (inl k) = a k
+no-tag t a b c d e (inr (inl k)) = b k
+no-tag t a b c d e (inr (inr (inl k))) = c k
+no-tag t a b c d e (inr (inr (inr (inl k)))) = d k
+no-tag t a b c d e (inr (inr (inr (inr k)))) = e k
+
+pub put-first-block : (b l : ℕ) → legal (raw {D = ℕ} 0 (member (putFirst b l))) ≡ true → b ≤ 64
+unfolding legal raw mapEntry mapChange legalChange hasMember
+put-first-block b l h = leb-true b 64 (and-true (leb 1 b) (leb b 64) (and-true (isBlock b) (isList l) h .0) .1)
+
+pub put-after-block : (b l p : ℕ) → legal (raw {D = ℕ} 0 (member (putAfter b l p))) ≡ true → b ≤ 64
+unfolding legal raw mapEntry mapChange legalChange hasMember
+put-after-block b l p h =
+    leb-true b 64 (and-true (leb 1 b) (leb b 64) (and-true (isBlock b) (isList l) (and-true (isBlock b && isList l) (isBlock p) h .0) .0) .1)
+
+-- A change in unit u's journal.
+module _ (hs : List ℕ) (u : ℕ) where
+  pub change-wrong : (c : Change ℕ) → legal (raw 0 (member c)) ≡ false → false ≡ changeRight hs u c
+  unfolding changeRight
+  change-wrong c h = rw h
+
+  pub change-puts : (c : Change ℕ) (b : ℕ) → legal (raw 0 (member c)) ≡ true → putBy c ≡ b ∷ [] → eqb (getD hs (b - 1) 0) u ≡ changeRight hs u c
+  unfolding changeRight all
+  change-puts c b h k = rw (h, k) (sym (and-yes (eqb (getD hs (b - 1) 0) u)))
+
+  -- an entry that is none of the two puts
+  pub change-no-put : (e : LogEntry) → OneOf (0 ∷ 3 ∷ 4 ∷ 5 ∷ 6 ∷ []) (tagOf the-type e) → legal (raw 0 (member (asChange e))) ≡ true → true ≡ changeRight hs u (asChange e)
+  unfolding changeRight all asChange putBy
+  change-no-put (Take l) k h = rw h
+  change-no-put (PutFirst b l) k h = absurd (no-tag 1 (λ e. omega arith) (λ e. omega arith) (λ e. omega arith) (λ e. omega arith) (λ e. omega arith) k)
+  change-no-put (PutAfter b l p) k h = absurd (no-tag 2 (λ e. omega arith) (λ e. omega arith) (λ e. omega arith) (λ e. omega arith) (λ e. omega arith) k)
+  change-no-put (Write b s) k h = rw h
+  change-no-put (DeleteBlock b) k h = rw h
+  change-no-put (DeleteList l) k h = rw h
+  change-no-put (Commit n) k h = rw h
+
+-- A unit.
+module _ (hs : List ℕ) (x : Unit) (u : ℕ) where
+  pub unit-long : 15 < x .len → false ≡ unitRight hs x u
+  unfolding unitRight each
+  unit-long l = rw (gt-false (x .len) 15 l)
+
+  pub unit-closed : x .opened ≡ false → eqb (x .len) 0 ≡ unitRight hs x u
+  unfolding unitRight each all from
+  unit-closed h = rw h (go (eqb (x .len) 0) refl)
+    where
+      go : (b : Bool) → eqb (x .len) 0 ≡ b → b ≡ leb (x .len) 15 && (b && (all (changeRight hs u) (from (changeIn x) 0 (x .len)) && true))
+      go true e = let z = eqb-true (x .len) 0 e in rw z
+      go false e = sym (and-no (leb (x .len) 15))
+
+  pub unit-open : x .len ≤ 15 → x .opened ≡ true → all (changeRight hs u) (from (changeIn x) 0 (x .len)) ≡ unitRight hs x u
+  unfolding unitRight each
+  unit-open l h = rw (h, le-true (x .len) 15 l) (sym (and-yes (all (changeRight hs u) (from (changeIn x) 0 (x .len)))))
+
+-- The units.
+abbrev pub unitGood : Record → ℕ → Bool
+unitGood r u = unitRight (r .holder) (unitAt r u) u
+
+pub units-all : (r : Record) → all (unitGood r) (from (λ i. i + 1) 0 unitCount) ≡ unitsRight r
+unfolding unitsRight
+units-all r = ap (all (unitGood r)) (sym (from-one unitCount))
+
+module _ (r : Record) (u : ℕ) where
+  pub open-low : u < 1 → false ≡ openUnit r u
+  unfolding openUnit
+  open-low l = rw (gt-false 1 u l)
+
+  pub open-high : 4 < u → false ≡ openUnit r u
+  unfolding openUnit
+  open-high l = rw (le-true 1 u (omega arith), gt-false u 4 l)
+
+  pub open-unit : 1 ≤ u → u ≤ 4 → unitAt r u .opened ≡ openUnit r u
+  unfolding openUnit
+  open-unit a b = rw (le-true 1 u a, le-true u 4 b)
+
+-- The counts and numbers.
+pub numbers-all : (r : Record) → r .conflicts ≤ 65535 → (leb (r .len) 32 && ltb (r .head) 32) && (isBlock (r .«last_block») && isList (r .«last_list»)) ≡ numbersRight r
+unfolding numbersRight each
+numbers-all r h = rw (le-true (r .conflicts) 65535 h) (four (leb (r .len) 32) (ltb (r .head) 32) (isBlock (r .«last_block»)) (isList (r .«last_list»)))
+  where
+    four : (a b c d : Bool) → (a && b) && (c && d) ≡ a && (b && (c && (d && true)))
+    four false b c d = refl
+    four true false c d = refl
+    four true true false d = refl
+    four true true true d = sym (and-yes d)
+
+-- The holder h of block b, over the lists rs.
+module _ (r : Record) (rs : List (Row ℕ)) (b h : ℕ) (e : holderOf r b ≡ h) where
+  pub held-none : h ≡ 0 → holderRight r rs b ≡ true
+  unfolding holderRight
+  held-none z = rw (e, z)
+
+  pub held-closed : h ≢ 0 → false ≡ openUnit r h → holderRight r rs b ≡ false
+  unfolding holderRight
+  held-closed n o = rw (e, eqb-false h 0 n, ← o)
+
+  pub held-placed : h ≢ 0 → placed b rs ≡ true → holderRight r rs b ≡ false
+  unfolding holderRight
+  held-placed n k = rw (e, eqb-false h 0 n, k) (and-no (openUnit r h))
+
+  pub held-well : h ≢ 0 → openUnit r h ≡ true → placed b rs ≡ false → holderRight r rs b ≡ true
+  unfolding holderRight
+  held-well n o k = rw (e, eqb-false h 0 n, o, k)
+
+pub holders-all : (r : Record) (rs : List (Row ℕ)) → all (holderRight r rs) (from (λ i. i + 1) 0 64) ≡ holdersRight r rs
+unfolding holdersRight
+holders-all r rs = ap (all (holderRight r rs)) (sym (from-one 64))

@@ -1,0 +1,12 @@
+pub mod Behind
+pub mod Locating
+pub mod Queueing
+pub mod Judging
+pub mod Overlaying
+pub mod Searching
+pub mod Shaped
+pub mod Answering
+pub mod Settling
+pub mod Begun
+pub mod Looking
+pub mod Examining

@@ -1,0 +1,182 @@
+-- From locations to contents: what the queue, a journal, the replays and the look-ups say at locations, they say of the contents that stand there.
+use mathlib.Core.Path.{_≡_, refl, sym, ap, _∙_}
+use mathlib.Core.Bool.{Bool, true, false, _||_}
+use mathlib.Core.Option.{Option, none, some}
+use mathlib.Core.List.{List, [], _∷_, map}
+use Prim.Native.Nat.{ℕ, zero, suc, _+_}
+use native.Mathlib.Omega.{arith}
+use native.Mathlib.Nat.{mod-lt}
+use lib.Dec.{eqb}
+use lib.ListN.{getD}
+use Rattle.lists.specs.Basic.{isSome, from}
+use Rattle.lists.specs.Change.{mapChange}
+use Rattle.lists.specs.State.{Block, Row, State, taken, placed, onList, applyAll, overlay, mapBlock, mapRow, mapState}
+use Rattle.lists.specs.Lookup.{contentIn, contentOf, blocksOf, nextAfter, listNums, takenAfter}
+use Rattle.lists.specs.Tables.{Tables, IsBlock, IsList, OfNext, OfOwners, OfPlaces}
+use Rattle.lists.proofs.Naturality.{mapOption, taken-map, placed-map, onList-map, change-comp, applyAll-map, overlay-map}
+use Rattle.log.specs.Entry.{mapEntry, asEntry, asChange}
+use Rattle.log.specs.Reader.{Reader, replay}
+use Rattle.log.specs.Card.{Content, zeros, sound, cardLength, walkCard}
+use Rattle.log.specs.Location.{blank, cardLocation, queueLocation, journalLocation, contentAt}
+use Rattle.log.proofs.Naturality.{mapReader, entry-comp, replay-map}
+use Rattle.log.proofs.Locations.{content-queue, content-journal, sound-at}
+use Rattle.disk.specs.Record.{noQueued, noJournaled, ringPlace}
+use Rattle.disk.specs.Disk.{Disk, queuedAt, queued, unitOf, journalPlace, journalAt, journalOf, readerOf, committedReader}
+use Rattle.inspect.specs.Located.{contents, Located, queuedHere, queueHere, changeHere, journalHere}
+
+map-from : {A B : Type 0} (f : A → B) (g : ℕ → A) (h : ℕ → B) (k n : ℕ) → ((i : ℕ) → f (g i) ≡ h i) → map f (from g k n) ≡ from h k n
+unfolding from
+map-from f g h k zero e = refl
+map-from {B} f g h k (suc n) e = rw (e k) (ap {B = List B} (λ r. h k ∷ r) (map-from f g h (suc k) n e))
+
+pub some-map : {A B : Type 0} (f : A → B) (o : Option A) → isSome (mapOption f o) ≡ isSome o
+unfolding isSome
+some-map f none = refl
+some-map f (some a) = refl
+
+module _ (d : Disk) where
+  -- "a block just put holds 256 zeros"
+  pub blank-here : contents d blank ≡ zeros
+  unfolding contentAt
+  blank-here = refl
+
+  -- The queue and the journals.
+  entry-here : (k : ℕ) → mapEntry (contents d) (queuedHere (d .rec) k) ≡ queuedAt d k
+  unfolding queuedHere queuedAt
+  entry-here k =
+      let p = ringPlace (d .rec) k in
+      let q = getD (d .rec .queue) p noQueued in
+      let e = asEntry (q .member) (q .entry) in
+      entry-comp (contents d) (λ s. queueLocation p) e
+      ∙ ap (λ (x : Content). mapEntry (λ s. x) e) (content-queue (d .card) (d .queueData) (d .journalData) p (mod-lt (d .rec .head + k) (omega arith)))
+
+  pub queue-here : map (mapEntry (contents d)) (queueHere (d .rec)) ≡ queued d
+  unfolding queueHere queued
+  queue-here = map-from (mapEntry (contents d)) (queuedHere (d .rec)) (queuedAt d) 0 (d .rec .len) entry-here
+
+  change-here : (u k : ℕ) → mapChange (contents d) (changeHere (unitOf d u) u k) ≡ journalAt d u k
+  unfolding changeHere journalAt
+  change-here u k =
+      let c = asChange (getD (unitOf d u .journal) k noJournaled .entry) in
+      change-comp (contents d) (λ s. journalLocation (journalPlace u k)) c
+      ∙ ap (λ (x : Content). mapChange (λ s. x) c) (content-journal (d .card) (d .queueData) (d .journalData) (journalPlace u k))
+
+  pub journal-here : (u : ℕ) → map (mapChange (contents d)) (journalHere (unitOf d u) u) ≡ journalOf d u
+  unfolding journalHere journalOf
+  journal-here u = map-from (mapChange (contents d)) (changeHere (unitOf d u) u) (journalAt d u) 0 (unitOf d u .len) (change-here u)
+
+  -- The replays.
+  pub replay-here : (x : Reader ℕ) → replay zeros (mapReader (contents d) x) (queued d) ≡ mapOption (mapReader (contents d)) (replay blank x (queueHere (d .rec)))
+  replay-here x = rw (← queue-here, ← blank-here) (replay-map (contents d) blank x (queueHere (d .rec)))
+
+  pub committed-here : (x : Reader ℕ) → walkCard cardLocation blank (d .card) ≡ sound x → cardLength (d .card) ≡ true
+      → committedReader d ≡ mapOption (mapReader (contents d)) (replay blank x (queueHere (d .rec)))
+  unfolding committedReader readerOf
+  committed-here x w l = rw (sound-at (d .card) (d .queueData) (d .journalData) x l w) (replay-here x)
+
+  pub overlay-here : (u : ℕ) (s : State ℕ) → overlay zeros (journalOf d u) (mapState (contents d) s) ≡ mapState (contents d) (overlay blank (journalHere (unitOf d u) u) s)
+  overlay-here u s = rw (← journal-here u, ← blank-here) (overlay-map (contents d) blank (journalHere (unitOf d u) u) s)
+
+  pub applies-here : (u : ℕ) (s : State ℕ) → isSome (applyAll zeros (journalOf d u) (mapState (contents d) s)) ≡ isSome (applyAll blank (journalHere (unitOf d u) u) s)
+  applies-here u s =
+      rw (← journal-here u, ← blank-here, applyAll-map (contents d) blank (journalHere (unitOf d u) u) s)
+      (some-map (mapState (contents d)) (applyAll blank (journalHere (unitOf d u) u) s))
+
+-- The look-ups: numbers do not depend on contents.
+module _ {D E : Type 0} (h : D → E) where
+  contentIn-map : (xs : List (Block D)) (b : ℕ) → contentIn (map (mapBlock h) xs) b ≡ mapOption h (contentIn xs b)
+  unfolding contentIn
+  contentIn-map [] b = refl
+  contentIn-map (x ∷ xs) b = go (contentIn-map xs b) (eqb (x .num) b)
+    where
+      go : contentIn (map (mapBlock h) xs) b ≡ mapOption h (contentIn xs b) → (t : Bool)
+          → _≡_ {A = Option E} (elim t [ true ↦ some (h (x .content)) | false ↦ contentIn (map (mapBlock h) xs) b ]) (mapOption h (elim t [ true ↦ some (x .content) | false ↦ contentIn xs b ]))
+      go ih true = refl
+      go ih false = ih
+
+  contentOf-map : (rs : List (Row D)) (b : ℕ) → contentOf (map (mapRow h) rs) b ≡ mapOption h (contentOf rs b)
+  unfolding contentOf
+  contentOf-map [] b = refl
+  contentOf-map (r ∷ rs) b = rw (contentIn-map (r .blocks) b, contentOf) (go (contentOf-map rs b) (contentIn (r .blocks) b))
+    where
+      go : contentOf (map (mapRow h) rs) b ≡ mapOption h (contentOf rs b) → (o : Option D)
+          → _≡_ {A = Option E} (elim (mapOption h o) [ none ↦ contentOf (map (mapRow h) rs) b | some x ↦ some x ]) (mapOption h (elim o [ none ↦ contentOf rs b | some x ↦ some x ]))
+      go ih none = ih
+      go ih (some x) = refl
+
+  nums-map : (xs : List (Block D)) → map (λ x. x .num) (map (mapBlock h) xs) ≡ map (λ x. x .num) xs
+  nums-map [] = refl
+  nums-map (x ∷ xs) = rw (nums-map xs)
+
+  blocksOf-map : (rs : List (Row D)) (l : ℕ) → blocksOf (map (mapRow h) rs) l ≡ blocksOf rs l
+  unfolding blocksOf
+  blocksOf-map [] l = refl
+  blocksOf-map (r ∷ rs) l = λ i. elim (eqb (r .num) l) [ true ↦ nums-map (r .blocks) i | false ↦ blocksOf-map rs l i ]
+
+  pub nextAfter-map : (rs : List (Row D)) (l p : ℕ) → nextAfter (map (mapRow h) rs) l p ≡ nextAfter rs l p
+  unfolding nextAfter
+  nextAfter-map rs l p = rw (blocksOf-map rs l)
+
+  pub listNums-map : (rs : List (Row D)) → listNums (map (mapRow h) rs) ≡ listNums rs
+  unfolding listNums
+  listNums-map [] = refl
+  listNums-map (r ∷ rs) = ap {B = List ℕ} (λ ns. r .num ∷ ns) (listNums-map rs)
+
+-- A state that tables show.
+module _ (d : Disk) (t : Tables) (s : State Content) (k : Located d t s) where
+  lists-here : s .lists ≡ map (mapRow (contents d)) (k .here .lists)
+  lists-here = ap (λ (x : State Content). x .lists) (k .means)
+
+  pub taken-here : (l : ℕ) → taken l (s .lists) ≡ taken l (k .here .lists)
+  taken-here l = ap (taken l) lists-here ∙ taken-map (contents d) l (k .here .lists)
+
+  pub placed-here : (b : ℕ) → placed b (s .lists) ≡ placed b (k .here .lists)
+  placed-here b = ap (placed b) lists-here ∙ placed-map (contents d) b (k .here .lists)
+
+  pub onList-here : (l b : ℕ) → onList l b (s .lists) ≡ onList l b (k .here .lists)
+  onList-here l b = ap (onList l b) lists-here ∙ onList-map (contents d) l b (k .here .lists)
+
+  pub nextAfter-here : (l p : ℕ) → nextAfter (s .lists) l p ≡ nextAfter (k .here .lists) l p
+  nextAfter-here l p = ap (λ (rs : List (Row Content)). nextAfter rs l p) lists-here ∙ nextAfter-map (contents d) (k .here .lists) l p
+
+  pub listNums-here : listNums (s .lists) ≡ listNums (k .here .lists)
+  listNums-here = ap listNums lists-here ∙ listNums-map (contents d) (k .here .lists)
+
+  pub takenAfter-here : (l : ℕ) → takenAfter (s .lists) l ≡ takenAfter (k .here .lists) l
+  unfolding takenAfter
+  takenAfter-here l = rw (listNums-here)
+
+  pub content-here : (b : ℕ) → contentOf (s .lists) b ≡ mapOption (contents d) (contentOf (k .here .lists) b)
+  content-here b = ap (λ (rs : List (Row Content)). contentOf rs b) lists-here ∙ contentOf-map (contents d) (k .here .lists) b
+
+  -- what one table alone says of all lists that tables with it show
+  pub of-owners : (P : List (Row ℕ) → Type 0) → OfOwners (t .owner) P → P (k .here .lists)
+  of-owners P f = f (t .next) (t .prev) (t .place) (k .here .lists) (k .shows)
+
+  pub of-next : (P : List (Row ℕ) → Type 0) → OfNext (t .next) P → P (k .here .lists)
+  of-next P f = f (t .prev) (t .owner) (t .place) (k .here .lists) (k .shows)
+
+  pub of-places : (P : List (Row ℕ) → Type 0) → OfPlaces (t .place) P → P (k .here .lists)
+  of-places P f = f (t .next) (t .prev) (t .owner) (k .here .lists) (k .shows)
+
+  pub taken-told : (l : ℕ) (b : Bool) → OfOwners (t .owner) (λ rs. IsList l → b ≡ taken l rs) → IsList l → b ≡ taken l (s .lists)
+  taken-told l b f r = of-owners (λ rs. IsList l → b ≡ taken l rs) f r ∙ sym (taken-here l)
+
+  pub placed-told : (x : ℕ) (b : Bool) → OfOwners (t .owner) (λ rs. IsBlock x → b ≡ placed x rs) → IsBlock x → b ≡ placed x (s .lists)
+  placed-told x b f r = of-owners (λ rs. IsBlock x → b ≡ placed x rs) f r ∙ sym (placed-here x)
+
+  pub onList-told : (l x : ℕ) (b : Bool) → OfOwners (t .owner) (λ rs. IsList l → IsBlock x → b ≡ onList l x rs) → IsList l → IsBlock x → b ≡ onList l x (s .lists)
+  onList-told l x b f p q = of-owners (λ rs. IsList l → IsBlock x → b ≡ onList l x rs) f p q ∙ sym (onList-here l x)
+
+  pub content-told : (x n : ℕ) → OfPlaces (t .place) (λ rs. placed x rs ≡ true → contentOf rs x ≡ some n) → placed x (s .lists) ≡ true → contentOf (s .lists) x ≡ some (contents d n)
+  content-told x n f p = content-here x ∙ ap (mapOption (contents d)) (of-places (λ rs. placed x rs ≡ true → contentOf rs x ≡ some n) f (sym (placed-here x) ∙ p))
+
+  pub nextAfter-told : (l p n : ℕ) → OfNext (t .next) (λ rs. taken l rs ≡ true → eqb p 0 || onList l p rs ≡ true → n ≡ nextAfter rs l p)
+      → taken l (s .lists) ≡ true → eqb p 0 || onList l p (s .lists) ≡ true → n ≡ nextAfter (s .lists) l p
+  nextAfter-told l p n f a b =
+      of-next (λ rs. taken l rs ≡ true → eqb p 0 || onList l p rs ≡ true → n ≡ nextAfter rs l p) f (sym (taken-here l) ∙ a) (rw (onList-here l p) at b)
+      ∙ sym (nextAfter-here l p)
+
+  pub takenAfter-told : (l n : ℕ) → OfNext (t .next) (λ rs. eqb l 0 || taken l rs ≡ true → n ≡ takenAfter rs l)
+      → eqb l 0 || taken l (s .lists) ≡ true → n ≡ takenAfter (s .lists) l
+  takenAfter-told l n f a = of-next (λ rs. eqb l 0 || taken l rs ≡ true → n ≡ takenAfter rs l) f (rw (taken-here l) at a) ∙ sym (takenAfter-here l)

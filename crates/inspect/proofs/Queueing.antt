@@ -1,0 +1,85 @@
+-- The queue fed behind the log entry by entry: what is left of it leads from the reader that the tables keep to where all of it leads.
+use mathlib.Core.Path.{_≡_, refl, sym, ap, _∙_}
+use mathlib.Core.Bool.{Bool, true, false, _&&_}
+use mathlib.Core.Option.{Option, none, some}
+use mathlib.Core.List.{List, [], _∷_}
+use Prim.Native.Nat.{ℕ, _+_, _-_, _≤_, _<_}
+use native.Mathlib.Omega.{arith}
+use lib.ListN.{getD}
+use Rattle.lists.specs.Basic.{isSome, all, from}
+use Rattle.lists.proofs.Basic.{from-step, from-none}
+use Rattle.log.specs.Entry.{Entry, mapEntry, raw, legal, asEntry}
+use Rattle.log.specs.Reader.{Reader, read, replay}
+use Rattle.log.specs.Location.{blank, queueLocation}
+use Rattle.log.specs.Feed.{Lent, Kept}
+use Rattle.log.proofs.Naturality.{raw-map}
+use Rattle.disk.specs.declared.record.Record.{Record}
+use Rattle.disk.specs.declared.record.Queued.{Queued}
+use Rattle.disk.specs.Record.{noQueued, ringPlace}
+use Rattle.inspect.specs.Located.{queuedHere, queueHere}
+use Rattle.inspect.specs.Clauses.{lawful, ReplayTo}
+
+-- the entries from k on
+abbrev pub leftOf : Record → ℕ → List (Entry ℕ)
+leftOf r k = from (queuedHere r) k (r .len - k)
+
+-- k entries of the queue fed to reader x: the tables keep a reader whose run has n members
+pub record FedUpTo (r : Record) (x : Reader ℕ) (k n : ℕ) (m : Lent) : Type 0 where
+  pub reader : Reader ℕ
+  pub kept : Kept m n reader
+  pub replays : replay blank x (queueHere r) ≡ replay blank reader (leftOf r k)
+  pub laws : lawful (queueHere r) ≡ lawful (leftOf r k)
+
+abbrev pub queuedIn : Record → ℕ → Queued
+queuedIn r k = getD (r .queue) (ringPlace r k) noQueued
+
+-- the entry as it is fed
+abbrev pub fedAt : Record → ℕ → Entry ℕ
+fedAt r k = mapEntry (λ s. queueLocation (ringPlace r k)) (asEntry (queuedIn r k .member) (queuedIn r k .entry))
+
+pub fed-none : (r : Record) (x : Reader ℕ) (n : ℕ) (m : Lent) → Kept m n x → FedUpTo r x 0 n m
+unfolding queueHere
+fed-none r x n m h = let e : r .len - 0 ≡ r .len = omega arith in record { reader = x; kept = h; replays = rw e; laws = rw e }
+
+module _ (r : Record) (x : Reader ℕ) (k n : ℕ) (m : Lent) (fed : FedUpTo r x k n m) where
+  abbrev lawAt : Bool
+  lawAt = legal (raw 0 (asEntry (queuedIn r k .member) (queuedIn r k .entry)))
+
+  step : k < r .len → leftOf r k ≡ fedAt r k ∷ leftOf r (k + 1)
+  unfolding queuedHere
+  step l = from-step (queuedHere r) k (r .len) l
+
+  step-laws : k < r .len → lawful (queueHere r) ≡ lawAt && lawful (leftOf r (k + 1))
+  unfolding all
+  step-laws l = fed .laws ∙ rw (step l) (rw (raw-map (λ s. queueLocation (ringPlace r k)) 0 (asEntry (queuedIn r k .member) (queuedIn r k .entry))))
+
+  step-replays : k < r .len → (o : Option (Reader ℕ)) → read blank (fed .reader) (fedAt r k) ≡ o
+      → replay blank x (queueHere r) ≡ elim o [ none ↦ none | some y ↦ replay blank y (leftOf r (k + 1)) ]
+  unfolding replay
+  step-replays l none e = fed .replays ∙ rw (step l) (rw (e, replay))
+  step-replays l (some y) e = fed .replays ∙ rw (step l) (rw (e, replay))
+
+  pub fed-unlawful : k < r .len → lawAt ≡ false → lawful (queueHere r) && isSome (replay blank x (queueHere r)) ≡ false
+  fed-unlawful l h = rw (step-laws l ∙ ap (λ (b : Bool). b && lawful (leftOf r (k + 1))) h)
+
+  pub fed-refused : k < r .len → read blank (fed .reader) (fedAt r k) ≡ none → lawful (queueHere r) && isSome (replay blank x (queueHere r)) ≡ false
+  unfolding isSome
+  fed-refused l e = rw (step-replays l none e) (go (lawful (queueHere r)))
+    where
+      go : (b : Bool) → b && false ≡ false
+      go true = refl
+      go false = refl
+
+  pub fed-more : k < r .len → lawAt ≡ true → (n′ : ℕ) (m′ : Lent) (y : Reader ℕ) → read blank (fed .reader) (fedAt r k) ≡ some y → Kept m′ n′ y → FedUpTo r x (k + 1) n′ m′
+  fed-more l h n′ m′ y e q = record {
+    reader = y;
+    kept = q;
+    replays = step-replays l (some y) e;
+    laws = step-laws l ∙ ap (λ (b : Bool). b && lawful (leftOf r (k + 1))) h;
+  }
+
+  pub fed-all : r .len ≤ k → ReplayTo (queueHere r) x true (m .tables)
+  unfolding all replay
+  fed-all l =
+      let e : leftOf r k ≡ [] = from-none (queuedHere r) k (r .len) l in
+      (fed .laws ∙ rw e, fed .reader, fed .replays ∙ rw e, fed .kept .shows)

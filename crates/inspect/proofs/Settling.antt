@@ -1,0 +1,65 @@
+-- The clauses behind the log, one after the other: what each way of asking them leaves.
+use mathlib.Core.Path.{_≡_, refl, sym, ap, _∙_}
+use mathlib.Core.Bool.{Bool, true, false, _&&_, true≢false, false≢true}
+use mathlib.Core.Option.{some, Option·some-injective}
+use mathlib.Core.List.{List, []}
+use Prim.Native.Nat.{ℕ}
+use Rattle.lists.specs.Basic.{isSome, each}
+use Rattle.lists.specs.Tables.{Tables, OfOwners}
+use Rattle.log.specs.Reader.{Reader, replay}
+use Rattle.log.specs.Location.{blank}
+use Rattle.log.specs.Feed.{Lent, Kept}
+use Rattle.disk.specs.declared.record.Record.{Record}
+use Rattle.disk.specs.Disk.{disk, queued}
+use Rattle.disk.specs.Sound.{headStanding}
+use Rattle.inspect.specs.Located.{queueHere}
+use Rattle.inspect.specs.Clauses.{holdersRight, lawful, Replays, settled, Settles}
+use Rattle.inspect.proofs.Judging.{and-yes}
+
+both-false : (a b c : Bool) → a && b ≡ false → false ≡ a && (b && c)
+both-false true true c h = absurd (true≢false h)
+both-false true false c h = refl
+both-false false b c h = refl
+
+module _ (c q : List ℕ) (r : Record) (x : Reader ℕ) where
+  abbrev heads : Bool
+  heads = headStanding c (r .done) (queued (disk c q [] r))
+
+  settled-refused : lawful (queueHere r) && isSome (replay blank x (queueHere r)) ≡ false → false ≡ settled c q r x
+  unfolding settled each
+  settled-refused h = both-false (lawful (queueHere r)) (isSome (replay blank x (queueHere r))) _ h
+
+  settled-entered : lawful (queueHere r) ≡ true → (y : Reader ℕ) → replay blank x (queueHere r) ≡ some y → holdersRight r (y .state .lists) && heads ≡ settled c q r x
+  unfolding settled each isSome
+  settled-entered h y e = rw (h, e) (ap (λ (b : Bool). holdersRight r (y .state .lists) && b) (sym (and-yes heads)))
+
+-- the queue was fed, its answer b
+module _ (c q : List ℕ) (m : Lent) (run : ℕ) (r : Record) (b : Bool) (t : Tables) (fed : Replays m run r b t) where
+  pub settles-refused : b ≡ false → Settles c q m run r false t
+  settles-refused h = record {
+    answer = λ x k. settled-refused c q r x (rw h at (fed x k));
+    shows = λ x y k e. absurd (false≢true e);
+  }
+
+  -- the holders have answer h, and the head k
+  module _ (entered : b ≡ true) (h : Bool) (held : OfOwners (t .owner) (λ rs. h ≡ holdersRight r rs)) where
+    answer-is : (x : Reader ℕ) → Kept m run x → h && headStanding c (r .done) (queued (disk c q [] r)) ≡ settled c q r x
+    answer-is x k =
+        let (l, y, e, s) = rw entered at (fed x k) in
+        ap (λ (b : Bool). b && headStanding c (r .done) (queued (disk c q [] r))) (held (t .next) (t .prev) (t .place) (y .state .lists) s)
+        ∙ settled-entered c q r x l y e
+
+    pub settles-held : h ≡ false → Settles c q m run r false t
+    settles-held z = record {
+      answer = λ x k. ap (λ (b : Bool). b && headStanding c (r .done) (queued (disk c q [] r))) (sym z) ∙ answer-is x k;
+      shows = λ x y k e. absurd (false≢true e);
+    }
+
+    pub settles-last : h ≡ true → (k : Bool) → k ≡ headStanding c (r .done) (queued (disk c q [] r)) → Settles c q m run r k t
+    settles-last z k e = record {
+      answer = λ x n. e ∙ ap (λ (b : Bool). b && headStanding c (r .done) (queued (disk c q [] r))) (sym z) ∙ answer-is x n;
+      shows = λ x y n f p.
+          let (l, w, o, s) = rw entered at (fed x n) in
+          let i : w ≡ y = Option·some-injective _ _ (sym o ∙ p) in
+          rw i at s;
+    }

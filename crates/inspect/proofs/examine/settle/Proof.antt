@@ -1,0 +1,53 @@
+-- The queue, the holders and the head are asked in turn, each over the tables that the one before left. Assumes nothing.
+use Rattle.lists.specs.Tables.{tables}
+use Rattle.log.specs.Feed.{lent}
+use Rattle.inspect.proofs.Settling.{settles-refused, settles-held, settles-last}
+use borrow.Author.Needs.{needs}
+use borrow.Author.Tests.{not-true, not-false}
+use mathlib.Core.List.{[]}
+use Rattle.inspect.proofs.examine.settle.Statement.{statement}
+use Rattle.inspect.proofs.examine.settle.Tie as tie
+
+enter-queue-requires : tie.Need-enter-queue-requires
+enter-queue-requires c κs = search needs
+
+returns : tie.Need-returns
+returns c =
+    let s = c .before .before .before .before .before .before .before .before .before .before .args in
+    let q = c .before .enter-queue in
+    let m = lent (s .next .now) (s .prev .now) (s .owner .now) (s .place .now) (s .members .now) (s .locations .now) in
+    let t = tables (q .last .0) (q .last .1 .0) (q .last .1 .1 .0) (q .last .1 .1 .1 .0) in
+    settles-refused (s .card .now) (s .queue-data .now) m (s .run) (s .rec) (q .result) t (q .ensures) (not-true _ (c .if1 .taken))
+
+holders-right-requires : tie.Need-holders-right-requires
+holders-right-requires c κs = search needs
+
+returns-2 : tie.Need-returns-2
+returns-2 c =
+    let s = c .before .before .before .before .before .before .before .before .before .before .before .before .before .args in
+    let q = c .before .before .before .before .enter-queue in
+    let m = lent (s .next .now) (s .prev .now) (s .owner .now) (s .place .now) (s .members .now) (s .locations .now) in
+    let t = tables (q .last .0) (q .last .1 .0) (q .last .1 .1 .0) (q .last .1 .1 .1 .0) in
+    settles-held (s .card .now) (s .queue-data .now) m (s .run) (s .rec) (q .result) t (q .ensures) (not-false _ (c .before .before .before .if1 .left)) (c .before .holders-right .result) (c .before .holders-right .ensures) (not-true _ (c .if2 .taken))
+
+head-stands-requires : tie.Need-head-stands-requires
+head-stands-requires c κs = search needs
+
+returns-3 : tie.Need-returns-3
+returns-3 c =
+    let s = c .before .before .before .before .before .before .before .before .before .before .before .before .before .before .args in
+    let q = c .before .before .before .before .before .enter-queue in
+    let m = lent (s .next .now) (s .prev .now) (s .owner .now) (s .place .now) (s .members .now) (s .locations .now) in
+    let t = tables (q .last .0) (q .last .1 .0) (q .last .1 .1 .0) (q .last .1 .1 .1 .0) in
+    settles-last (s .card .now) (s .queue-data .now) m (s .run) (s .rec) (q .result) t (q .ensures) (not-false _ (c .before .before .before .before .if1 .left)) (c .before .before .holders-right .result) (c .before .before .holders-right .ensures) (not-false _ (c .before .if2 .left)) (c .head-stands .result) (c .head-stands .ensures [])
+
+pub settle-spec : {M : Type 1} → statement M
+settle-spec =
+    tie.close
+    (tie.spec
+    enter-queue-requires
+    returns
+    holders-right-requires
+    returns-2
+    head-stands-requires
+    returns-3)

@@ -1,0 +1,90 @@
+-- The invariant: what the search gives from the last number tried on is what it gives from the start. Assumes nothing.
+use mathlib.Core.Path.{_≡_, sym, _∙_}
+use mathlib.Core.Logic.{_≢_, ⊎-elim}
+use mathlib.Core.Bool.{Bool, _||_, not, true, or-true}
+use mathlib.Core.List.{List}
+use Prim.Native.Nat.{ℕ, _+_, _-_, _%_, _≤_}
+use native.Mathlib.Omega.{arith}
+use lib.Dec.{eqb}
+use lib.ListN.{getD}
+use borrow.Author.Tests.{not-true, not-false}
+use Rattle.lists.specs.State.{Row, placed}
+use Rattle.lists.specs.Tables.{OfOwners}
+use Rattle.lists.proofs.Basic.{eqb-false}
+use Rattle.inspect.proofs.Searching.{Left, none-tried, found, passed, nowhere}
+use borrow.Author.Needs.{needs}
+use Rattle.inspect.proofs.free.free_block.Statement.{statement}
+use Rattle.inspect.proofs.free.free_block.Tie as tie
+
+abbrev used : List ℕ → List (Row ℕ) → ℕ → Bool
+used hs rs b = placed b rs || not (eqb (getD hs (b - 1) 0) 0)
+
+held : (hs : List ℕ) (rs : List (Row ℕ)) (b : ℕ) → getD hs (b - 1) 0 ≢ 0 → used hs rs b ≡ true
+held hs rs b h = rw (eqb-false (getD hs (b - 1) 0) 0 h) (or-true (placed b rs))
+
+abbrev Inv-loop : tie.InvT-loop
+Inv-loop owner holder last b₀ i₀ b i = (i ≤ 64) × OfOwners owner (λ rs. Left (used holder rs) 64 last i b)
+
+abbrev μ-loop : tie.MeasureT-loop
+μ-loop owner holder last b₀ i₀ b i = 64 - i
+
+loop-holds : tie.Need-loop-holds Inv-loop μ-loop
+loop-holds c = (omega arith, λ nx pv pl rs h. none-tried (used (c .args .holder .now) rs) 64 _)
+
+add-b : tie.Need-add-b Inv-loop μ-loop
+add-b c = search needs
+
+is-placed-requires : tie.Need-is-placed-requires Inv-loop μ-loop
+is-placed-requires c κs = search needs
+
+holder-of-requires : tie.Need-holder-of-requires Inv-loop μ-loop
+holder-of-requires c κs = search needs
+
+returns : tie.Need-returns Inv-loop μ-loop
+returns c =
+    λ nx pv pl rs h.
+    let o = c .before .before .before .before .before in
+    let t = c .before .before .before .is-placed in
+    let a = sym (t .ensures nx pv pl rs h (omega arith)) ∙ not-true (t .result) (c .before .before .if1 .taken) in
+    let z = sym (c .before .holder-of .ensures (omega arith)) ∙ c .if2 .taken in
+    found (used (o .before .args .holder .now) rs) 64 _ (o .loop .i) (o .loop .b) (o .loop .inv .1 nx pv pl rs h) (omega arith) (rw (a, z))
+
+add-i : tie.Need-add-i Inv-loop μ-loop
+add-i c = search needs
+
+loop-less : tie.Need-loop-less Inv-loop μ-loop
+loop-less c = search needs
+
+loop-again : tie.Need-loop-again Inv-loop μ-loop
+loop-again c =
+    let o = c .before .before .before in
+    let t = c .before .is-placed in (
+      omega arith,
+      λ nx pv pl rs h.
+          passed (used (o .before .args .holder .now) rs) 64 _ (o .loop .i) (o .loop .b) (o .loop .inv .1 nx pv pl rs h) (omega arith)
+          (⊎-elim
+          (λ w. held (o .before .args .holder .now) rs (o .loop .b % 64 + 1) (λ e. w .2 .left (w .1 .ensures (omega arith) ∙ e)))
+          (λ w. rw (sym (t .ensures nx pv pl rs h (omega arith)) ∙ not-false (t .result) (w .left)))
+          (c .if1 .came)),
+    )
+
+returns-2 : tie.Need-returns-2 Inv-loop μ-loop
+returns-2 c =
+    λ nx pv pl rs h.
+    nowhere (used (c .before .before .args .holder .now) rs) 64 _ (c .before .loop .i) (c .before .loop .b) (c .before .loop .inv .1 nx pv pl rs h) (omega arith)
+
+pub free-block-spec : {M : Type 1} → statement M
+free-block-spec =
+    tie.close
+    (tie.spec
+    Inv-loop
+    μ-loop
+    loop-holds
+    add-b
+    is-placed-requires
+    holder-of-requires
+    returns
+    add-i
+    loop-less
+    loop-again
+    returns-2)

@@ -1,0 +1,64 @@
+-- The kind, the numbers and, of the two puts, the holder are tested. Assumes nothing.
+use mathlib.Core.Path.{sym, _∙_}
+use borrow.Author.Tests.{not-true, not-false}
+use Rattle.log.specs.Entry.{asChange}
+use Rattle.disk.specs.Sound.{putBy}
+use Rattle.inspect.proofs.Judging.{change-wrong, change-puts, change-no-put, put-first-block, put-after-block}
+use borrow.Author.Needs.{needs}
+use Rattle.inspect.proofs.units.entry_right.Statement.{statement}
+use Rattle.inspect.proofs.units.entry_right.Tie as tie
+
+is-member-requires : tie.Need-is-member-requires
+is-member-requires c κs = search needs
+
+returns : tie.Need-returns
+returns c =
+    let s = c .before .before .args in
+    change-wrong (s .holder .now) (s .u) (asChange (s .e)) (sym (c .before .is-member .ensures) ∙ not-true _ (c .if1 .taken))
+
+enum-known-e : tie.Need-enum-known-e
+enum-known-e c = search needs
+
+holder-of-requires : tie.Need-holder-of-requires
+holder-of-requires c κs = search needs
+
+enum-known-e-2 : tie.Need-enum-known-e-2
+enum-known-e-2 c = search needs
+
+holder-of-requires-2 : tie.Need-holder-of-requires-2
+holder-of-requires-2 c κs = search needs
+
+returns-2 : tie.Need-returns-2
+unfolding putBy asChange
+returns-2 c =
+    let s = c .before .before .before .before .before .before .args in
+    let g = c .before .before .e .given in
+    let m = sym (c .before .before .before .before .before .is-member .ensures) ∙ not-false _ (c .before .before .before .before .if1 .left) in
+    rw (c .holder-of .ensures (put-first-block (g .0 .0) (g .0 .1 .0) (rw (g .1) at m))) (change-puts (s .holder .now) (s .u) (asChange (s .e)) (g .0 .0) m (rw (g .1)))
+
+returns-3 : tie.Need-returns-3
+unfolding putBy asChange
+returns-3 c =
+    let s = c .before .before .before .before .before .before .args in
+    let g = c .before .before .e2 .given in
+    let m = sym (c .before .before .before .before .before .is-member .ensures) ∙ not-false _ (c .before .before .before .before .if1 .left) in
+    rw (c .holder-of2 .ensures (put-after-block (g .0 .0) (g .0 .1 .0) (g .0 .1 .1 .0) (rw (g .1) at m))) (change-puts (s .holder .now) (s .u) (asChange (s .e)) (g .0 .0) m (rw (g .1)))
+
+returns-4 : tie.Need-returns-4
+returns-4 c =
+    let s = c .before .before .before .args in
+    change-no-put (s .holder .now) (s .u) (s .e) (c .match .keys3) (sym (c .before .before .is-member .ensures) ∙ not-false _ (c .before .if1 .left))
+
+pub entry-right-spec : {M : Type 1} → statement M
+entry-right-spec =
+    tie.close
+    (tie.spec
+    is-member-requires
+    returns
+    enum-known-e
+    holder-of-requires
+    enum-known-e-2
+    holder-of-requires-2
+    returns-2
+    returns-3
+    returns-4)

@@ -1,0 +1,84 @@
+-- The clauses of question 3 that the record decides alone, or over lists that tables show: what the functions of this crate answer.
+use mathlib.Core.Path.{_≡_}
+use mathlib.Core.Bool.{Bool, true, false, _&&_, _||_, not}
+use mathlib.Core.Option.{Option, none, some}
+use mathlib.Core.List.{List, [], _∷_}
+use Prim.Native.Nat.{ℕ, _-_, _≤_, _<_}
+use lib.Dec.{leb, eqb, ltb}
+use lib.ListN.{getD}
+use Rattle.lists.specs.Basic.{isSome, all, each, from}
+use Rattle.lists.specs.Change.{Change}
+use Rattle.lists.specs.State.{Row, State, placed, applyAll, overlay}
+use Rattle.lists.specs.Tables.{Tables, Shows}
+use Rattle.log.specs.Entry.{Entry, member, raw, legal, isBlock, isList, asChange}
+use Rattle.log.specs.Reader.{Reader, replay}
+use Rattle.log.specs.Location.{blank}
+use Rattle.log.specs.Feed.{Lent, Kept}
+use Rattle.disk.specs.declared.record.Unit.{Unit}
+use Rattle.disk.specs.declared.record.Record.{Record}
+use Rattle.disk.specs.Record.{noJournaled, unitAt, holderOf, queuePlaces, journalPlaces, unitCount}
+use Rattle.disk.specs.Disk.{disk, queued}
+use Rattle.disk.specs.Sound.{putBy, headStanding}
+use Rattle.inspect.specs.Located.{queueHere, journalHere}
+
+-- "counts and numbers in range"
+unfoldable pub numbersRight : Record → Bool
+numbersRight r = each (leb (r .len) queuePlaces ∷ ltb (r .head) queuePlaces ∷ isBlock (r .«last_block») ∷ isList (r .«last_list») ∷ leb (r .conflicts) 65535 ∷ [])
+
+-- may change c stand in unit u's journal, hs being the holders?
+unfoldable pub changeRight : List ℕ → ℕ → Change ℕ → Bool
+changeRight hs u c = legal (raw 0 (member c)) && all (λ b. eqb (getD hs (b - 1) 0) u) (putBy c)
+
+-- change k of a journal, a write's slot as it stands there
+abbrev pub changeIn : Unit → ℕ → Change ℕ
+changeIn x k = asChange (getD (x .journal) k noJournaled .entry)
+
+unfoldable pub unitRight : List ℕ → Unit → ℕ → Bool
+unitRight hs x u = each (leb (x .len) journalPlaces ∷ (x .opened || eqb (x .len) 0) ∷ all (changeRight hs u) (from (changeIn x) 0 (x .len)) ∷ [])
+
+unfoldable pub unitsRight : Record → Bool
+unitsRight r = all (λ u. unitRight (r .holder) (unitAt r u) u) (from (λ u. u) 1 unitCount)
+
+unfoldable pub openUnit : Record → ℕ → Bool
+openUnit r u = leb 1 u && leb u unitCount && unitAt r u .opened
+
+-- block b over the lists rs of the committed state
+unfoldable pub holderRight : {D : Type 0} → Record → List (Row D) → ℕ → Bool
+holderRight r rs b = eqb (holderOf r b) 0 || openUnit r (holderOf r b) && not (placed b rs)
+
+unfoldable pub holdersRight : {D : Type 0} → Record → List (Row D) → Bool
+holdersRight r rs = all (holderRight r rs) (from (λ b. b) 1 64)
+
+-- What is promised where the queue is fed to the reader that lent tables keep.
+
+abbrev pub lawful : List (Entry ℕ) → Bool
+lawful es = all (λ e. legal (raw 0 e)) es
+
+abbrev pub ReplayTo : List (Entry ℕ) → Reader ℕ → Bool → Tables → Type 0
+ReplayTo es x false t = lawful es && isSome (replay blank x es) ≡ false
+ReplayTo es x true t = (lawful es ≡ true) × (y : Reader ℕ) × (replay blank x es ≡ some y) × Shows t (y .state .lists)
+
+abbrev pub Replays : Lent → ℕ → Record → Bool → Tables → Type 0
+Replays m run r b t = (x : Reader ℕ) → Kept m run x → ReplayTo (queueHere r) x b t
+
+abbrev pub rowsOf : Option (Reader ℕ) → List (Row ℕ)
+rowsOf none = []
+rowsOf (some x) = x .state .lists
+
+-- question 3 behind the log, of card c and queue data q; reader x stands at the log's end
+unfoldable pub settled : List ℕ → List ℕ → Record → Reader ℕ → Bool
+settled c q r x =
+    let o = replay blank x (queueHere r) in
+    each (lawful (queueHere r) ∷ isSome o ∷ holdersRight r (rowsOf o) ∷ headStanding c (r .done) (queued (disk c q [] r)) ∷ [])
+
+abbrev pub Settled : List ℕ → List ℕ → Lent → ℕ → Record → Bool → Type 0
+Settled c q m run r b = (x : Reader ℕ) → Kept m run x → b ≡ settled c q r x
+
+pub record Settles (c q : List ℕ) (m : Lent) (run : ℕ) (r : Record) (b : Bool) (t : Tables) : Type 0 where
+  pub answer : Settled c q m run r b
+  pub shows : (x y : Reader ℕ) → Kept m run x → b ≡ true → replay blank x (queueHere r) ≡ some y → Shows t (y .state .lists)
+
+-- and where unit u's journal is laid over a state: whether every change applies, and what the tables show then
+pub record Overlays (t : Tables) (x : Unit) (u : ℕ) (b : Bool) (t′ : Tables) : Type 0 where
+  pub answer : (s : State ℕ) → Shows t (s .lists) → b ≡ isSome (applyAll blank (journalHere x u) s)
+  pub shows : (s : State ℕ) → Shows t (s .lists) → Shows t′ (overlay blank (journalHere x u) s .lists)

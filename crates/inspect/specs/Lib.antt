@@ -1,0 +1,4 @@
+pub mod Located
+pub mod Clauses
+pub mod Inspect
+pub mod Begun

@@ -1,0 +1,47 @@
+// The numbers that NewBlock and NewList give.
+use super::units::holder_of;
+use lists::tables::is_placed;
+use lists::tables::is_taken;
+ghost use mathlib.Core.Path.{_≡_};
+ghost use mathlib.Core.Bool.{_||_, not};
+ghost use Prim.Native.Nat.{_-_};
+ghost use lib.Dec.{eqb};
+ghost use lib.ListN.{getD};
+ghost use Rattle.lists.specs.Basic.{orElse};
+ghost use Rattle.lists.specs.State.{placed, taken};
+ghost use Rattle.lists.specs.Tables.{OfOwners};
+ghost use Rattle.disk.specs.Questions.{freeFrom};
+
+// The first free block after the one given last, 0 if none is free.
+pub fn free_block(owner: &[u8; 256], holder: &[u8; 64], last: u8) -> u8
+    ensures { λ r. ⌜ OfOwners (now (owner .entry)) (λ rs. r ≡ orElse 0 (freeFrom (λ b. placed b rs || not (eqb (getD (now (holder .entry)) (b - 1) 0) 0)) 64 64 last)) ⌝ }
+{
+    let mut b = last;
+    let mut i = 0usize;
+    while i < 64 {
+        b = b % 64 + 1;
+        if !is_placed(owner, b) {
+            if holder_of(holder, b) == 0 {
+                return b;
+            }
+        }
+        i += 1;
+    }
+    0
+}
+
+// The first free list after the one given last, 0 if none is free.
+pub fn free_list(owner: &[u8; 256], last: u8) -> u8
+    ensures { λ r. ⌜ OfOwners (now (owner .entry)) (λ rs. r ≡ orElse 0 (freeFrom (λ l. taken l rs) 16 16 last)) ⌝ }
+{
+    let mut l = last;
+    let mut i = 0usize;
+    while i < 16 {
+        l = l % 16 + 1;
+        if !is_taken(owner, l) {
+            return l;
+        }
+        i += 1;
+    }
+    0
+}

@@ -1,0 +1,29 @@
+// The holders of blocks, over the committed state.
+use disk::record::Record;
+use lists::tables::is_placed;
+ghost use mathlib.Core.Path.{_≡_};
+ghost use Rattle.lists.specs.Tables.{OfOwners};
+ghost use Rattle.inspect.specs.Clauses.{holdersRight};
+
+// Is each block held by no unit, or by an open one while it is on no list?
+pub fn holders_right(rec: Record, owner: &[u8; 256]) -> bool
+    ensures { λ r. ⌜ OfOwners (now (owner .entry)) (λ rs. r ≡ holdersRight rec rs) ⌝ }
+{
+    let mut i = 0;
+    while i < 64 {
+        let h = rec.holder[i] as usize;
+        if h != 0 {
+            if Record::UNITS < h {
+                return false;
+            }
+            if !rec.units[h - 1].opened {
+                return false;
+            }
+            if is_placed(owner, (i + 1) as u8) {
+                return false;
+            }
+        }
+        i += 1;
+    }
+    true
+}

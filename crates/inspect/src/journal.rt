@@ -1,0 +1,51 @@
+// A unit's journal, laid over the state that lent tables show.
+use disk::record::Unit;
+use lists::tables::act;
+use log::feed::fields_of;
+ghost use mathlib.Core.Path.{_≡_};
+ghost use mathlib.Core.Bool.{true};
+ghost use Prim.Native.Nat.{_≤_};
+ghost use Rattle.lists.specs.Basic.{all, from};
+ghost use Rattle.lists.specs.Tables.{tables};
+ghost use Rattle.log.specs.Entry.{legal, raw, member};
+ghost use Rattle.inspect.specs.Clauses.{Overlays, changeIn};
+
+// The location of the data at the journals' first place.
+const JOURNALS_AT: u16 = 1057;
+
+// Unit u's changes in order; one that does not apply is skipped. Did every one apply?
+pub fn enter_journal(
+    next: &mut [u8; 256],
+    prev: &mut [u8; 256],
+    owner: &mut [u8; 256],
+    place: &mut [u16; 256],
+    unit: Unit,
+    u: usize,
+) -> bool
+    requires { ⌜ (unit .len ≤ 15) × (1 ≤ u) × (u ≤ 4) × (all (λ c. legal (raw 0 (member c))) (from (changeIn unit) 0 (unit .len)) ≡ true) ⌝ }
+    ensures { λ r. ⌜ Overlays (tables (now (next .entry)) (now (prev .entry)) (now (owner .entry)) (now (place .entry))) unit u r (tables (now (next .exit)) (now (prev .exit)) (now (owner .exit)) (now (place .exit))) ⌝ }
+{
+    let first = JOURNALS_AT + ((u - 1) * Unit::JOURNAL) as u16;
+    let mut every = true;
+    let mut k = 0;
+    while k < unit.len {
+        let journaled = unit.journal[k];
+        let e = journaled.entry;
+        let f = fields_of(e);
+        if !act(
+            next,
+            prev,
+            owner,
+            place,
+            f.kind,
+            f.block,
+            f.list,
+            f.predecessor,
+            first + k as u16,
+        ) {
+            every = false;
+        }
+        k += 1;
+    }
+    every
+}

@@ -1,0 +1,60 @@
+// The queue, fed behind the log to the reader that lent tables keep.
+use disk::record::Record;
+use log::feed::Fed;
+use log::feed::feed;
+use log::legal::is_legal;
+ghost use mathlib.Core.Path.{_≡_};
+ghost use Prim.Native.Nat.{_*_, _≤_, _<_};
+ghost use Rattle.lists.specs.Tables.{tables};
+ghost use Rattle.log.specs.Feed.{lent};
+ghost use Rattle.inspect.specs.Clauses.{Replays};
+
+// The location of the data at the queue's first place.
+const QUEUE_AT: u16 = 1025;
+
+// Is the queue acceptable behind the log? If so the tables show the committed state.
+pub fn enter_queue(
+    next: &mut [u8; 256],
+    prev: &mut [u8; 256],
+    owner: &mut [u8; 256],
+    place: &mut [u16; 256],
+    members: &mut [u8; 64],
+    locations: &mut [u16; 16],
+    rec: Record,
+    run: usize,
+) -> bool
+    requires { ⌜ (rec .len ≤ 32) × (rec .head < 32) × (run ≤ 64 * 255) ⌝ }
+    ensures { λ r. ⌜ Replays (lent (now (next .entry)) (now (prev .entry)) (now (owner .entry)) (now (place .entry)) (now (members .entry)) (now (locations .entry))) run rec r (tables (now (next .exit)) (now (prev .exit)) (now (owner .exit)) (now (place .exit))) ⌝ }
+{
+    let mut members_in_run = run;
+    let mut k = 0;
+    while k < rec.len {
+        let at = (rec.head + k) % Record::QUEUE;
+        let queued = rec.queue[at];
+        let e = queued.entry;
+        if !is_legal(queued.member, e) {
+            return false;
+        }
+        match feed(
+            next,
+            prev,
+            owner,
+            place,
+            members,
+            locations,
+            members_in_run,
+            queued.member,
+            e,
+            QUEUE_AT + at as u16,
+        ) {
+            Fed::Run(n) => {
+                members_in_run = n;
+            }
+            Fed::Refused => {
+                return false;
+            }
+        }
+        k += 1;
+    }
+    true
+}
