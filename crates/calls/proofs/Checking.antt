@@ -1,0 +1,70 @@
+-- Questions 1 and 3 as `check` answers them, and the calls that begin with these alone.
+use mathlib.Core.Path.{_≡_, refl, sym, _∙_}
+use mathlib.Core.Logic.{_⊎_}
+use mathlib.Core.Bool.{Bool, true, false, not}
+use mathlib.Core.List.{List, [], _∷_, _++_}
+use Prim.Native.Nat.{ℕ, _≤_, _<_}
+use Rattle.lists.specs.Tables.{Tables}
+use Rattle.disk.specs.declared.answer.Refusal.{Refusal}
+use Rattle.disk.specs.declared.answer.Refusal.the-variants.{StreamClosed, UnitOpen}
+use Rattle.disk.specs.Disk.{Disk, unitOf}
+use Rattle.disk.specs.Sound.{lengthsRight, recordSound}
+use Rattle.disk.specs.Questions.{streamOpen, questions, ask, firstNo, refusal}
+use Rattle.disk.specs.Call.{Call, conflictCount, begin, destination}
+use Rattle.disk.specs.Perform.{accepted, opening}
+use Rattle.disk.specs.Answers.{number, refusedAnswer, acceptedAnswer}
+use Rattle.disk.proofs.Questions.{in-range}
+use Rattle.inspect.specs.declared.look.Looked.{Looked}
+use Rattle.inspect.specs.declared.look.Looked.the-variants.{Refused, Seen}
+use Rattle.calls.specs.Performs.{Performs}
+use Rattle.inspect.specs.Clauses.{openUnit}
+use Rattle.inspect.specs.Inspect.{Looks}
+use Rattle.calls.specs.Checks.{Sounds, Checks}
+use Rattle.calls.proofs.Refusing.{ask-yes, ask-no, ask-more, number-nonzero, outside, Usual, usual-performs-refused, performs-accepted}
+
+-- stream 0 is always open
+pub looks-checks : (d : Disk) (x : Looked) (t : Tables) → Looks false d 0 x t → Checks d x
+unfolding streamOpen firstNo ask
+looks-checks d (Refused x) t h = h
+looks-checks d Seen t h = record { lengths = h .lengths; sound = h .sound }
+
+abbrev pub checked : Disk → List (ℕ × Bool)
+checked d = (1, lengthsRight d) ∷ (3, recordSound d) ∷ []
+
+pub check-refused : (k : Call) (d : Disk) (x : Refusal) (qs : List (ℕ × Bool)) → Usual k → refusal k d ≡ firstNo (checked d ++ qs) → firstNo (checked d) ≡ number x
+    → Performs k d d (refusedAnswer x) (destination k)
+check-refused k d x qs u q h = usual-performs-refused k d x u (q ∙ ask-more (checked d) qs (number x) (number-nonzero x) h)
+
+pub checked-yes : {d : Disk} (qs : List (ℕ × Bool)) → Sounds d → firstNo (checked d ++ qs) ≡ firstNo qs
+checked-yes {d} qs s = ask-yes 1 (lengthsRight d) ((3, recordSound d) ∷ qs) (s .lengths) ∙ ask-yes 3 (recordSound d) qs (s .sound)
+
+-- The conflict count.
+pub conflicts-given : (d : Disk) → Sounds d → Performs conflictCount d d (acceptedAnswer (d .rec .conflicts) 0) []
+unfolding refusal questions accepted firstNo
+conflicts-given d s = performs-accepted conflictCount d _ (checked-yes [] s) refl
+
+-- Begin.
+module _ (d : Disk) (u : ℕ) (s : Sounds d) where
+  abbrev last : List (ℕ × Bool)
+  last = (6, not (unitOf d u .opened)) ∷ []
+
+  pub begin-outside : (u < 1) ⊎ (4 < u) → Performs (begin u) d d (refusedAnswer StreamClosed) []
+  unfolding refusal questions destination number
+  begin-outside r = usual-performs-refused (begin u) d StreamClosed tt (checked-yes _ s ∙ ask-no 4 _ last (outside 4 u r))
+
+  module _ (l : 1 ≤ u) (m : u ≤ 4) (o : Bool) (e : o ≡ openUnit (d .rec) u) where
+    opened-is : unitOf d u .opened ≡ o
+    unfolding openUnit unitOf
+    opened-is = sym (e ∙ rw (in-range 4 u l m))
+
+    asked : refusal (begin u) d ≡ firstNo last
+    unfolding refusal questions
+    asked = checked-yes _ s ∙ ask-yes 4 _ last (in-range 4 u l m)
+
+    pub begin-twice : o ≡ true → Performs (begin u) d d (refusedAnswer UnitOpen) []
+    unfolding destination number
+    begin-twice t = usual-performs-refused (begin u) d UnitOpen tt (asked ∙ ask-no 6 (not (unitOf d u .opened)) [] (rw (opened-is, t)))
+
+    pub begin-opens : o ≡ false → Performs (begin u) d (opening u d) (acceptedAnswer 0 0) []
+    unfolding accepted firstNo
+    begin-opens t = performs-accepted (begin u) d _ (asked ∙ ask-yes 6 (not (unitOf d u .opened)) [] (rw (opened-is, t))) refl

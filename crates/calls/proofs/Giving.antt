@@ -1,0 +1,171 @@
+-- The numbers given: from what the tables say of free numbers, and of the questions of a take and a put, to what NewList and NewBlock perform.
+use mathlib.Core.Path.{_≡_, refl, sym, ap, _∙_}
+use mathlib.Core.Logic.{_⊎_, inl, inr, _≢_}
+use mathlib.Core.Bool.{Bool, true, false, _&&_, _||_, not, and-false}
+use mathlib.Core.Option.{Option, none, some}
+use mathlib.Core.List.{List, [], _∷_}
+use Prim.Native.Nat.{ℕ, zero, suc, _+_, _-_, _%_, _≤_, _<_}
+use native.Mathlib.Omega.{arith}
+use lib.Dec.{leb, eqb}
+use Rattle.lists.specs.Basic.{isSome, orElse}
+use Rattle.lists.specs.Change.{carriedBy}
+use Rattle.lists.specs.State.{Row, taken, placed, onList}
+use Rattle.lists.specs.Tables.{Tables}
+use Rattle.lists.proofs.Basic.{eqb-false, le-true, gt-false}
+use Rattle.log.specs.Entry.{isList, carried, logChange}
+use Rattle.disk.specs.declared.record.Record.{Record}
+use Rattle.disk.specs.declared.answer.Refusal.{Refusal}
+use Rattle.disk.specs.declared.answer.Refusal.the-variants.{OutOfRange, ListNotTaken, PredecessorElsewhere, NoNumberFree, QueueFull}
+use Rattle.disk.specs.declared.answer.NumberReply.{NumberReply}
+use Rattle.disk.specs.declared.answer.NumberReply.the-variants.{Number, Refused}
+use Rattle.disk.specs.declared.answer.Reply.the-variants as A
+use Rattle.disk.specs.Record.{holderOf, withLastBlock}
+use Rattle.disk.specs.Disk.{Disk, withRecord, committed}
+use Rattle.disk.specs.Call.{newList, destination}
+use Rattle.disk.specs.Questions.{freeFrom, freeList, queueRoom, questions, ask, firstNo, refusal}
+use Rattle.disk.specs.Perform.{accepted, enqueue, gaveList, queuedEntry, spliceSome}
+use Rattle.disk.specs.Answers.{number, numberAnswer}
+use Rattle.disk.proofs.Questions.{free-from}
+use Rattle.calls.specs.Performs.{Performs}
+use Rattle.calls.specs.Entering.{Stands}
+use Rattle.calls.specs.Adds.{Adds}
+use Rattle.calls.specs.Giving.{freeListIn, freeBlockIn, takenList, Takes, putEntry, heldBy, putBlock, Puts, putQuestions, rangedPutQuestions}
+use Rattle.calls.proofs.Refusing.{ask-yes, ask-no, usual-performs-refused, performs-accepted}
+use Rattle.inspect.proofs.Locating.{taken-here}
+use Rattle.calls.proofs.Adding.{rooms-yes}
+use Rattle.calls.proofs.Entering.{entered}
+
+-- A free number, 0 for none.
+step : Bool → Option ℕ → ℕ → Option ℕ
+step b o n = elim b [ true ↦ o | false ↦ some n ]
+
+pub free-ext : (used used′ : ℕ → Bool) (limit k last : ℕ) → ((n : ℕ) → used n ≡ used′ n) → freeFrom used limit k last ≡ freeFrom used′ limit k last
+unfolding freeFrom step
+free-ext used used′ limit zero last e = refl
+free-ext used used′ limit (suc k) last e =
+    let n = suc (last % limit) in
+    ap (λ (b : Bool). step b (freeFrom used limit k n) n) (e n) ∙ ap (λ (o : Option ℕ). step (used′ n) o n) (free-ext used used′ limit k n e)
+
+module _ (used : ℕ → Bool) (limit k last : ℕ) (l : 0 < limit) where
+  pub free-number : isSome (freeFrom used limit k last) ≡ not (eqb (orElse 0 (freeFrom used limit k last)) 0)
+  unfolding isSome orElse
+  free-number = go (freeFrom used limit k last) refl
+    where
+      go : (o : Option ℕ) → freeFrom used limit k last ≡ o → isSome o ≡ not (eqb (orElse 0 o) 0)
+      go none e = refl
+      go (some n) e = let f = free-from used limit k last n l e in rw (eqb-false n 0 (λ z. omega arith))
+
+  pub free-limit : orElse 0 (freeFrom used limit k last) ≤ limit
+  unfolding orElse
+  free-limit = go (freeFrom used limit k last) refl
+    where
+      go : (o : Option ℕ) → freeFrom used limit k last ≡ o → orElse 0 o ≤ limit
+      go none e = omega arith
+      go (some n) e = free-from used limit k last n l e .2
+
+  pub free-some : (n : ℕ) → n ≡ orElse 0 (freeFrom used limit k last) → n ≢ 0 → freeFrom used limit k last ≡ some n
+  unfolding orElse
+  free-some n h z = go (freeFrom used limit k last) h
+    where
+      go : (o : Option ℕ) → n ≡ orElse 0 o → o ≡ some n
+      go none e = absurd (z e)
+      go (some m) e = ap some (sym e)
+
+last-yes : (n : ℕ) (b : Bool) → b ≡ true → firstNo ((n, b) ∷ []) ≡ 0
+unfolding firstNo ask
+last-yes n b h = rw h
+
+pub free-block-limit : (r : Record) (rs : List (Row ℕ)) (n : ℕ) → n ≡ orElse 0 (freeBlockIn r rs) → n ≤ 64
+free-block-limit r rs n h = let l = free-limit (λ b. placed b rs || not (eqb (holderOf r b) 0)) 64 64 (r .«last_block») (omega arith) in omega arith
+
+-- A take.
+module _ (r : Record) (rs : List (Row ℕ)) (n : ℕ) (h : n ≡ orElse 0 (freeListIn r rs)) where
+  pub takes-none : n ≡ 0 → Takes r rs (Refused NoNumberFree) r
+  unfolding number
+  takes-none z = (refl, ask-no 10 _ _ (free-number (λ l. taken l rs) 16 16 (r .«last_list») (omega arith) ∙ rw (← h, z)))
+
+  module _ (z : n ≢ 0) where
+    given : freeListIn r rs ≡ some n
+    given = free-some (λ l. taken l rs) 16 16 (r .«last_list») (omega arith) n h z
+
+    pub takes-full : 32 ≤ r .len → Takes r rs (Refused QueueFull) r
+    unfolding number isSome
+    takes-full l = (refl, ask-yes 10 _ _ (rw given) ∙ ask-no 13 _ _ (gt-false (r .len + 1) 32 (omega arith)))
+
+    pub takes : r .len < 32 → (r′ : Record) → r′ ≡ takenList r n → Takes r rs (Number n) r′
+    takes l r′ e = (e, given, le-true (r .len + 1) 32 (omega arith))
+
+pub takes-performs : (s : ℕ) (d : Disk) (t : Tables) (k : Stands true d s t) (a : NumberReply) (r′ : Record)
+    → Takes (d .rec) (k .located .here .lists) a r′ → Performs (newList s) d (withRecord d r′) (numberAnswer a) []
+unfolding numberAnswer refusal questions freeList queueRoom destination accepted gaveList enqueue queuedEntry carried carriedBy spliceSome logChange orElse isSome
+takes-performs s d t k a r′ = go a
+  where
+    free : freeList d ≡ freeListIn (d .rec) (k .located .here .lists)
+    free = free-ext _ _ 16 16 (d .rec .«last_list») (taken-here d t (committed d) (k .located))
+
+    rest : refusal (newList s) d ≡ firstNo ((10, isSome (freeListIn (d .rec) (k .located .here .lists))) ∷ (13, leb (d .rec .len + 1) 32) ∷ [])
+    rest = entered true d s t _ k ∙ ap (λ (o : Option ℕ). firstNo ((10, isSome o) ∷ (13, leb (d .rec .len + 1) 32) ∷ [])) free
+
+    go : (a : NumberReply) → Takes (d .rec) (k .located .here .lists) a r′ → Performs (newList s) d (withRecord d r′) (numberAnswer a) []
+    go (Refused x) h = rw (h .0) (usual-performs-refused (newList s) d x tt (rest ∙ h .1))
+    go (Number l) h = performs-accepted (newList s) d _ (rest ∙ rw (h .1) (ask-yes 10 _ _ refl ∙ last-yes 13 _ (h .2))) (rw (free, h .1, h .0))
+
+-- A put: a question more before the others.
+module _ (qs : List (ℕ × Bool)) (s l p b : ℕ) (r : Record) (n : ℕ) (q : Bool) where
+  puts-no : (x : Refusal) → n ≡ number x → q ≡ false → Puts ((n, q) ∷ qs) s l p b r (Refused x) r
+  puts-no x e h = (refl, λ d k. ask-no n q _ h ∙ e)
+
+  puts-yes : (a : NumberReply) (r′ : Record) → q ≡ true → Puts qs s l p b r a r′ → Puts ((n, q) ∷ qs) s l p b r a r′
+  puts-yes (Refused x) r′ h k = (k .0, λ d e. ask-yes n q _ h ∙ k .1 d e)
+  puts-yes (Number m) r′ h k = (k .0, k .1, λ d e. ask-yes n q _ h ∙ k .2 d e)
+
+module _ (s l p b : ℕ) (r : Record) (rs : List (Row ℕ)) where
+  ten : List (ℕ × Bool)
+  ten = (10, not (eqb b 0)) ∷ []
+
+  nine : List (ℕ × Bool)
+  nine = (9, eqb p 0 || onList l p rs) ∷ ten
+
+  pub put-range : 1 ≤ l → l ≤ 16 → p ≤ 64 → isList l && leb p 64 ≡ true
+  put-range h k m = rw (le-true 1 l h, le-true l 16 k, le-true p 64 m)
+
+  pub put-outside : (l < 1) ⊎ ((16 < l) ⊎ (64 < p)) → Puts (rangedPutQuestions l p b rs) s l p b r (Refused OutOfRange) r
+  unfolding number
+  put-outside h = puts-no (putQuestions l p b rs) s l p b r 5 _ OutOfRange refl (go h)
+    where
+      go : (l < 1) ⊎ ((16 < l) ⊎ (64 < p)) → isList l && leb p 64 ≡ false
+      go (inl k) = rw (gt-false 1 l k)
+      go (inr (inl k)) = rw (gt-false l 16 k, and-false (leb 1 l))
+      go (inr (inr k)) = rw (gt-false p 64 k) (and-false (isList l))
+
+  pub put-inside : (a : NumberReply) (r′ : Record) → isList l && leb p 64 ≡ true → Puts (putQuestions l p b rs) s l p b r a r′ → Puts (rangedPutQuestions l p b rs) s l p b r a r′
+  put-inside a r′ h k = puts-yes (putQuestions l p b rs) s l p b r 5 _ a r′ h k
+
+  pub put-not-taken : taken l rs ≡ false → Puts (putQuestions l p b rs) s l p b r (Refused ListNotTaken) r
+  unfolding number ten nine
+  put-not-taken h = puts-no nine s l p b r 7 _ ListNotTaken refl h
+
+  module _ (t : taken l rs ≡ true) where
+    pub put-elsewhere : eqb p 0 || onList l p rs ≡ false → Puts (putQuestions l p b rs) s l p b r (Refused PredecessorElsewhere) r
+    unfolding number ten nine
+    put-elsewhere h = puts-yes nine s l p b r 7 _ (Refused PredecessorElsewhere) r t (puts-no ten s l p b r 9 _ PredecessorElsewhere refl h)
+
+    module _ (o : eqb p 0 || onList l p rs ≡ true) where
+      pub put-none : b ≡ 0 → Puts (putQuestions l p b rs) s l p b r (Refused NoNumberFree) r
+      unfolding number ten nine
+      put-none h =
+          puts-yes nine s l p b r 7 _ (Refused NoNumberFree) r t
+          (puts-yes ten s l p b r 9 _ (Refused NoNumberFree) r o (puts-no [] s l p b r 10 _ NoNumberFree refl (rw h)))
+
+      pub put-some : (a : NumberReply) (r′ : Record) → b ≢ 0 → Puts [] s l p b r a r′ → Puts (putQuestions l p b rs) s l p b r a r′
+      unfolding ten nine
+      put-some a r′ h k = puts-yes nine s l p b r 7 _ a r′ t (puts-yes ten s l p b r 9 _ a r′ o (puts-yes [] s l p b r 10 _ a r′ (rw (eqb-false b 0 h)) k))
+
+-- Where the put ends.
+module _ (s l p b : ℕ) (r : Record) where
+  pub puts-full : (x : Refusal) (r′ : Record) → Adds s (putEntry b l p) r (A.Refused x) r′ → Puts [] s l p b r (Refused x) r
+  puts-full x r′ h = (refl, h .1)
+
+  pub puts-block : (r′ r″ : Record) → Adds s (putEntry b l p) r A.Accepted r′ → r″ ≡ withLastBlock (heldBy s b r′) b → Puts [] s l p b r (Number b) r″
+  unfolding putBlock
+  puts-block r′ r″ h e = (refl, e ∙ ap (λ (x : Record). withLastBlock (heldBy s b x) b) (h .0), λ d k. rooms-yes d s (h .1 d k))

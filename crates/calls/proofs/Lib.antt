@@ -1,0 +1,9 @@
+pub mod Refusing
+pub mod Adding
+pub mod Checking
+pub mod Taken
+pub mod Lookups
+pub mod Writing
+pub mod Entering
+pub mod Giving
+pub mod Putting

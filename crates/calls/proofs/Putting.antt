@@ -1,0 +1,131 @@
+-- NewBlock, from what the tables of the committed state and of the stream's view say to what it performs.
+use mathlib.Core.Path.{_≡_, refl, ap, _∙_, subst}
+use mathlib.Core.Logic.{_⊎_, ⊎-elim}
+use mathlib.Core.Bool.{Bool, true, false, _&&_, _||_, not, cond}
+use mathlib.Core.Option.{none}
+use mathlib.Core.List.{List, [], _∷_, _++_}
+use Prim.Native.Nat.{ℕ, zero, suc, _-_, _≤_, _<_}
+use native.Mathlib.Omega.{arith}
+use lib.Dec.{leb, eqb, eqb·suc-zero}
+use Rattle.lists.specs.Basic.{isSome, orElse, all, from}
+use Rattle.lists.specs.Change.{carriedBy}
+use Rattle.lists.specs.State.{Row, State, taken, placed, onList, overlay, mapState}
+use Rattle.lists.specs.Tables.{Tables}
+use Rattle.lists.proofs.Basic.{or-cases, eqb-true, eqb-false}
+use Rattle.lists.proofs.Naturality.{taken-map, onList-map}
+use Rattle.log.specs.declared.entry.LogEntry.{LogEntry}
+use Rattle.log.specs.Card.{zeros}
+use Rattle.log.specs.Entry.{isList, member, raw, legal, logChange}
+use Rattle.log.specs.Location.{blank}
+use Rattle.disk.specs.declared.record.Record.{Record}
+use Rattle.disk.specs.declared.answer.NumberReply.{NumberReply}
+use Rattle.disk.specs.declared.answer.NumberReply.the-variants.{Number, Refused}
+use Rattle.disk.specs.Record.{holderOf, unitAt}
+use Rattle.disk.specs.Disk.{Disk, withRecord, unitOf, journalOf, committed, view}
+use Rattle.disk.specs.Call.{newBlock, destination}
+use Rattle.disk.specs.Sound.{lengthsRight, recordSound, isOpenUnit}
+use Rattle.disk.specs.Questions.{streamOpen, freeBlock, predecessorRight, questions, firstNo, refusal}
+use Rattle.disk.specs.Perform.{accepted, change, hold, gaveBlock, putAt}
+use Rattle.disk.specs.Answers.{numberAnswer}
+use Rattle.disk.proofs.Questions.{unit-range}
+use Rattle.disk.proofs.Clauses.{right}
+use Rattle.inspect.specs.Clauses.{changeIn}
+use Rattle.calls.specs.Performs.{Performs}
+use Rattle.inspect.specs.Located.{contents, journalHere}
+use Rattle.calls.specs.Adds.{added, rooms}
+use Rattle.calls.specs.Entering.{Stands}
+use Rattle.calls.specs.Giving.{freeBlockIn, putEntry, heldBy, putBlock, Puts, rangedPutQuestions, viewHere, Shown, PutsFree}
+use Rattle.calls.proofs.Refusing.{usual-performs-refused, performs-accepted}
+use Rattle.calls.proofs.Adding.{change-added}
+use Rattle.inspect.proofs.Locating.{placed-here, overlay-here}
+use Rattle.inspect.proofs.Looking.{Lawful, unit-lawful}
+use Rattle.calls.proofs.Entering.{entered}
+use Rattle.calls.proofs.Giving.{free-ext, free-number}
+
+-- the same put of a number named otherwise
+pub puts-number : (rs : List (Row ℕ)) (s l p b b′ : ℕ) (r : Record) (a : NumberReply) (r′ : Record) → b ≡ b′
+    → Puts (rangedPutQuestions l p b rs) s l p b r a r′ → Puts (rangedPutQuestions l p b′ rs) s l p b′ r a r′
+puts-number rs s l p b b′ r a r′ e h = subst (λ (x : ℕ). Puts (rangedPutQuestions l p x rs) s l p x r a r′) e h
+
+-- The change.
+put-carries : (b l p : ℕ) → carriedBy (putAt b l p) ≡ none
+unfolding putAt carriedBy
+put-carries b l zero = refl
+put-carries b l (suc p) = refl
+
+put-entry : (b l p : ℕ) → logChange (putAt b l p) ≡ putEntry b l p
+unfolding putAt logChange
+put-entry b l zero = refl
+put-entry b l (suc p) = rw (eqb·suc-zero p)
+
+hold-record : (s b : ℕ) (d : Disk) (r : Record) → hold s b (withRecord d r) ≡ withRecord d (heldBy s b r)
+unfolding hold
+hold-record zero b d r = refl
+hold-record (suc u) b d r = rw (eqb·suc-zero u)
+
+pub put-disk : (s l p b : ℕ) (d : Disk) → gaveBlock b (hold s b (change s (putAt b l p) d)) ≡ withRecord d (putBlock s l p b (d .rec))
+unfolding gaveBlock putBlock
+put-disk s l p b d =
+    ap (λ (x : Disk). gaveBlock b (hold s b x)) (change-added s (putAt b l p) d (put-carries b l p) ∙ ap (λ (e : LogEntry). withRecord d (added s e (d .rec))) (put-entry b l p))
+    ∙ ap (gaveBlock b) (hold-record s b d (added s (putEntry b l p) (d .rec)))
+
+-- A stream's number, and its view at locations.
+pub stands-range : (d : Disk) (s : ℕ) (t : Tables) → Stands true d s t → s ≤ 4
+unfolding streamOpen
+stands-range d s t k = ⊎-elim (λ e. let z = eqb-true s 0 e in omega arith) (λ e. unit-range d s e .1) (or-cases (eqb s 0) (isOpenUnit d s) (k .opened))
+
+-- unit 1 stands for none
+unit-some : (d : Disk) (s : ℕ) → lengthsRight d ≡ true → recordSound d ≡ true → s ≤ 4 → Lawful d s
+unit-some d zero l h n = let w = unit-lawful d 1 l h (omega arith) (omega arith) in record { room = w .room; lawful = w .lawful }
+unit-some d (suc s) l h n = unit-lawful d (suc s) l h (omega arith) n
+
+-- what the code needs
+pub stands-put : (s : ℕ) (d : Disk) (t : Tables) → Stands true d s t
+    → Shown t × (s ≤ 4) × (d .rec .head < 32) × (unitAt (d .rec) s .len ≤ 15)
+    × (all (λ c. legal (raw 0 (member c))) (from (changeIn (unitAt (d .rec) s)) 0 (unitAt (d .rec) s .len)) ≡ true)
+stands-put s d t k =
+    let n = stands-range d s t k in
+    let w = unit-some d s (k .lengths) (k .sound) n in
+    (record { lists = k .located .here .lists; shows = k .located .shows }, n, right d (k .lengths) (k .sound) .log .head, w .room, w .lawful)
+
+module _ (s : ℕ) (d : Disk) (t : Tables) (k : Stands true d s t) where
+  here : State ℕ
+  here = k .located .here
+
+  view-here : view d s ≡ mapState (contents d) (viewHere (d .rec) s here)
+  unfolding view here unitOf
+  view-here =
+      let n : s ≤ 4 = stands-range d s t k in
+      rw (eqb-false s 5 (λ e. omega arith), k .located .means) (go (eqb s 0))
+    where
+      go : (b : Bool) → cond b (mapState (contents d) here) (overlay zeros (journalOf d s) (mapState (contents d) here))
+          ≡ mapState (contents d) (cond b here (overlay blank (journalHere (unitAt (d .rec) s) s) here))
+      go true = refl
+      go false = overlay-here d s here
+
+  free : freeBlock d ≡ freeBlockIn (d .rec) (here .lists)
+  unfolding freeBlock here
+  free = free-ext _ _ 64 64 (d .rec .«last_block») (λ b. ap (λ (x : Bool). x || not (eqb (holderOf (d .rec) b) 0)) (placed-here d t (committed d) (k .located) b))
+
+  given : ℕ
+  given = orElse 0 (freeBlockIn (d .rec) (here .lists))
+
+  asked : (l p : ℕ) → refusal (newBlock s l p) d ≡ firstNo (rangedPutQuestions l p given (viewHere (d .rec) s here .lists) ++ rooms d s)
+  unfolding refusal questions predecessorRight given
+  asked l p =
+      let v = viewHere (d .rec) s here .lists in
+      entered true d s t
+      ((5, isList l && leb p 64) ∷ (7, taken l (view d s .lists)) ∷ (9, eqb p 0 || onList l p (view d s .lists)) ∷ (10, isSome (freeBlock d)) ∷ rooms d s)
+      k
+      ∙ rw (view-here, free, taken-map (contents d) l v, onList-map (contents d) l p v, free-number (λ b. placed b (here .lists) || not (eqb (holderOf (d .rec) b) 0)) 64 64 (d .rec .«last_block») (omega arith))
+
+  pub puts-performs : (l p : ℕ) (a : NumberReply) (r′ : Record) → PutsFree t s l p (d .rec) a r′ → Performs (newBlock s l p) d (withRecord d r′) (numberAnswer a) []
+  unfolding numberAnswer destination accepted given here
+  puts-performs l p a r′ f = go a (f here (k .located .shows))
+    where
+      go : (a : NumberReply) → Puts (rangedPutQuestions l p given (viewHere (d .rec) s here .lists)) s l p given (d .rec) a r′
+          → Performs (newBlock s l p) d (withRecord d r′) (numberAnswer a) []
+      go (Refused x) h = rw (h .0) (usual-performs-refused (newBlock s l p) d x tt (asked l p ∙ h .1 d refl))
+      go (Number n) h =
+          performs-accepted (newBlock s l p) d _ (asked l p ∙ h .2 d refl)
+          (rw (free, put-disk s l p given d, h .0, h .1))

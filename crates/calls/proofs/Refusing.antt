@@ -1,0 +1,170 @@
+-- From the answers of a call's questions to what it performs: a refusal at the first no, an acceptance when all are answered yes.
+use mathlib.Core.Path.{_≡_, refl, sym, ap, _∙_}
+use mathlib.Core.Logic.{_⊎_, inl, inr, ⊎-elim, _≢_}
+use mathlib.Core.Bool.{Bool, true, false, _&&_, false≢true, and-false}
+use mathlib.Core.List.{List, [], _∷_, _++_}
+use Prim.Native.Nat.{ℕ, suc, _≤_, _<_}
+use native.Mathlib.Omega.{arith}
+use lib.Dec.{leb, eqb}
+use Rattle.lists.specs.Basic.{any}
+use Rattle.lists.specs.Tables.{Tables}
+use Rattle.lists.proofs.Basic.{and-true, or-cases, leb-true, eqb-true, eqb-false, gt-false}
+use Rattle.disk.specs.declared.answer.Refusal.{Refusal}
+use Rattle.disk.specs.declared.answer.Refusal.the-variants.{WrongLength, LogFault, RecordUnsound, StreamClosed, OutOfRange, UnitOpen, ListNotTaken, BlockNotPlaced, PredecessorElsewhere, NoNumberFree, JournalFull, Conflict, QueueFull}
+use Rattle.disk.specs.Disk.{Disk}
+use Rattle.disk.specs.Sound.{lengthsRight, recordSound, isOpenUnit}
+use Rattle.disk.specs.Questions.{streamOpen, questions, ask, firstNo, refusal}
+use Rattle.disk.specs.Call.{Call, format, mount, conflictCount, newList, newBlock, writeBlock, readBlock, deleteBlock, deleteList, begin, end, flush, blockAfter, inventory, ends, destination}
+use Rattle.disk.specs.Perform.{Result, accepted, refused, refusalAnswer, perform}
+use Rattle.disk.specs.Answers.{number, refusedAnswer}
+use Rattle.disk.proofs.Questions.{numbered, unit-range}
+use Rattle.disk.proofs.Clauses.{right}
+use Rattle.disk.proofs.Performing.{perform-accepted, perform-refused, refusedResult}
+use Rattle.calls.specs.Performs.{Performs}
+use Rattle.inspect.specs.Inspect.{openAs, Sees}
+
+-- The first no.
+pub ask-yes : (n : ℕ) (b : Bool) (qs : List (ℕ × Bool)) → b ≡ true → firstNo ((n, b) ∷ qs) ≡ firstNo qs
+unfolding firstNo ask
+ask-yes n b qs h = rw h
+
+pub ask-no : (n : ℕ) (b : Bool) (qs : List (ℕ × Bool)) → b ≡ false → firstNo ((n, b) ∷ qs) ≡ n
+unfolding firstNo ask
+ask-no n b qs h = rw h
+
+-- a no among the first questions is the first no of all
+pub ask-more : (ps qs : List (ℕ × Bool)) (n : ℕ) → n ≢ 0 → firstNo ps ≡ n → firstNo (ps ++ qs) ≡ n
+unfolding firstNo ask
+ask-more [] qs n z h = absurd (z (sym h))
+ask-more ((m, true) ∷ ps) qs n z h = ask-more ps qs n z h
+ask-more ((m, false) ∷ ps) qs n z h = h
+
+pub number-some : (x : Refusal) → (m : ℕ) × (number x ≡ suc m)
+unfolding number
+number-some WrongLength = (_, refl)
+number-some LogFault = (_, refl)
+number-some RecordUnsound = (_, refl)
+number-some StreamClosed = (_, refl)
+number-some OutOfRange = (_, refl)
+number-some UnitOpen = (_, refl)
+number-some ListNotTaken = (_, refl)
+number-some BlockNotPlaced = (_, refl)
+number-some PredecessorElsewhere = (_, refl)
+number-some NoNumberFree = (_, refl)
+number-some JournalFull = (_, refl)
+number-some Conflict = (_, refl)
+number-some QueueFull = (_, refl)
+
+pub number-nonzero : (x : Refusal) → number x ≢ 0
+number-nonzero x e = let (m, h) = number-some x in omega arith
+
+-- Questions 1, 3 and 4, as `look` answers them: before others they say no, or all yes.
+abbrev pub opens : Bool → Disk → ℕ → List (ℕ × Bool)
+opens looked d v = (1, lengthsRight d) ∷ (3, recordSound d) ∷ (4, openAs looked d v) ∷ []
+
+pub not-seen : (looked : Bool) (d : Disk) (v : ℕ) (x : Refusal) (qs : List (ℕ × Bool)) → firstNo (opens looked d v) ≡ number x → firstNo (opens looked d v ++ qs) ≡ number x
+not-seen looked d v x qs h = ask-more (opens looked d v) qs (number x) (number-nonzero x) h
+
+pub seen : {looked : Bool} {d : Disk} {v : ℕ} {t : Tables} (qs : List (ℕ × Bool)) → Sees looked d v t → firstNo (opens looked d v ++ qs) ≡ firstNo qs
+seen {looked} {d} {v} qs s =
+    ask-yes 1 (lengthsRight d) _ (s .lengths) ∙ ask-yes 3 (recordSound d) _ (s .sound) ∙ ask-yes 4 (openAs looked d v) qs (s .opened)
+
+-- what the code needs then: the number is a stream's, and the queue's head a place
+pub seen-ranges : {d : Disk} {s : ℕ} {t : Tables} → Sees false d s t → (s ≤ 4) × (d .rec .head < 32)
+unfolding streamOpen
+seen-ranges {d} {s} h = (
+  ⊎-elim (λ e. let z = eqb-true s 0 e in omega arith) (λ e. unit-range d s e .1) (or-cases (eqb s 0) (isOpenUnit d s) (h .opened)),
+  right d (h .lengths) (h .sound) .log .head,
+)
+
+-- a number out of range
+pub outside : (m n : ℕ) → (n < 1) ⊎ (m < n) → leb 1 n && leb n m ≡ false
+outside m n (inl l) = rw (gt-false 1 n l)
+outside m n (inr l) = rw (gt-false n m l) (and-false (leb 1 n))
+
+pub inside : (m n : ℕ) → leb 1 n && leb n m ≡ true → (1 ≤ n) × (n ≤ m)
+inside m n h = let (a, b) = and-true (leb 1 n) (leb n m) h in (leb-true 1 n a, leb-true n m b)
+
+-- Refused calls.
+pub performs-refused : (c : Call) (d : Disk) (x : Refusal) → number x ≢ 2 → refused c (number x) d ≡ d → refusal c d ≡ number x → Performs c d d (refusedAnswer x) (destination c)
+unfolding refusalAnswer
+performs-refused c d x z r h =
+    let (m, e) = number-some x in
+    perform-refused c d m (h ∙ e)
+    ∙ ap (λ n. refusedResult c n d) (sym e)
+    ∙ rw (r, eqb-false (number x) 2 z, refusalAnswer)
+
+-- the calls that neither mount nor end a unit: their refusals change nothing, and answer a number alone
+abbrev pub Usual : Call → Type 0
+Usual format = Unit {0}
+Usual mount = ⊥
+Usual conflictCount = Unit {0}
+Usual (newList s) = Unit {0}
+Usual (newBlock s l p) = Unit {0}
+Usual (writeBlock s b x) = Unit {0}
+Usual (readBlock v b x) = Unit {0}
+Usual (deleteBlock s b) = Unit {0}
+Usual (deleteList s l) = Unit {0}
+Usual (begin u) = Unit {0}
+Usual (end u) = ⊥
+Usual (flush a) = Unit {0}
+Usual (blockAfter v l p) = Unit {0}
+Usual (inventory v x) = Unit {0}
+
+-- such a call does not ask whether the log is acceptable
+asks-two : (c : Call) (d : Disk) → Usual c → any (λ q. eqb (q .0) 2) (questions c d) ≡ false
+unfolding questions
+asks-two format d u = refl
+asks-two mount d u = absurd u
+asks-two conflictCount d u = refl
+asks-two (newList s) d u = refl
+asks-two (newBlock s l p) d u = refl
+asks-two (writeBlock s b x) d u = refl
+asks-two (readBlock v b x) d u = refl
+asks-two (deleteBlock s b) d u = refl
+asks-two (deleteList s l) d u = refl
+asks-two (begin w) d u = refl
+asks-two (end w) d u = absurd u
+asks-two (flush a) d u = refl
+asks-two (blockAfter v l p) d u = refl
+asks-two (inventory v x) d u = refl
+
+usual-refused : (c : Call) (n : ℕ) (d : Disk) → Usual c → refused c n d ≡ d
+unfolding refused ends
+usual-refused format n d u = refl
+usual-refused mount n d u = absurd u
+usual-refused conflictCount n d u = refl
+usual-refused (newList s) n d u = refl
+usual-refused (newBlock s l p) n d u = refl
+usual-refused (writeBlock s b x) n d u = refl
+usual-refused (readBlock v b x) n d u = refl
+usual-refused (deleteBlock s b) n d u = refl
+usual-refused (deleteList s l) n d u = refl
+usual-refused (begin w) n d u = refl
+usual-refused (end w) n d u = absurd u
+usual-refused (flush a) n d u = refl
+usual-refused (blockAfter v l p) n d u = refl
+usual-refused (inventory v x) n d u = refl
+
+pub usual-performs-refused : (c : Call) (d : Disk) (x : Refusal) → Usual c → refusal c d ≡ number x → Performs c d d (refusedAnswer x) (destination c)
+unfolding refusal
+usual-performs-refused c d x u h = performs-refused c d x (λ e. false≢true (sym (asks-two c d u) ∙ numbered (questions c d) 2 (omega arith) (h ∙ e))) (usual-refused c (number x) d u) h
+
+-- an End refused by another question than 12
+end-asks-two : (u : ℕ) (d : Disk) → any (λ q. eqb (q .0) 2) (questions (end u) d) ≡ false
+unfolding questions
+end-asks-two u d = refl
+
+pub end-performs-refused : (u : ℕ) (d : Disk) (x : Refusal) → number x ≢ 12 → refusal (end u) d ≡ number x → Performs (end u) d d (refusedAnswer x) []
+unfolding refused ends destination refusal
+end-performs-refused u d x z h =
+    performs-refused (end u) d x (λ e. false≢true (sym (end-asks-two u d) ∙ numbered (questions (end u) d) 2 (omega arith) (h ∙ e))) (rw (eqb-false (number x) 12 z, refused)) h
+
+-- refused by a question that `look` answers
+pub look-refused : (k : Call) (d : Disk) (looked : Bool) (v : ℕ) (x : Refusal) (qs : List (ℕ × Bool)) → Usual k → refusal k d ≡ firstNo (opens looked d v ++ qs)
+    → firstNo (opens looked d v) ≡ number x → Performs k d d (refusedAnswer x) (destination k)
+look-refused k d looked v x qs u q h = usual-performs-refused k d x u (q ∙ not-seen looked d v x qs h)
+
+-- Accepted calls.
+pub performs-accepted : (c : Call) (d : Disk) (r : Result) → refusal c d ≡ 0 → accepted c d ≡ r → perform c d ≡ r
+performs-accepted c d r h a = perform-accepted c d h ∙ a

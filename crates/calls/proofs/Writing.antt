@@ -1,0 +1,74 @@
+-- A write added on a stream: the disk that the definition leaves by the record with the entry more and the content copied.
+use mathlib.Core.Path.{_≡_, refl}
+use mathlib.Core.Bool.{true, false, _&&_}
+use mathlib.Core.List.{List, [], _∷_}
+use Prim.Native.Nat.{ℕ, zero, suc, _≤_, _<_}
+use native.Mathlib.Omega.{arith}
+use lib.Dec.{eqb, eqb·suc-zero}
+use lib.ListN.{length}
+use Rattle.lists.specs.Change.{write, carriedBy}
+use Rattle.lists.specs.State.{placed}
+use Rattle.lists.specs.Tables.{Tables, OfOwners}
+use Rattle.lists.proofs.Basic.{and-true, eqb-true}
+use Rattle.log.specs.declared.entry.LogEntry.the-variants.{Write}
+use Rattle.log.specs.Card.{Content, slotBytes}
+use Rattle.log.specs.Entry.{isBlock, carried, logChange}
+use Rattle.disk.specs.declared.record.Record.{Record}
+use Rattle.disk.specs.declared.answer.Refusal.{Refusal}
+use Rattle.disk.specs.declared.answer.Reply.{Reply}
+use Rattle.disk.specs.declared.answer.Reply.the-variants.{Accepted, Refused}
+use Rattle.disk.specs.Record.{unitAt}
+use Rattle.disk.specs.Disk.{Disk, disk, withRecord, unitOf, view}
+use Rattle.disk.specs.Questions.{journalRoom, questions, refusal}
+use Rattle.disk.specs.Call.{writeBlock, destination}
+use Rattle.disk.specs.Perform.{accepted, change, enqueue, journalAdd, queuedEntry, spliceSome}
+use Rattle.disk.specs.Answers.{replyAnswer}
+use Rattle.disk.proofs.Questions.{yes-all, queue-data, journal-data, journal-room}
+use Rattle.disk.proofs.Clauses.{right}
+use Rattle.calls.specs.Performs.{Performs}
+use Rattle.inspect.specs.Inspect.{Sees}
+use Rattle.calls.specs.Adds.{added, AddsAfter, Fits, Copies}
+use Rattle.calls.proofs.Refusing.{seen-ranges, usual-performs-refused, performs-accepted}
+use Rattle.calls.proofs.Adding.{Decides, seen-decides}
+use Rattle.inspect.proofs.Locating.{placed-here}
+
+change-written : (s : ℕ) (d : Disk) (b : ℕ) (x : Content) (q j : List ℕ) → Copies s (d .rec) x (d .queueData) (d .journalData) q j
+    → change s (write b x) d ≡ disk (d .card) q j (added s (Write b 0) (d .rec))
+unfolding change enqueue journalAdd queuedEntry carried carriedBy logChange added unitOf spliceSome
+change-written zero d b x q j k = rw (k .queue, k .journal)
+change-written (suc u) d b x q j k = rw (k .queue, k .journal, eqb·suc-zero u)
+
+module _ (d : Disk) (s b : ℕ) (x : Content) (a : Reply) (r : Record) where
+  pub write-decides : (t : Tables) → Sees false d s t → OfOwners (t .owner) (λ rs. AddsAfter ((5, isBlock b && eqb (length x) slotBytes) ∷ (8, placed b rs) ∷ []) s (Write b 0) (d .rec) a r)
+      → Decides (writeBlock s b x) d s (Write b 0) a r
+  unfolding refusal questions
+  write-decides t z f =
+      seen-decides (writeBlock s b x) d s (Write b 0) 8 (isBlock b && eqb (length x) slotBytes) (placed b (view d s .lists)) (placed b) t a r refl z (placed-here d t (view d s) (z .located) b) f
+
+  pub write-refused : (y : Refusal) → a ≡ Refused y → Decides (writeBlock s b x) d s (Write b 0) a r → Performs (writeBlock s b x) d (withRecord d r) (replyAnswer a) []
+  unfolding replyAnswer destination
+  write-refused y e h = let k = rw e at h in rw (e, k .0) (usual-performs-refused (writeBlock s b x) d y tt (k .1))
+
+  pub write-accepted : a ≡ Accepted → Decides (writeBlock s b x) d s (Write b 0) a r → (q j : List ℕ) → Copies s (d .rec) x (d .queueData) (d .journalData) q j
+      → Performs (writeBlock s b x) d (disk (d .card) q j r) (replyAnswer a) []
+  unfolding replyAnswer accepted
+  write-accepted e h q j k =
+      let w = rw e at h in
+      rw (e, w .0) (performs-accepted (writeBlock s b x) d _ (w .1) (rw (change-written s d b x q j k)))
+
+  -- what copying needs then
+  pub write-fits : (t : Tables) → Sees false d s t → a ≡ Accepted → Decides (writeBlock s b x) d s (Write b 0) a r
+      → (length (d .queueData) ≡ 8192) × (length (d .journalData) ≡ 15360) × (length x ≡ 256) × Fits s (d .rec)
+  unfolding questions unitOf
+  write-fits t z e h =
+      let w = rw e at h in
+      let yes = yes-all (writeBlock s b x) d (w .1) in (
+        queue-data d (z .lengths),
+        journal-data d (z .lengths),
+        eqb-true (length x) 256 (and-true (isBlock b) (eqb (length x) 256) (yes 3) .1),
+        (seen-ranges z .0, right d (z .lengths) (z .sound) .log .room, seen-ranges z .1, room s (yes 5)),
+      )
+    where
+      room : (s : ℕ) → journalRoom d s ≡ true → 1 ≤ s → unitAt (d .rec) s .len < 15
+      room zero y l = absurd (omega arith)
+      room (suc u) y l = journal-room d u y

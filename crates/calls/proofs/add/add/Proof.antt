@@ -1,0 +1,66 @@
+-- Each answer is that of the length tested, of the queue or of the unit's journal. Assumes nothing.
+use mathlib.Core.Path.{_≡_, refl}
+use mathlib.Core.Logic.{_≢_}
+use native.Mathlib.Omega.{arith}
+use borrow.Author.Needs.{needs}
+use Rattle.lists.proofs.Basic.{eqb-false}
+use Rattle.disk.specs.Answers.{number}
+use Rattle.calls.specs.Adds.{added}
+use Rattle.calls.proofs.Adding.{queue-full, queue-takes, journal-full, journal-takes}
+use Rattle.calls.proofs.add.add.Statement.{statement}
+use Rattle.calls.proofs.add.add.Tie as tie
+
+returns : tie.Need-returns
+unfolding number
+returns c =
+    let a = c .before .before .args in
+    (refl, λ d e. queue-full d (a .t1) (a .s) e (omega arith) (omega arith))
+
+append-requires : tie.Need-append-requires
+append-requires c κs = search needs
+
+returns-2 : tie.Need-returns-2
+unfolding added
+returns-2 c =
+    let a = c .before .before .before .args in
+    let z : a .s ≡ 0 = omega arith in
+    (rw z (c .append .ensures), λ d e. queue-takes d (a .t1) (a .s) e z (omega arith))
+
+sub-if3 : tie.Need-sub-if3
+sub-if3 c = search needs
+
+mul-if3 : tie.Need-mul-if3
+mul-if3 c = search needs
+
+element-copy-out-if3 : tie.Need-element-copy-out-if3
+element-copy-out-if3 c = search needs
+
+returns-3 : tie.Need-returns-3
+unfolding number
+returns-3 c =
+    let a = c .before .before .args in
+    (refl, λ d e. journal-full d (a .t1) (a .s) e (omega arith) (omega arith))
+
+journal-requires : tie.Need-journal-requires
+journal-requires c κs = search needs
+
+returns-4 : tie.Need-returns-4
+unfolding added
+returns-4 c =
+    let a = c .before .before .before .args in
+    let z : a .s ≢ 0 = omega arith in
+    (rw (eqb-false (a .s) 0 z) (c .journal .ensures), λ d e. journal-takes d (a .t1) (a .s) e z (omega arith))
+
+pub add-spec : {M : Type 1} → statement M
+add-spec =
+    tie.close
+    (tie.spec
+    returns
+    append-requires
+    returns-2
+    sub-if3
+    mul-if3
+    element-copy-out-if3
+    returns-3
+    journal-requires
+    returns-4)

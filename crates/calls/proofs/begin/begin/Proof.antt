@@ -1,0 +1,73 @@
+-- Questions 1 and 3 are those of `check`; the unit's number and whether it is open are tested behind them. Assumes nothing.
+use mathlib.Core.Path.{refl, _∙_}
+use mathlib.Core.Logic.{inl, inr, ⊎-elim}
+use native.Mathlib.Omega.{arith}
+use borrow.Author.Tests.{ltb-true, ltb-false}
+use borrow.Author.Needs.{needs}
+use Rattle.calls.proofs.begin.begin.Statement.{statement}
+use Rattle.disk.specs.Disk.{disk, unitOf}
+use Rattle.disk.specs.Call as Call
+use Rattle.disk.specs.Call.{destination}
+use Rattle.disk.specs.Questions.{questions, refusal}
+use Rattle.disk.specs.Perform.{opening}
+use Rattle.disk.specs.Answers.{replyAnswer}
+use Rattle.calls.proofs.Checking.{check-refused, begin-outside, begin-twice, begin-opens}
+use Rattle.calls.proofs.begin.begin.Tie as tie
+
+check-requires : tie.Need-check-requires
+check-requires c κs = search needs
+
+enum-known-x : tie.Need-enum-known-x
+enum-known-x c = search needs
+
+returns : tie.Need-returns
+unfolding refusal questions destination replyAnswer
+returns c =
+    let a = c .before .before .before .before .before .before .before .args in
+    check-refused (Call.begin (a .u)) (disk (a .card .now) (a .queue-data .now) (a .journal-data .now) (a .rec)) _ _ tt refl (rw (c .before .x .given .1) at (c .before .before .before .check .ensures))
+
+enum-told : tie.Need-enum-told
+enum-told c = search needs
+
+returns-2 : tie.Need-returns-2
+unfolding replyAnswer
+returns-2 c =
+    let a = c .before .before .before .before .before .before .before .args in
+    begin-outside (disk (a .card .now) (a .queue-data .now) (a .journal-data .now) (a .rec)) (a .u) (rw (c .before .enum-told .given .1) at (c .before .before .before .check .ensures))
+    (⊎-elim (λ x. inl (x .taken)) (λ x. inr (ltb-true 4 (a .u) (x .1 .taken))) (c .if1 .came))
+
+is-open-requires : tie.Need-is-open-requires
+is-open-requires c κs = search needs
+
+returns-3 : tie.Need-returns-3
+unfolding replyAnswer
+returns-3 c =
+    let a = c .before .before .before .before .before .before .before .before .before .before .args in
+    begin-twice (disk (a .card .now) (a .queue-data .now) (a .journal-data .now) (a .rec)) (a .u) (rw (c .before .before .before .before .enum-told .given .1) at (c .before .before .before .before .before .before .check .ensures))
+    (omega arith) (ltb-false 4 (a .u) (c .before .before .if2 .left)) (c .before .is-open .result) (c .before .is-open .ensures) (c .if3 .taken)
+
+empty-requires : tie.Need-empty-requires
+empty-requires c κs = search needs
+
+returns-4 : tie.Need-returns-4
+unfolding replyAnswer opening unitOf
+returns-4 c =
+    let a = c .before .before .before .before .before .before .before .before .before .before .before .args in
+    let d = disk (a .card .now) (a .queue-data .now) (a .journal-data .now) (a .rec) in
+    begin-opens d (a .u) (rw (c .before .before .before .before .before .enum-told .given .1) at (c .before .before .before .before .before .before .before .check .ensures))
+    (omega arith) (ltb-false 4 (a .u) (c .before .before .before .if2 .left)) (c .before .before .is-open .result) (c .before .before .is-open .ensures) (c .before .if3 .left)
+    ∙ rw (c .empty .ensures)
+
+pub begin-spec : {M : Type 1} → statement M
+begin-spec =
+    tie.close
+    (tie.spec
+    check-requires
+    enum-known-x
+    returns
+    enum-told
+    returns-2
+    is-open-requires
+    returns-3
+    empty-requires
+    returns-4)

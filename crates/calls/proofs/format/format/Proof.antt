@@ -1,0 +1,70 @@
+-- Question 1 alone decides, and the stores are the definition's. Assumes nothing.
+use mathlib.Core.Path.{_≡_, refl, sym, _∙_}
+use mathlib.Core.Bool.{true, false}
+use mathlib.Core.List.{[]}
+use lib.ListN.{length}
+use borrow.Author.Needs.{needs}
+use borrow.Author.Tests.{not-true, not-false}
+use Rattle.log.specs.Card.{segmentsIn}
+use Rattle.disk.specs.declared.answer.Refusal.the-variants.{WrongLength}
+use Rattle.disk.specs.declared.answer.Reply.the-variants.{Accepted, Refused}
+use Rattle.disk.specs.Record.{freshRecord}
+use Rattle.disk.specs.Disk.{Disk, disk}
+use Rattle.disk.specs.Sound.{lengthsRight}
+use Rattle.disk.specs.Call.{format, ends, destination}
+use Rattle.disk.specs.Questions.{questions, refusal, firstNo, ask}
+use Rattle.disk.specs.Perform.{formatted, accepted, refused, refusalAnswer}
+use Rattle.disk.specs.Answers.{number, replyAnswer}
+use Rattle.disk.proofs.Performing.{perform-accepted, perform-refused}
+use Rattle.calls.specs.Performs.{Performs}
+use Rattle.calls.proofs.format.format.Statement.{statement}
+use Rattle.calls.proofs.format.format.Tie as tie
+
+format-refused : (d : Disk) → lengthsRight d ≡ false → Performs format d d (replyAnswer (Refused WrongLength)) []
+unfolding refusal questions firstNo ask refused ends refusalAnswer destination replyAnswer number
+format-refused d h = perform-refused format d 0 (rw h)
+
+format-accepted : (d : Disk) → lengthsRight d ≡ true
+    → Performs format d (disk (formatted (segmentsIn (d .card)) (d .card)) (d .queueData) (d .journalData) freshRecord) (replyAnswer Accepted) []
+unfolding refusal questions firstNo ask accepted replyAnswer
+format-accepted d h = perform-accepted format d (rw h)
+
+lengths-right-requires : tie.Need-lengths-right-requires
+lengths-right-requires c κs = search needs
+
+same-length : tie.Need-same-length
+same-length c = search needs
+
+returns : tie.Need-returns
+returns c =
+    let s = c .before .before .before .before .before .before in
+    format-refused _ (sym (c .before .lengths-right .ensures (s .args .rec)) ∙ not-true (c .before .lengths-right .result) (c .if1 .taken))
+
+format-stores-requires : tie.Need-format-stores-requires
+format-stores-requires c κs = search needs
+
+fresh-requires : tie.Need-fresh-requires
+fresh-requires c κs = search needs
+
+same-length-2 : tie.Need-same-length-2
+same-length-2 c = search needs
+
+returns-2 : tie.Need-returns-2
+unfolding formatted
+returns-2 c =
+    let f = c .before .before .before in
+    let l = f .before .before .before in
+    let a = l .before .before .before .before .before .args in
+    rw (f .format-stores .ensures, c .fresh .ensures) (format-accepted _ (sym (l .lengths-right .ensures (a .rec)) ∙ not-false (l .lengths-right .result) (f .before .before .if1 .left)))
+
+pub format-spec : {M : Type 1} → statement M
+format-spec =
+    tie.close
+    (tie.spec
+    lengths-right-requires
+    same-length
+    returns
+    format-stores-requires
+    fresh-requires
+    same-length-2
+    returns-2)

@@ -1,0 +1,43 @@
+-- The number is the first free one, and 0 is none. Assumes nothing.
+use Rattle.calls.proofs.Giving.{takes-none, takes-full, takes}
+use mathlib.Core.Path.{ap, _∙_}
+use Rattle.disk.specs.declared.record.Record.{Record}
+use Rattle.disk.specs.Record.{withLastList}
+use borrow.Author.Needs.{needs}
+use Rattle.calls.proofs.give.take_list.Statement.{statement}
+use Rattle.calls.proofs.give.take_list.Tie as tie
+
+free-list-requires : tie.Need-free-list-requires
+free-list-requires c κs = search needs
+
+returns : tie.Need-returns
+returns c nx pv pl rs sh = takes-none _ rs _ (c .before .free-list .ensures nx pv pl rs sh) (c .if1 .taken)
+
+returns-2 : tie.Need-returns-2
+returns-2 c nx pv pl rs sh = takes-full _ rs _ (c .before .before .before .free-list .ensures nx pv pl rs sh) (c .before .before .if1 .left) (c .if2 .taken)
+
+append-requires : tie.Need-append-requires
+append-requires c κs = search needs
+
+cast-t12 : tie.Need-cast-t12
+cast-t12 c = search needs
+
+gave-list-requires : tie.Need-gave-list-requires
+gave-list-requires c κs = search needs
+
+returns-3 : tie.Need-returns-3
+returns-3 c nx pv pl rs sh =
+    takes (c .before .before .before .before .before .before .args .rec) rs _ (c .before .before .before .before .before .free-list .ensures nx pv pl rs sh) (c .before .before .before .before .if1 .left) (c .before .before .if2 .left) _
+    (c .gave-list .ensures ∙ ap (λ (x : Record). withLastList x (c .before .before .before .before .before .free-list .result)) (c .before .append .ensures))
+
+pub take-list-spec : {M : Type 1} → statement M
+take-list-spec =
+    tie.close
+    (tie.spec
+    free-list-requires
+    returns
+    returns-2
+    append-requires
+    cast-t12
+    gave-list-requires
+    returns-3)

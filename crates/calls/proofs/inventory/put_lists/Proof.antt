@@ -1,0 +1,80 @@
+-- Each turn stores the list taken next. Assumes nothing.
+use mathlib.Core.Path.{_≡_, refl, _∙_}
+use Prim.Native.Nat.{_-_, _≤_}
+use native.Mathlib.Omega.{arith}
+use lib.ListN.{length, length-set}
+use Rattle.lists.specs.Tables.{tables, OfNext}
+use Rattle.calls.proofs.Taken.{Storing, storing-none, storing-more, storing-end, storing-full}
+use Rattle.calls.proofs.inventory.put_lists.Statement.{statement}
+use Rattle.calls.proofs.inventory.put_lists.Tie as tie
+
+abbrev Inv-loop : tie.InvT-loop
+Inv-loop next dest₀ list₀ i₀ dest list i = (i ≤ 16) × (length dest ≡ length dest₀) × OfNext next (λ rs. Storing dest₀ rs i dest list)
+
+abbrev μ-loop : tie.MeasureT-loop
+μ-loop next dest₀ list₀ i₀ dest list i = 16 - i
+
+list-after-requires : tie.Need-list-after-requires Inv-loop μ-loop
+list-after-requires c κs = tt
+
+loop-holds : tie.Need-loop-holds Inv-loop μ-loop
+loop-holds c =
+    let a = c .before .before .args in
+    (omega arith, refl, λ pv ow pl rs w. storing-none (a .dest .now) rs (c .list-after .result) (c .list-after .ensures pv ow pl rs w refl))
+
+same-length : tie.Need-same-length Inv-loop μ-loop
+same-length c = c .before .before .loop .inv .1
+
+returns : tie.Need-returns Inv-loop μ-loop
+returns c =
+    let s = c .before .before .loop in
+    let a = c .before .before .before .before .before .args in
+    λ pv ow pl rs w. storing-end (tables (a .next .now) pv ow pl) rs w (s .inv .2 pv ow pl rs w) (c .if1 .taken)
+
+slice-write-dest : tie.Need-slice-write-dest Inv-loop μ-loop
+slice-write-dest c = omega (arith, c .before .before .loop .inv .1)
+
+list-after-requires-2 : tie.Need-list-after-requires-2 Inv-loop μ-loop
+list-after-requires-2 c κs = tt
+
+add-i : tie.Need-add-i Inv-loop μ-loop
+add-i c = omega arith
+
+loop-less : tie.Need-loop-less Inv-loop μ-loop
+loop-less c = omega arith
+
+loop-again : tie.Need-loop-again Inv-loop μ-loop
+loop-again c =
+    let s = c .before .before .before .loop in
+    let a = c .before .before .before .before .before .before .args in (
+      omega arith,
+      length-set (s .dest) (s .i) (s .list) ∙ s .inv .1,
+      λ pv ow pl rs w. storing-more (tables (a .next .now) pv ow pl) rs w (s .inv .2 pv ow pl rs w) (omega arith) (c .before .if1 .left) (c .list-after2 .ensures pv ow pl rs w),
+    )
+
+same-length-2 : tie.Need-same-length-2 Inv-loop μ-loop
+same-length-2 c = c .before .loop .inv .1
+
+returns-2 : tie.Need-returns-2 Inv-loop μ-loop
+returns-2 c =
+    let s = c .before .loop in
+    let a = c .before .before .before .before .args in
+    λ pv ow pl rs w. storing-full (tables (a .next .now) pv ow pl) rs w (s .inv .2 pv ow pl rs w) (omega arith)
+
+pub put-lists-spec : {M : Type 1} → statement M
+put-lists-spec =
+    tie.close
+    (tie.spec
+    Inv-loop
+    μ-loop
+    list-after-requires
+    loop-holds
+    same-length
+    returns
+    slice-write-dest
+    list-after-requires-2
+    add-i
+    loop-less
+    loop-again
+    same-length-2
+    returns-2)

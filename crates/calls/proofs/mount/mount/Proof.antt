@@ -1,0 +1,98 @@
+-- Questions 1 and 2 are those of the log's mounting. Assumes nothing.
+use mathlib.Core.Path.{_≡_, refl, sym, _∙_}
+use mathlib.Core.Bool.{true, false, true≢false}
+use mathlib.Core.List.{[]}
+use Prim.Native.Nat.{ℕ}
+use borrow.Author.Needs.{needs}
+use borrow.Author.Tests.{not-true, not-false}
+use Rattle.lists.specs.Basic.{isSome}
+use Rattle.log.specs.Reader.{Reader}
+use Rattle.log.specs.Card.{Content, sound, fault, mounted}
+use Rattle.disk.specs.declared.answer.Refusal.the-variants.{WrongLength}
+use Rattle.disk.specs.declared.answer.MountReply.the-variants.{Accepted, Fault, Refused}
+use Rattle.disk.specs.Record.{freshRecord}
+use Rattle.disk.specs.Disk.{Disk, withRecord, readerOf}
+use Rattle.disk.specs.Sound.{lengthsRight}
+use Rattle.disk.specs.Call.{mount, ends, destination}
+use Rattle.disk.specs.Questions.{mountable, questions, refusal, firstNo, ask}
+use Rattle.disk.specs.Perform.{accepted, refused, faultAt, refusalAnswer}
+use Rattle.disk.specs.Answers.{number, mountAnswer}
+use Rattle.disk.proofs.Performing.{perform-accepted, perform-refused}
+use Rattle.disk.proofs.Questions.{card-length}
+use Rattle.calls.specs.Performs.{Performs}
+use Rattle.calls.proofs.mount.mount.Statement.{statement}
+use Rattle.calls.proofs.mount.mount.Tie as tie
+
+mount-refused : (d : Disk) → lengthsRight d ≡ false → Performs mount d d (mountAnswer (Refused WrongLength)) []
+unfolding refusal questions firstNo ask refused ends refusalAnswer destination mountAnswer number
+mount-refused d h = perform-refused mount d 0 (rw h)
+
+mount-fault : (d : Disk) (g i : ℕ) → lengthsRight d ≡ true → mounted (d .card) ≡ fault g i → Performs mount d d (mountAnswer (Fault g i)) []
+unfolding refusal questions firstNo ask mountable readerOf isSome refused ends refusalAnswer faultAt destination mountAnswer
+mount-fault d g i h m = perform-refused mount d 1 (rw (h, m)) ∙ rw m
+
+mount-accepted : (d : Disk) (r : Reader Content) → lengthsRight d ≡ true → mounted (d .card) ≡ sound r
+    → Performs mount d (withRecord d freshRecord) (mountAnswer Accepted) []
+unfolding refusal questions firstNo ask mountable readerOf isSome accepted mountAnswer
+mount-accepted d r h m = perform-accepted mount d (rw (h, m))
+
+lengths-right-requires : tie.Need-lengths-right-requires
+lengths-right-requires c κs = search needs
+
+returns : tie.Need-returns
+returns c =
+    let s = c .before .before .before .before .before in
+    mount-refused _ (sym (c .before .lengths-right .ensures (s .args .rec)) ∙ not-true (c .before .lengths-right .result) (c .if1 .taken))
+
+mount-requires : tie.Need-mount-requires
+mount-requires c κs = search needs
+
+enum-told : tie.Need-enum-told
+enum-told c = search needs
+
+enum-known-segment : tie.Need-enum-known-segment
+enum-known-segment c = search needs
+
+enum-told-2 : tie.Need-enum-told-2
+enum-told-2 c = search needs
+
+fresh-requires : tie.Need-fresh-requires
+fresh-requires c κs = search needs
+
+returns-2 : tie.Need-returns-2
+returns-2 c =
+    let l = c .before .before .before .before in
+    let s = l .before .before .before .before in
+    let h = sym (l .lengths-right .ensures (s .args .rec)) ∙ not-false (l .lengths-right .result) (c .before .before .before .if1 .left) in
+    absurd (true≢false (sym (card-length _ h) ∙ (rw (c .enum-told .given .1) at (c .before .before .mount .ensures))))
+
+returns-3 : tie.Need-returns-3
+returns-3 c =
+    let l = c .before .before .before .before .before in
+    let s = l .before .before .before .before in
+    let h = sym (l .lengths-right .ensures (s .args .rec)) ∙ not-false (l .lengths-right .result) (c .before .before .before .before .if1 .left) in
+    let w = rw (c .before .segment .given .1) at (c .before .before .before .mount .ensures) in
+    mount-fault _ _ _ h (w .1)
+
+returns-4 : tie.Need-returns-4
+returns-4 c =
+    let l = c .before .before .before .before .before in
+    let s = l .before .before .before .before in
+    let h = sym (l .lengths-right .ensures (s .args .rec)) ∙ not-false (l .lengths-right .result) (c .before .before .before .before .if1 .left) in
+    let w = rw (c .before .enum-told2 .given .1) at (c .before .before .before .mount .ensures) in
+    rw (c .fresh .ensures) (mount-accepted _ (w .reader) h (w .walked))
+
+pub mount-spec : {M : Type 1} → statement M
+mount-spec =
+    tie.close
+    (tie.spec
+    lengths-right-requires
+    returns
+    mount-requires
+    enum-told
+    enum-known-segment
+    enum-told-2
+    fresh-requires
+    returns-2
+    returns-3
+    returns-4)

@@ -1,0 +1,48 @@
+-- Questions 1, 3 and 4 are those of `enter`; behind them the tables show the committed state. Assumes nothing.
+use mathlib.Core.Path.{refl}
+use mathlib.Core.Bool.{true}
+use Rattle.disk.specs.Disk.{disk}
+use Rattle.disk.specs.Call.{newBlock, destination}
+use Rattle.disk.specs.Questions.{questions, refusal}
+use Rattle.disk.specs.Answers.{numberAnswer}
+use Rattle.calls.proofs.Entering.{enter-refused}
+use Rattle.calls.proofs.Putting.{stands-put, puts-performs}
+use borrow.Author.Needs.{needs}
+use Rattle.calls.proofs.new_block.new_block.Statement.{statement}
+use Rattle.calls.proofs.new_block.new_block.Tie as tie
+
+enter-requires : tie.Need-enter-requires
+enter-requires c κs = search needs
+
+enum-known-x : tie.Need-enum-known-x
+enum-known-x c = search needs
+
+returns : tie.Need-returns
+unfolding refusal questions destination numberAnswer
+returns c =
+    let l = c .before .before .before in
+    let a = l .before .before .before .before .before .before .before .before .args in
+    let d = disk (a .card .now) (a .queue-data .now) (a .journal-data .now) (a .rec) in
+    enter-refused true d (a .s) (newBlock (a .s) (a .l) (a .p)) _ _ tt refl (rw (c .before .x .given .1) at (l .enter .ensures))
+
+enum-told : tie.Need-enum-told
+enum-told c = search needs
+
+put-free-requires : tie.Need-put-free-requires
+put-free-requires c κs =
+    let l = c .before .before .before .before .before .before in
+    let a = l .before .before .before .before .before .before .before .before .args in
+    let d = disk (a .card .now) (a .queue-data .now) (a .journal-data .now) (a .rec) in
+    stands-put (a .s) d _ (rw (c .before .before .before .before .enum-told .given .1) at (l .enter .ensures))
+
+returns-2 : tie.Need-returns-2
+returns-2 c =
+    let l = c .before .before .before .before .before .before .before in
+    let a = l .before .before .before .before .before .before .before .before .args in
+    let d = disk (a .card .now) (a .queue-data .now) (a .journal-data .now) (a .rec) in
+    let k = rw (c .before .before .before .before .before .enum-told .given .1) at (l .enter .ensures) in
+    puts-performs (a .s) d _ k (a .l) (a .p) (c .put-free .result .reply) (c .put-free .result .rec) (c .put-free .ensures)
+
+pub new-block-spec : {M : Type 1} → statement M
+new-block-spec =
+    tie.close (tie.spec enter-requires enum-known-x returns enum-told put-free-requires returns-2)

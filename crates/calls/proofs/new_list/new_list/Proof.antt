@@ -1,0 +1,47 @@
+-- Questions 1, 3 and 4 are those of `enter`; behind them the tables show the committed state. Assumes nothing.
+use mathlib.Core.Path.{refl}
+use mathlib.Core.Bool.{true}
+use Rattle.disk.specs.Disk.{disk}
+use Rattle.disk.specs.Call.{newList, destination}
+use Rattle.disk.specs.Questions.{questions, refusal}
+use Rattle.disk.specs.Answers.{numberAnswer}
+use Rattle.disk.proofs.Clauses.{right}
+use Rattle.calls.proofs.Entering.{enter-refused}
+use Rattle.calls.proofs.Giving.{takes-performs}
+use borrow.Author.Needs.{needs}
+use Rattle.calls.proofs.new_list.new_list.Statement.{statement}
+use Rattle.calls.proofs.new_list.new_list.Tie as tie
+
+enter-requires : tie.Need-enter-requires
+enter-requires c κs = search needs
+
+enum-known-x : tie.Need-enum-known-x
+enum-known-x c = search needs
+
+returns : tie.Need-returns
+unfolding refusal questions destination numberAnswer
+returns c =
+    let l = c .before .before .before in
+    let a = l .before .before .before .before .before .before .before .before .args in
+    let d = disk (a .card .now) (a .queue-data .now) (a .journal-data .now) (a .rec) in
+    enter-refused true d (a .s) (newList (a .s)) _ _ tt refl (rw (c .before .x .given .1) at (l .enter .ensures))
+
+enum-told : tie.Need-enum-told
+enum-told c = search needs
+
+take-list-requires : tie.Need-take-list-requires
+take-list-requires c κs =
+    let k = rw (c .before .enum-told .given .1) at (c .before .before .before .enter .ensures) in
+    right _ (k .lengths) (k .sound) .log .head
+
+returns-2 : tie.Need-returns-2
+returns-2 c =
+    let l = c .before .before .before .before in
+    let a = l .before .before .before .before .before .before .before .before .args in
+    let d = disk (a .card .now) (a .queue-data .now) (a .journal-data .now) (a .rec) in
+    let k = rw (c .before .before .enum-told .given .1) at (l .enter .ensures) in
+    takes-performs (a .s) d _ k (c .take-list .result .reply) (c .take-list .result .rec) (c .take-list .ensures _ _ _ (k .located .here .lists) (k .located .shows))
+
+pub new-list-spec : {M : Type 1} → statement M
+new-list-spec =
+    tie.close (tie.spec enter-requires enum-known-x returns enum-told take-list-requires returns-2)

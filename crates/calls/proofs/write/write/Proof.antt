@@ -1,0 +1,103 @@
+-- Questions 1, 3 and 4 are those of `look_owners`; behind them the owners are those of the stream's view, and an accepted content is copied to its place. Assumes nothing.
+use mathlib.Core.Path.{refl}
+use mathlib.Core.Bool.{false}
+use borrow.Author.Needs.{needs}
+use Rattle.calls.proofs.write.write.Statement.{statement}
+use Rattle.disk.specs.Disk.{disk}
+use Rattle.disk.specs.Call.{writeBlock, destination}
+use Rattle.disk.specs.Questions.{questions, refusal}
+use Rattle.disk.specs.Answers.{replyAnswer}
+use Rattle.calls.proofs.Refusing.{look-refused, seen-ranges}
+use Rattle.calls.proofs.Writing.{write-decides, write-refused, write-accepted, write-fits}
+use Rattle.calls.proofs.write.write.Tie as tie
+
+look-owners-requires : tie.Need-look-owners-requires
+look-owners-requires c κs = search needs
+
+enum-known-x : tie.Need-enum-known-x
+enum-known-x c = search needs
+
+same-length : tie.Need-same-length
+same-length c = search needs
+
+same-length-2 : tie.Need-same-length-2
+same-length-2 c = search needs
+
+returns : tie.Need-returns
+unfolding refusal questions destination replyAnswer
+returns c =
+    let a = c .before .before .before .before .before .before .before .before .before .before .before .args in
+    look-refused (writeBlock (a .s) (a .b) (a .content .now)) (disk (a .card .now) (a .queue-data .now) (a .journal-data .now) (a .rec)) false (a .s) _ _ tt refl (rw (c .before .x .given .1) at (c .before .before .before .look-owners .ensures .3))
+
+enum-told : tie.Need-enum-told
+enum-told c = search needs
+
+write-placed-requires : tie.Need-write-placed-requires
+write-placed-requires c κs = seen-ranges (rw (c .before .enum-told .given .1) at (c .before .before .before .look-owners .ensures .3))
+
+enum-told-2 : tie.Need-enum-told-2
+enum-told-2 c = search needs
+
+copy-content-requires : tie.Need-copy-content-requires
+copy-content-requires c κs =
+    let a = c .before .before .before .before .before .before .before .before .before .before .before .before .before .before .before .before .args in
+    let w = c .before .before .before .before .write-placed in
+    let d = disk (a .card .now) (a .queue-data .now) (a .journal-data .now) (a .rec) in
+    let z = rw (c .before .before .before .before .before .before .enum-told .given .1) at (c .before .before .before .before .before .before .before .before .look-owners .ensures .3) in
+    write-fits d (a .s) (a .b) (a .content .now) (w .result .reply) (w .result .rec) _ z (c .before .before .enum-told2 .given .1)
+    (write-decides d (a .s) (a .b) (a .content .now) (w .result .reply) (w .result .rec) _ z (w .ensures))
+
+enum-told-3 : tie.Need-enum-told-3
+enum-told-3 c = search needs
+
+same-length-3 : tie.Need-same-length-3
+same-length-3 c = search needs
+
+same-length-4 : tie.Need-same-length-4
+same-length-4 c = search needs
+
+returns-2 : tie.Need-returns-2
+returns-2 c =
+    let a = c .before .before .before .before .before .before .before .before .before .before .before .before .before .before .before .before .before .before .before .before .before .args in
+    let w = c .before .before .before .before .before .before .before .before .before .write-placed in
+    let d = disk (a .card .now) (a .queue-data .now) (a .journal-data .now) (a .rec) in
+    let z = rw (c .before .before .before .before .before .before .before .before .before .before .before .enum-told .given .1) at (c .before .before .before .before .before .before .before .before .before .before .before .before .before .look-owners .ensures .3) in
+    write-accepted d (a .s) (a .b) (a .content .now) (w .result .reply) (w .result .rec) (c .before .before .before .before .before .before .before .enum-told2 .given .1)
+    (write-decides d (a .s) (a .b) (a .content .now) (w .result .reply) (w .result .rec) _ z (w .ensures))
+    _ _ (c .before .before .before .before .copy-content .ensures)
+
+same-length-5 : tie.Need-same-length-5
+same-length-5 c = search needs
+
+same-length-6 : tie.Need-same-length-6
+same-length-6 c = search needs
+
+returns-3 : tie.Need-returns-3
+returns-3 c =
+    let a = c .before .before .before .before .before .before .before .before .before .before .before .before .before .before .args in
+    let w = c .before .before .write-placed in
+    let d = disk (a .card .now) (a .queue-data .now) (a .journal-data .now) (a .rec) in
+    let z = rw (c .before .before .before .before .enum-told .given .1) at (c .before .before .before .before .before .before .look-owners .ensures .3) in
+    write-refused d (a .s) (a .b) (a .content .now) (w .result .reply) (w .result .rec) _ (c .enum-told3 .given .1)
+    (write-decides d (a .s) (a .b) (a .content .now) (w .result .reply) (w .result .rec) _ z (w .ensures))
+
+pub write-spec : {M : Type 1} → statement M
+write-spec =
+    tie.close
+    (tie.spec
+    look-owners-requires
+    enum-known-x
+    same-length
+    same-length-2
+    returns
+    enum-told
+    write-placed-requires
+    enum-told-2
+    copy-content-requires
+    enum-told-3
+    same-length-3
+    same-length-4
+    returns-2
+    same-length-5
+    same-length-6
+    returns-3)

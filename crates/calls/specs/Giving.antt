@@ -1,0 +1,79 @@
+-- The numbers that NewList and NewBlock give, and the record with what they add: of the record alone and of the lists that tables show.
+use mathlib.Core.Path.{_≡_}
+use mathlib.Core.Bool.{Bool, true, false, _&&_, _||_, not, cond}
+use mathlib.Core.Option.{Option, some}
+use mathlib.Core.List.{List, [], _∷_, _++_}
+use Prim.Native.Nat.{ℕ, _+_, _-_}
+use lib.Dec.{leb, eqb}
+use lib.ListN.{set}
+use Rattle.lists.specs.Basic.{isSome, orElse}
+use Rattle.lists.specs.State.{Row, State, taken, placed, onList, overlay}
+use Rattle.lists.specs.Tables.{Tables, Shows}
+use Rattle.log.specs.declared.entry.LogEntry.{LogEntry}
+use Rattle.log.specs.declared.entry.LogEntry.the-variants.{Take, PutFirst, PutAfter}
+use Rattle.log.specs.Entry.{isList}
+use Rattle.log.specs.Location.{blank}
+use Rattle.disk.specs.declared.record.Record.{Record}
+use Rattle.disk.specs.declared.answer.NumberReply.{NumberReply}
+use Rattle.disk.specs.declared.answer.NumberReply.the-variants.{Number, Refused}
+use Rattle.disk.specs.Record.{ringPlace, unitAt, holderOf, withQueue, withUnits, withLastBlock, withLastList}
+use Rattle.disk.specs.Disk.{Disk}
+use Rattle.disk.specs.Questions.{freeFrom, firstNo}
+use Rattle.disk.specs.Answers.{number}
+use Rattle.inspect.specs.Located.{journalHere}
+use Rattle.calls.specs.Adds.{added, rooms}
+
+-- of committed lists rs
+abbrev pub freeListIn : {D : Type 0} → Record → List (Row D) → Option ℕ
+freeListIn r rs = freeFrom (λ l. taken l rs) 16 16 (r .«last_list»)
+
+abbrev pub freeBlockIn : {D : Type 0} → Record → List (Row D) → Option ℕ
+freeBlockIn r rs = freeFrom (λ b. placed b rs || not (eqb (holderOf r b) 0)) 64 64 (r .«last_block»)
+
+-- NewList behind question 4
+abbrev pub takenList : Record → ℕ → Record
+takenList r l = withLastList (withQueue r (set (r .queue) (ringPlace r (r .len)) (record { member = false; entry = Take l })) (r .len + 1)) l
+
+abbrev pub Takes : Record → List (Row ℕ) → NumberReply → Record → Type 0
+Takes r rs (Refused x) r′ = (r′ ≡ r) × (firstNo ((10, isSome (freeListIn r rs)) ∷ (13, leb (r .len + 1) 32) ∷ []) ≡ number x)
+Takes r rs (Number l) r′ = (r′ ≡ takenList r l) × (freeListIn r rs ≡ some l) × (leb (r .len + 1) 32 ≡ true)
+
+-- NewBlock: block b put on list l behind block p, first if p is 0, and held by unit s
+abbrev pub putEntry : ℕ → ℕ → ℕ → LogEntry
+putEntry b l p = cond (eqb p 0) (PutFirst b l) (PutAfter b l p)
+
+abbrev pub heldBy : ℕ → ℕ → Record → Record
+heldBy s b r = cond (eqb s 0) r (withUnits r (r .units) (set (r .holder) (b - 1) s))
+
+unfoldable pub putBlock : ℕ → ℕ → ℕ → ℕ → Record → Record
+putBlock s l p b r = withLastBlock (heldBy s b (added s (putEntry b l p) r)) b
+
+-- after questions qs
+abbrev pub Puts : List (ℕ × Bool) → ℕ → ℕ → ℕ → ℕ → Record → NumberReply → Record → Type 0
+Puts qs s l p b r (Refused x) r′ = (r′ ≡ r) × ((d : Disk) → d .rec ≡ r → firstNo (qs ++ rooms d s) ≡ number x)
+Puts qs s l p b r (Number n) r′ = (n ≡ b) × (r′ ≡ putBlock s l p b r) × ((d : Disk) → d .rec ≡ r → firstNo (qs ++ rooms d s) ≡ 0)
+
+-- 7, 9 and 10, where 0 is no block
+abbrev pub putQuestions : {D : Type 0} → ℕ → ℕ → ℕ → List (Row D) → List (ℕ × Bool)
+putQuestions l p b rs = (7, taken l rs) ∷ (9, eqb p 0 || onList l p rs) ∷ (10, not (eqb b 0)) ∷ []
+
+abbrev pub rangedPutQuestions : {D : Type 0} → ℕ → ℕ → ℕ → List (Row D) → List (ℕ × Bool)
+rangedPutQuestions l p b rs = (5, isList l && leb p 64) ∷ putQuestions l p b rs
+
+-- stream s's view over the committed state
+abbrev pub viewHere : Record → ℕ → State ℕ → State ℕ
+viewHere r s st = cond (eqb s 0) st (overlay blank (journalHere (unitAt r s) s) st)
+
+abbrev pub Lays : Tables → Record → ℕ → Tables → Type 0
+Lays t r s t′ = (st : State ℕ) → Shows t (st .lists) → Shows t′ (viewHere r s st .lists)
+
+-- the tables show some lists
+pub record Shown (t : Tables) : Type 0 where
+  pub lists : List (Row ℕ)
+  pub shows : Shows t lists
+
+-- the tables show the committed state
+abbrev pub PutsFree : Tables → ℕ → ℕ → ℕ → Record → NumberReply → Record → Type 0
+PutsFree t s l p r a r′ =
+    (st : State ℕ) → Shows t (st .lists)
+    → (let b = orElse 0 (freeBlockIn r (st .lists)) in Puts (rangedPutQuestions l p b (viewHere r s st .lists)) s l p b r a r′)

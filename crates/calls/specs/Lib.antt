@@ -1,0 +1,5 @@
+pub mod Performs
+pub mod Adds
+pub mod Checks
+pub mod Entering
+pub mod Giving

@@ -1,0 +1,61 @@
+// DeleteList.
+use crate::add::add;
+use crate::owners::look_owners;
+use crate::ranges::is_list;
+use crate::replied::Replied;
+use disk::answer::Refusal;
+use disk::answer::Reply;
+use disk::record::Record;
+use inspect::look::Looked;
+use lists::tables::is_taken;
+use log::entry::LogEntry;
+ghost use mathlib.Core.List.{[], _∷_};
+ghost use Prim.Native.Nat.{_≤_, _<_};
+ghost use Rattle.lists.specs.State.{taken};
+ghost use Rattle.lists.specs.Tables.{OfOwners};
+ghost use Rattle.log.specs.declared.entry.LogEntry.the-variants as E;
+ghost use Rattle.log.specs.Entry.{isList};
+ghost use Rattle.disk.specs.Disk.{disk};
+ghost use Rattle.disk.specs.Call.{deleteList};
+ghost use Rattle.disk.specs.Answers.{replyAnswer};
+ghost use Rattle.calls.specs.Adds.{AddsAfter};
+ghost use Rattle.calls.specs.Performs.{Performs};
+
+// Questions 5, 7, 11 and 13, over the owners of the stream's view.
+fn delete_taken(rec: Record, owner: &[u8; 256], s: usize, l: usize) -> Replied
+    requires { ⌜ (s ≤ 4) × (rec .head < 32) ⌝ }
+    ensures { λ r. ⌜ OfOwners (now (owner .entry)) (λ rs. AddsAfter ((5, isList l) ∷ (7, taken l rs) ∷ []) s (E.DeleteList l) rec (r .reply) (r .rec)) ⌝ }
+{
+    if !is_list(l) {
+        let reply = Reply::Refused(Refusal::OutOfRange);
+        return Replied { rec, reply };
+    }
+    let list = l as u8;
+    if !is_taken(owner, list) {
+        let reply = Reply::Refused(Refusal::ListNotTaken);
+        return Replied { rec, reply };
+    }
+    add(rec, s, LogEntry::DeleteList { list })
+}
+
+// Questions: 1 lengths, 3 record, 4 stream, 5 list, 7 taken, 11 journal, 13 queue.
+pub fn delete_list(
+    card: &[u8],
+    queue_data: &[u8],
+    journal_data: &[u8],
+    rec: Record,
+    s: usize,
+    l: usize,
+) -> Replied
+    ensures { λ r. ⌜ Performs (deleteList s l) (disk (now (card .entry)) (now (queue_data .entry)) (now (journal_data .entry)) rec) (disk (now (card .entry)) (now (queue_data .entry)) (now (journal_data .entry)) (r .rec)) (replyAnswer (r .reply)) [] ⌝ }
+{
+    let mut owner = [0u8; 256];
+    match look_owners(card, queue_data, journal_data, rec, s, &mut owner) {
+        Looked::Refused(x) => {
+            let reply = Reply::Refused(x);
+            return Replied { rec, reply };
+        }
+        Looked::Seen => {}
+    }
+    delete_taken(rec, &owner, s, l)
+}

@@ -1,0 +1,56 @@
+// Questions 1, 3 and 4 of a call that needs the committed state.
+use disk::answer::Refusal;
+use disk::record::Record;
+use inspect::examine::Examined;
+use inspect::examine::examine;
+use inspect::look::Looked;
+use inspect::units::is_open;
+ghost use Rattle.lists.specs.Tables.{tables};
+ghost use Rattle.disk.specs.Disk.{disk};
+ghost use Rattle.calls.specs.Entering.{Enters};
+
+// Stream s, or unit s, which 0 is not. If it is open the tables show the committed state. What they held does not matter.
+pub fn enter(
+    card: &[u8],
+    queue_data: &[u8],
+    journal_data: &[u8],
+    rec: Record,
+    stream: bool,
+    s: usize,
+    next: &mut [u8; 256],
+    prev: &mut [u8; 256],
+    owner: &mut [u8; 256],
+    place: &mut [u16; 256],
+) -> Looked
+    ensures { λ r. ⌜ Enters stream (disk (now (card .entry)) (now (queue_data .entry)) (now (journal_data .entry)) rec) s r (tables (now (next .exit)) (now (prev .exit)) (now (owner .exit)) (now (place .exit))) ⌝ }
+{
+    match examine(
+        card,
+        queue_data,
+        journal_data,
+        rec,
+        false,
+        next,
+        prev,
+        owner,
+        place,
+    ) {
+        Examined::WrongLength => {
+            return Looked::Refused(Refusal::WrongLength);
+        }
+        Examined::Unsound => {
+            return Looked::Refused(Refusal::RecordUnsound);
+        }
+        Examined::Sound(_) => {}
+    }
+    if stream {
+        if s == 0 {
+            return Looked::Seen;
+        }
+    }
+    if is_open(rec, s) {
+        Looked::Seen
+    } else {
+        Looked::Refused(Refusal::StreamClosed)
+    }
+}

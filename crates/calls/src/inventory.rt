@@ -1,0 +1,75 @@
+// The look-up of the lists taken.
+use disk::answer::NumberReply;
+use disk::answer::Refusal;
+use disk::record::Record;
+use inspect::look::Looked;
+use inspect::look::look;
+use lists::tables::list_after;
+ghost use mathlib.Core.Path.{_≡_};
+ghost use mathlib.Core.List.{_++_};
+ghost use lib.ListN.{length, drop};
+ghost use Rattle.lists.specs.Lookup.{listNums};
+ghost use Rattle.lists.specs.Tables.{OfNext};
+ghost use Rattle.disk.specs.Disk.{disk};
+ghost use Rattle.disk.specs.Call as call;
+ghost use Rattle.disk.specs.Answers.{numberAnswer};
+ghost use Rattle.calls.specs.Performs.{Performs};
+
+const LISTS: usize = 16;
+
+// The lists taken in view v go to dest, in the order of their taking; their number is returned.
+// Questions: 1 lengths, 3 record, 4 view, 5 destination.
+pub fn inventory(
+    card: &[u8],
+    queue_data: &[u8],
+    journal_data: &[u8],
+    rec: Record,
+    v: usize,
+    dest: &mut [u8],
+) -> NumberReply
+    ensures { λ r. ⌜ Performs (call.inventory v (now (dest .entry))) (disk (now (card .entry)) (now (queue_data .entry)) (now (journal_data .entry)) rec) (disk (now (card .entry)) (now (queue_data .entry)) (now (journal_data .entry)) rec) (numberAnswer r) (now (dest .exit)) ⌝ }
+{
+    let mut next = [0u8; 256];
+    let mut prev = [0u8; 256];
+    let mut owner = [0u8; 256];
+    let mut place = [0u16; 256];
+    match look(
+        card,
+        queue_data,
+        journal_data,
+        rec,
+        true,
+        v,
+        &mut next,
+        &mut prev,
+        &mut owner,
+        &mut place,
+    ) {
+        Looked::Refused(x) => {
+            return NumberReply::Refused(x);
+        }
+        Looked::Seen => {}
+    }
+    if dest.len() != LISTS {
+        return NumberReply::Refused(Refusal::OutOfRange);
+    }
+    NumberReply::Number(put_lists(&next, dest))
+}
+
+// The lists that tables with these links show, from the first on.
+fn put_lists(next: &[u8; 256], dest: &mut [u8]) -> usize
+    requires { ⌜ length (now dest) ≡ 16 ⌝ }
+    ensures { λ r. ⌜ OfNext (now (next .entry)) (λ rs. (r ≡ length (listNums rs)) × (now (dest .exit) ≡ listNums rs ++ drop (length (listNums rs)) (now (dest .entry)))) ⌝ }
+{
+    let mut list = list_after(next, 0);
+    let mut i = 0;
+    while i < LISTS {
+        if list == 0 {
+            return i;
+        }
+        dest[i] = list;
+        list = list_after(next, list);
+        i += 1;
+    }
+    i
+}

@@ -1,0 +1,19 @@
+// The calls. Each is lent the card, both data buffers and the record, asks its questions in order, and performs what the definition `perform` says.
+pub mod add;
+pub mod begin;
+pub mod check;
+pub mod conflicts;
+pub mod delete_block;
+pub mod delete_list;
+pub mod enter;
+pub mod format;
+pub mod give;
+pub mod inventory;
+pub mod mount;
+pub mod new_block;
+pub mod new_list;
+pub mod next;
+pub mod owners;
+pub mod ranges;
+pub mod replied;
+pub mod write;

@@ -1,0 +1,49 @@
+// NewBlock.
+use crate::enter::enter;
+use crate::give::put_free;
+use crate::replied::NumberReplied;
+use disk::answer::NumberReply;
+use disk::record::Record;
+use inspect::look::Looked;
+ghost use mathlib.Core.List.{[]};
+ghost use Rattle.disk.specs.Disk.{disk};
+ghost use Rattle.disk.specs.Call.{newBlock};
+ghost use Rattle.disk.specs.Answers.{numberAnswer};
+ghost use Rattle.calls.specs.Performs.{Performs};
+
+// Questions: 1 lengths, 3 record, 4 stream, 5 list and predecessor, 7 list taken, 9 predecessor on it, 10 a free number, 11 journal, 13 queue.
+pub fn new_block(
+    card: &[u8],
+    queue_data: &[u8],
+    journal_data: &[u8],
+    rec: Record,
+    s: usize,
+    l: usize,
+    p: usize,
+) -> NumberReplied
+    ensures { λ r. ⌜ Performs (newBlock s l p) (disk (now (card .entry)) (now (queue_data .entry)) (now (journal_data .entry)) rec) (disk (now (card .entry)) (now (queue_data .entry)) (now (journal_data .entry)) (r .rec)) (numberAnswer (r .reply)) [] ⌝ }
+{
+    let mut next = [0u8; 256];
+    let mut prev = [0u8; 256];
+    let mut owner = [0u8; 256];
+    let mut place = [0u16; 256];
+    match enter(
+        card,
+        queue_data,
+        journal_data,
+        rec,
+        true,
+        s,
+        &mut next,
+        &mut prev,
+        &mut owner,
+        &mut place,
+    ) {
+        Looked::Refused(x) => {
+            let reply = NumberReply::Refused(x);
+            return NumberReplied { rec, reply };
+        }
+        Looked::Seen => {}
+    }
+    put_free(&mut next, &mut prev, &mut owner, &mut place, rec, s, l, p)
+}

@@ -1,0 +1,47 @@
+// NewList.
+use crate::enter::enter;
+use crate::give::take_list;
+use crate::replied::NumberReplied;
+use disk::answer::NumberReply;
+use disk::record::Record;
+use inspect::look::Looked;
+ghost use mathlib.Core.List.{[]};
+ghost use Rattle.disk.specs.Disk.{disk};
+ghost use Rattle.disk.specs.Call.{newList};
+ghost use Rattle.disk.specs.Answers.{numberAnswer};
+ghost use Rattle.calls.specs.Performs.{Performs};
+
+// Questions: 1 lengths, 3 record, 4 stream, 10 a free number, 13 queue. The take is queued on any stream.
+pub fn new_list(
+    card: &[u8],
+    queue_data: &[u8],
+    journal_data: &[u8],
+    rec: Record,
+    s: usize,
+) -> NumberReplied
+    ensures { λ r. ⌜ Performs (newList s) (disk (now (card .entry)) (now (queue_data .entry)) (now (journal_data .entry)) rec) (disk (now (card .entry)) (now (queue_data .entry)) (now (journal_data .entry)) (r .rec)) (numberAnswer (r .reply)) [] ⌝ }
+{
+    let mut next = [0u8; 256];
+    let mut prev = [0u8; 256];
+    let mut owner = [0u8; 256];
+    let mut place = [0u16; 256];
+    match enter(
+        card,
+        queue_data,
+        journal_data,
+        rec,
+        true,
+        s,
+        &mut next,
+        &mut prev,
+        &mut owner,
+        &mut place,
+    ) {
+        Looked::Refused(x) => {
+            let reply = NumberReply::Refused(x);
+            return NumberReplied { rec, reply };
+        }
+        Looked::Seen => {}
+    }
+    take_list(&owner, rec)
+}

@@ -1,0 +1,69 @@
+// The look-up of the block after another.
+use crate::ranges::is_list;
+use disk::answer::NumberReply;
+use disk::answer::Refusal;
+use disk::record::Record;
+use inspect::look::Looked;
+use inspect::look::look;
+use lists::tables::block_after;
+use lists::tables::is_on;
+use lists::tables::is_taken;
+use log::legal::both;
+ghost use mathlib.Core.List.{[]};
+ghost use Rattle.disk.specs.Disk.{disk};
+ghost use Rattle.disk.specs.Call.{blockAfter};
+ghost use Rattle.disk.specs.Answers.{numberAnswer};
+ghost use Rattle.calls.specs.Performs.{Performs};
+
+const BLOCKS: usize = 64;
+
+// The block after p on list l in view v: 0 stands for the first, and is returned at the end.
+// Questions: 1 lengths, 3 record, 4 view, 5 list and predecessor, 7 list taken, 9 predecessor on it.
+pub fn next(
+    card: &[u8],
+    queue_data: &[u8],
+    journal_data: &[u8],
+    rec: Record,
+    v: usize,
+    l: usize,
+    p: usize,
+) -> NumberReply
+    ensures { λ r. ⌜ Performs (blockAfter v l p) (disk (now (card .entry)) (now (queue_data .entry)) (now (journal_data .entry)) rec) (disk (now (card .entry)) (now (queue_data .entry)) (now (journal_data .entry)) rec) (numberAnswer r) [] ⌝ }
+{
+    let mut next = [0u8; 256];
+    let mut prev = [0u8; 256];
+    let mut owner = [0u8; 256];
+    let mut place = [0u16; 256];
+    match look(
+        card,
+        queue_data,
+        journal_data,
+        rec,
+        true,
+        v,
+        &mut next,
+        &mut prev,
+        &mut owner,
+        &mut place,
+    ) {
+        Looked::Refused(x) => {
+            return NumberReply::Refused(x);
+        }
+        Looked::Seen => {}
+    }
+    if !both(is_list(l), p <= BLOCKS) {
+        return NumberReply::Refused(Refusal::OutOfRange);
+    }
+    let list = l as u8;
+    let predecessor = p as u8;
+    if !is_taken(&owner, list) {
+        return NumberReply::Refused(Refusal::ListNotTaken);
+    }
+    if p != 0 {
+        if !is_on(&owner, list, predecessor) {
+            return NumberReply::Refused(Refusal::PredecessorElsewhere);
+        }
+    }
+    let block = block_after(&next, list, predecessor) as usize;
+    NumberReply::Number(block)
+}
