@@ -71,7 +71,7 @@ module _ (used : ℕ → Bool) (limit k last : ℕ) (l : 0 < limit) where
       go none e = absurd (z e)
       go (some m) e = ap some (sym e)
 
-last-yes : (n : ℕ) (b : Bool) → b ≡ true → firstNo ((n, b) ∷ []) ≡ 0
+pub last-yes : (n : ℕ) (b : Bool) → b ≡ true → firstNo ((n, b) ∷ []) ≡ 0
 unfolding firstNo ask
 last-yes n b h = rw h
 

@@ -7,3 +7,6 @@ pub mod Writing
 pub mod Entering
 pub mod Giving
 pub mod Putting
+pub mod Storing
+pub mod Draining
+pub mod Ending

@@ -86,9 +86,9 @@ pub inside : (m n : ℕ) → leb 1 n && leb n m ≡ true → (1 ≤ n) × (n ≤
 inside m n h = let (a, b) = and-true (leb 1 n) (leb n m) h in (leb-true 1 n a, leb-true n m b)
 
 -- Refused calls.
-pub performs-refused : (c : Call) (d : Disk) (x : Refusal) → number x ≢ 2 → refused c (number x) d ≡ d → refusal c d ≡ number x → Performs c d d (refusedAnswer x) (destination c)
+pub performs-refused : (c : Call) (d d′ : Disk) (x : Refusal) → number x ≢ 2 → refused c (number x) d ≡ d′ → refusal c d ≡ number x → Performs c d d′ (refusedAnswer x) (destination c)
 unfolding refusalAnswer
-performs-refused c d x z r h =
+performs-refused c d d′ x z r h =
     let (m, e) = number-some x in
     perform-refused c d m (h ∙ e)
     ∙ ap (λ n. refusedResult c n d) (sym e)
@@ -148,17 +148,17 @@ usual-refused (inventory v x) n d u = refl
 
 pub usual-performs-refused : (c : Call) (d : Disk) (x : Refusal) → Usual c → refusal c d ≡ number x → Performs c d d (refusedAnswer x) (destination c)
 unfolding refusal
-usual-performs-refused c d x u h = performs-refused c d x (λ e. false≢true (sym (asks-two c d u) ∙ numbered (questions c d) 2 (omega arith) (h ∙ e))) (usual-refused c (number x) d u) h
+usual-performs-refused c d x u h = performs-refused c d d x (λ e. false≢true (sym (asks-two c d u) ∙ numbered (questions c d) 2 (omega arith) (h ∙ e))) (usual-refused c (number x) d u) h
 
--- an End refused by another question than 12
+-- a refused End, which 12 closes
 end-asks-two : (u : ℕ) (d : Disk) → any (λ q. eqb (q .0) 2) (questions (end u) d) ≡ false
 unfolding questions
 end-asks-two u d = refl
 
-pub end-performs-refused : (u : ℕ) (d : Disk) (x : Refusal) → number x ≢ 12 → refusal (end u) d ≡ number x → Performs (end u) d d (refusedAnswer x) []
-unfolding refused ends destination refusal
-end-performs-refused u d x z h =
-    performs-refused (end u) d x (λ e. false≢true (sym (end-asks-two u d) ∙ numbered (questions (end u) d) 2 (omega arith) (h ∙ e))) (rw (eqb-false (number x) 12 z, refused)) h
+pub end-performs-refused : (u : ℕ) (d d′ : Disk) (x : Refusal) → refused (end u) (number x) d ≡ d′ → refusal (end u) d ≡ number x → Performs (end u) d d′ (refusedAnswer x) []
+unfolding destination refusal
+end-performs-refused u d d′ x r h =
+    performs-refused (end u) d d′ x (λ e. false≢true (sym (end-asks-two u d) ∙ numbered (questions (end u) d) 2 (omega arith) (h ∙ e))) r h
 
 -- refused by a question that `look` answers
 pub look-refused : (k : Call) (d : Disk) (looked : Bool) (v : ℕ) (x : Refusal) (qs : List (ℕ × Bool)) → Usual k → refusal k d ≡ firstNo (opens looked d v ++ qs)

@@ -3,3 +3,5 @@ pub mod Adds
 pub mod Checks
 pub mod Entering
 pub mod Giving
+pub mod Flushing
+pub mod Ending

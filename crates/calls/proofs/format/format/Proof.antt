@@ -2,7 +2,6 @@
 use mathlib.Core.Path.{_≡_, refl, sym, _∙_}
 use mathlib.Core.Bool.{true, false}
 use mathlib.Core.List.{[]}
-use lib.ListN.{length}
 use borrow.Author.Needs.{needs}
 use borrow.Author.Tests.{not-true, not-false}
 use Rattle.log.specs.Card.{segmentsIn}
@@ -11,23 +10,23 @@ use Rattle.disk.specs.declared.answer.Reply.the-variants.{Accepted, Refused}
 use Rattle.disk.specs.Record.{freshRecord}
 use Rattle.disk.specs.Disk.{Disk, disk}
 use Rattle.disk.specs.Sound.{lengthsRight}
-use Rattle.disk.specs.Call.{format, ends, destination}
+use Rattle.disk.specs.Call.{format, destination}
 use Rattle.disk.specs.Questions.{questions, refusal, firstNo, ask}
-use Rattle.disk.specs.Perform.{formatted, accepted, refused, refusalAnswer}
+use Rattle.disk.specs.Perform.{formatted, accepted}
 use Rattle.disk.specs.Answers.{number, replyAnswer}
-use Rattle.disk.proofs.Performing.{perform-accepted, perform-refused}
 use Rattle.calls.specs.Performs.{Performs}
+use Rattle.calls.proofs.Refusing.{ask-no, usual-performs-refused, performs-accepted}
 use Rattle.calls.proofs.format.format.Statement.{statement}
 use Rattle.calls.proofs.format.format.Tie as tie
 
 format-refused : (d : Disk) → lengthsRight d ≡ false → Performs format d d (replyAnswer (Refused WrongLength)) []
-unfolding refusal questions firstNo ask refused ends refusalAnswer destination replyAnswer number
-format-refused d h = perform-refused format d 0 (rw h)
+unfolding refusal questions destination replyAnswer number
+format-refused d h = usual-performs-refused format d WrongLength tt (ask-no 1 _ [] h)
 
 format-accepted : (d : Disk) → lengthsRight d ≡ true
     → Performs format d (disk (formatted (segmentsIn (d .card)) (d .card)) (d .queueData) (d .journalData) freshRecord) (replyAnswer Accepted) []
 unfolding refusal questions firstNo ask accepted replyAnswer
-format-accepted d h = perform-accepted format d (rw h)
+format-accepted d h = performs-accepted format d _ (rw h) refl
 
 lengths-right-requires : tie.Need-lengths-right-requires
 lengths-right-requires c κs = search needs

@@ -1,5 +1,5 @@
 -- Questions 1 and 2 are those of the log's mounting. Assumes nothing.
-use mathlib.Core.Path.{_≡_, refl, sym, _∙_}
+use mathlib.Core.Path.{_≡_, sym, _∙_}
 use mathlib.Core.Bool.{true, false, true≢false}
 use mathlib.Core.List.{[]}
 use Prim.Native.Nat.{ℕ}

@@ -1,0 +1,62 @@
+-- What End adds to the queue and leaves of the unit.
+use mathlib.Core.Path.{_≡_}
+use mathlib.Core.Bool.{Bool, true, false}
+use mathlib.Core.List.{List, [], _∷_}
+use Prim.Native.Nat.{ℕ, _+_, _-_, _≤_, _<_}
+use lib.Dec.{leb}
+use lib.ListN.{length, set}
+use Rattle.lists.specs.Basic.{isSome, all, from}
+use Rattle.lists.specs.Change.{mapChange}
+use Rattle.lists.specs.State.{State, applyAll}
+use Rattle.lists.specs.Tables.{Tables, Shows}
+use Rattle.log.specs.declared.entry.LogEntry.{LogEntry}
+use Rattle.log.specs.Card.{slot}
+use Rattle.log.specs.Entry.{member, raw, legal, asChange}
+use Rattle.log.specs.Location.{blank}
+use Rattle.disk.specs.declared.record.Record.{Record}
+use Rattle.disk.specs.declared.answer.Reply.{Reply}
+use Rattle.disk.specs.declared.answer.Reply.the-variants.{Accepted, Refused}
+use Rattle.disk.specs.Record.{unitAt, withUnits, emptied, released}
+use Rattle.disk.specs.Disk.{disk, journalOf}
+use Rattle.disk.specs.Call.{end}
+use Rattle.disk.specs.Questions.{firstNo}
+use Rattle.disk.specs.Perform.{enqueue, enqueueAll, unitEntries, closing, refused}
+use Rattle.disk.specs.Answers.{number}
+use Rattle.inspect.specs.Located.{journalHere}
+use Rattle.inspect.specs.Clauses.{changeIn}
+
+-- "the unit closes, its journal goes, its held numbers are released"
+abbrev pub closed : ℕ → Record → Record
+closed u r = withUnits r (set (r .units) (u - 1) (emptied false (unitAt r u))) (released u (r .holder))
+
+-- entry e of a journal, its data at place k of the journal data j, joins queue data q and record r; the card is not looked at
+abbrev pub QueuesMember : List ℕ → List ℕ → Record → LogEntry → ℕ → List ℕ → Record → Type 0
+QueuesMember q j r e k q′ r′ = (c : List ℕ) → enqueue (member (mapChange (λ s. slot j k) (asChange e))) (disk c q j r) ≡ disk c q′ j r′
+
+-- what a sound disk has: queue data q and journal data j, record r and its unit u
+pub record Ready (q j : List ℕ) (r : Record) (u : ℕ) : Type 0 where
+  pub queueData : length q ≡ 8192
+  pub journalData : length j ≡ 15360
+  pub queue : r .len ≤ 32
+  pub head : r .head < 32
+  pub first : 1 ≤ u
+  pub last : u ≤ 4
+  pub room : unitAt r u .len ≤ 15
+  pub lawful : all (λ c. legal (raw 0 (member c))) (from (changeIn (unitAt r u)) 0 (unitAt r u .len)) ≡ true
+
+-- unit u's journal and a commit join them
+abbrev pub QueuesUnit : List ℕ → List ℕ → Record → ℕ → List ℕ → Record → Type 0
+QueuesUnit q j r u q′ r′ = (c : List ℕ) → (let d = disk c q j r in enqueueAll (unitEntries (journalOf d u)) d ≡ disk c q′ j r′)
+
+-- End behind question 4; does every change of the journal apply?
+abbrev pub endQuestions : Bool → Record → ℕ → List (ℕ × Bool)
+endQuestions a r u = (12, a) ∷ (13, leb (r .len + (unitAt r u .len + 1)) 32) ∷ []
+
+abbrev pub EndsAs : Bool → List ℕ → List ℕ → Record → ℕ → Reply → List ℕ → Record → Type 0
+EndsAs a q j r u (Refused x) q′ r′ = (firstNo (endQuestions a r u) ≡ number x) × ((c : List ℕ) → refused (end u) (number x) (disk c q j r) ≡ disk c q′ j r′)
+EndsAs a q j r u Accepted q′ r′ =
+    (firstNo (endQuestions a r u) ≡ 0) × ((c : List ℕ) → (let d = disk c q j r in closing u (enqueueAll (unitEntries (journalOf d u)) d) ≡ disk c q′ j r′))
+
+-- the tables show the committed state
+abbrev pub Ends : Tables → List ℕ → List ℕ → Record → ℕ → Reply → List ℕ → Record → Type 0
+Ends t q j r u x q′ r′ = (st : State ℕ) → Shows t (st .lists) → EndsAs (isSome (applyAll blank (journalHere (unitAt r u) u) st)) q j r u x q′ r′

@@ -1,0 +1,166 @@
+// End.
+use crate::enter::enter;
+use crate::replied::Replied;
+use disk::answer::Refusal;
+use disk::answer::Reply;
+use disk::change::append;
+use disk::change::count_conflict;
+use disk::change::empty;
+use disk::change::release;
+use disk::copy::copy_in;
+use disk::record::Record;
+use disk::record::Unit;
+use inspect::journal::enter_journal;
+use inspect::look::Looked;
+use log::entry::LogEntry;
+ghost use mathlib.Core.Path.{_≡_};
+ghost use mathlib.Core.Bool.{true};
+ghost use mathlib.Core.List.{[]};
+ghost use Prim.Native.Nat.{_+_, _≤_, _<_};
+ghost use lib.ListN.{length};
+ghost use Rattle.lists.specs.Tables.{tables};
+ghost use Rattle.log.specs.Entry.{legal, raw, member, asChange};
+ghost use Rattle.disk.specs.Record.{unitAt};
+ghost use Rattle.disk.specs.Disk.{disk};
+ghost use Rattle.disk.specs.Call.{end};
+ghost use Rattle.disk.specs.Answers.{replyAnswer};
+ghost use Rattle.calls.specs.Ending.{closed, QueuesMember, Ready, QueuesUnit, Ends};
+ghost use Rattle.calls.specs.Performs.{Performs};
+
+const SLOT: usize = 256;
+
+// Unit u closed, its journal gone, its numbers released.
+fn close(rec: Record, u: usize) -> Record
+    requires { ⌜ (1 ≤ u) × (u ≤ 4) ⌝ }
+    ensures { λ r. ⌜ r ≡ closed u rec ⌝ }
+{
+    let mut next = empty(rec, u, false);
+    let held = next.holder;
+    let left = release(held, u as u8);
+    next.holder = left;
+    next
+}
+
+// A journal's entry, its data at place k of the journal data, joins the queue as a member.
+fn queue_member(
+    queue_data: &mut [u8],
+    journal_data: &[u8],
+    rec: Record,
+    e: LogEntry,
+    k: usize,
+) -> Record
+    requires { ⌜ (length (now queue_data) ≡ 8192) × (length (now journal_data) ≡ 15360) × (rec .len < 32) × (rec .head < 32) × (k < 60) × (legal (raw 0 (member (asChange e))) ≡ true) ⌝ }
+    ensures { λ r. ⌜ QueuesMember (now (queue_data .entry)) (now (journal_data .entry)) rec e k (now (queue_data .exit)) r ⌝ }
+{
+    match e {
+        LogEntry::Write { block, slot: _ } => {
+            let at = (rec.head + rec.len) % Record::QUEUE;
+            let start = SLOT * k;
+            let stop = start + SLOT;
+            copy_in(queue_data, SLOT * at, &journal_data[start..stop]);
+            append(rec, true, LogEntry::Write { block, slot: 0 })
+        }
+        _ => append(rec, true, e),
+    }
+}
+
+// Unit u's journal joins the queue as members, then a commit.
+fn queue_unit(queue_data: &mut [u8], journal_data: &[u8], rec: Record, u: usize) -> Record
+    requires { ⌜ Ready (now queue_data) (now journal_data) rec u × (rec .len + unitAt rec u .len < 32) ⌝ }
+    ensures { λ r. ⌜ QueuesUnit (now (queue_data .entry)) (now (journal_data .entry)) rec u (now (queue_data .exit)) r ⌝ }
+{
+    let unit = rec.units[u - 1];
+    let first = (u - 1) * Unit::JOURNAL;
+    let mut next = rec;
+    let mut k = 0;
+    while k < unit.len {
+        let journaled = unit.journal[k];
+        let e = journaled.entry;
+        next = queue_member(queue_data, journal_data, next, e, first + k);
+        k += 1;
+    }
+    append(
+        next,
+        false,
+        LogEntry::Commit {
+            count: unit.len as u8,
+        },
+    )
+}
+
+// 12. Does every entry apply to the committed state, which the tables show? 13. Has the queue room? Refused 12 the unit is closed too.
+fn end_unit(
+    next: &mut [u8; 256],
+    prev: &mut [u8; 256],
+    owner: &mut [u8; 256],
+    place: &mut [u16; 256],
+    queue_data: &mut [u8],
+    journal_data: &[u8],
+    rec: Record,
+    u: usize,
+) -> Replied
+    requires { ⌜ Ready (now queue_data) (now journal_data) rec u ⌝ }
+    ensures { λ r. ⌜ Ends (tables (now (next .entry)) (now (prev .entry)) (now (owner .entry)) (now (place .entry))) (now (queue_data .entry)) (now (journal_data .entry)) rec u (r .reply) (now (queue_data .exit)) (r .rec) ⌝ }
+{
+    let unit = rec.units[u - 1];
+    if !enter_journal(next, prev, owner, place, unit, u) {
+        let reply = Reply::Refused(Refusal::Conflict);
+        return Replied {
+            rec: count_conflict(close(rec, u)),
+            reply,
+        };
+    }
+    if Record::QUEUE <= rec.len + unit.len {
+        let reply = Reply::Refused(Refusal::QueueFull);
+        return Replied { rec, reply };
+    }
+    let reply = Reply::Accepted;
+    Replied {
+        rec: close(queue_unit(queue_data, journal_data, rec, u), u),
+        reply,
+    }
+}
+
+// Questions: 1 lengths, 3 record, 4 unit, 12 every entry applies, 13 queue.
+pub fn end(
+    card: &[u8],
+    queue_data: &mut [u8],
+    journal_data: &[u8],
+    rec: Record,
+    u: usize,
+) -> Replied
+    ensures { λ r. ⌜ Performs (end u) (disk (now (card .entry)) (now (queue_data .entry)) (now (journal_data .entry)) rec) (disk (now (card .entry)) (now (queue_data .exit)) (now (journal_data .entry)) (r .rec)) (replyAnswer (r .reply)) [] ⌝ }
+{
+    let mut next = [0u8; 256];
+    let mut prev = [0u8; 256];
+    let mut owner = [0u8; 256];
+    let mut place = [0u16; 256];
+    match enter(
+        card,
+        queue_data,
+        journal_data,
+        rec,
+        false,
+        u,
+        &mut next,
+        &mut prev,
+        &mut owner,
+        &mut place,
+    ) {
+        Looked::Refused(x) => {
+            let reply = Reply::Refused(x);
+            return Replied { rec, reply };
+        }
+        Looked::Seen => {}
+    }
+    end_unit(
+        &mut next,
+        &mut prev,
+        &mut owner,
+        &mut place,
+        queue_data,
+        journal_data,
+        rec,
+        u,
+    )
+}
