@@ -4,6 +4,8 @@ pub mod Checking
 pub mod Taken
 pub mod Lookups
 pub mod Writing
+pub mod Copying
+pub mod Reading
 pub mod Entering
 pub mod Giving
 pub mod Putting

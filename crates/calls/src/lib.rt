@@ -18,5 +18,6 @@ pub mod new_list;
 pub mod next;
 pub mod owners;
 pub mod ranges;
+pub mod read;
 pub mod replied;
 pub mod write;

@@ -1,0 +1,72 @@
+-- What reading a block performs, from what the tables of a view answer.
+use mathlib.Core.Path.{_≡_, refl, sym, _∙_}
+use mathlib.Core.Bool.{Bool, true, false, _&&_}
+use mathlib.Core.Option.{some}
+use mathlib.Core.List.{List, []}
+use Prim.Native.Nat.{ℕ}
+use lib.Dec.{leb, eqb}
+use lib.ListN.{length}
+use Rattle.lists.specs.Basic.{orElse}
+use Rattle.lists.specs.State.{placed}
+use Rattle.lists.specs.Lookup.{contentOf}
+use Rattle.lists.specs.Tables.{Tables, IsBlock, OfOwners, OfPlaces}
+use Rattle.lists.proofs.Basic.{and-true, leb-true, eqb-true}
+use Rattle.log.specs.Entry.{isBlock}
+use Rattle.disk.specs.declared.answer.Refusal.{Refusal}
+use Rattle.disk.specs.declared.answer.Refusal.the-variants.{OutOfRange, BlockNotPlaced}
+use Rattle.disk.specs.declared.answer.Reply as R
+use Rattle.disk.specs.Disk.{Disk, view}
+use Rattle.disk.specs.Call.{readBlock, destination}
+use Rattle.disk.specs.Questions.{questions, firstNo, refusal}
+use Rattle.disk.specs.Perform.{accepted}
+use Rattle.disk.specs.Answers.{number, replyAnswer}
+use Rattle.disk.proofs.Contents.{view-sized}
+use Rattle.calls.specs.Performs.{Performs}
+use Rattle.inspect.specs.Located.{contents}
+use Rattle.inspect.specs.Inspect.{Sees}
+use Rattle.inspect.proofs.Locating.{placed-told, content-told}
+use Rattle.calls.proofs.Refusing.{ask-yes, ask-no, opens, seen, usual-performs-refused, look-refused, performs-accepted}
+use Rattle.calls.proofs.Lookups.{all-asked}
+
+pub read-range : (b n : ℕ) → isBlock b && eqb n 256 ≡ true → IsBlock b × (n ≡ 256)
+read-range b n h =
+    let (a, e) = and-true (isBlock b) (eqb n 256) h in
+    let (x, y) = and-true (leb 1 b) (leb b 64) a in
+    ((leb-true 1 b x, leb-true b 64 y), eqb-true n 256 e)
+
+module _ (d : Disk) (v b : ℕ) (x : List ℕ) where
+  abbrev Reads : R.Reply → List ℕ → Type 0
+  Reads r y = Performs (readBlock v b x) d d (replyAnswer r) y
+
+  read-refused : (r : Refusal) → refusal (readBlock v b x) d ≡ number r → Reads (R.the-variants.Refused r) x
+  unfolding destination replyAnswer
+  read-refused r h = usual-performs-refused (readBlock v b x) d r tt h
+
+  pub read-unseen : (r : Refusal) → firstNo (opens true d v) ≡ number r → Reads (R.the-variants.Refused r) x
+  unfolding refusal questions destination replyAnswer
+  read-unseen r h = look-refused (readBlock v b x) d true v r _ tt refl h
+
+  module _ (t : Tables) (s : Sees true d v t) where
+    pub read-out : isBlock b && eqb (length x) 256 ≡ false → Reads (R.the-variants.Refused OutOfRange) x
+    unfolding refusal questions number
+    read-out w = read-refused OutOfRange (seen _ s ∙ ask-no 5 _ _ w)
+
+    -- behind question 5, with what the tables answer
+    module _ (w : isBlock b && eqb (length x) 256 ≡ true) (o : Bool) (f : OfOwners (t .owner) (λ rs. IsBlock b → o ≡ placed b rs)) where
+      placed-view : placed b (view d v .lists) ≡ o
+      placed-view = sym (placed-told d t (view d v) (s .located) b o f (read-range b (length x) w .0))
+
+      pub read-unplaced : o ≡ false → Reads (R.the-variants.Refused BlockNotPlaced) x
+      unfolding refusal questions number
+      read-unplaced h = read-refused BlockNotPlaced (seen _ s ∙ ask-yes 5 _ _ w ∙ ask-no 8 _ _ (placed-view ∙ h))
+
+      module _ (h : o ≡ true) (m : ℕ) (g : OfPlaces (t .place) (λ rs. placed b rs ≡ true → contentOf rs b ≡ some m)) where
+        content-view : contentOf (view d v .lists) b ≡ some (contents d m)
+        content-view = content-told d t (view d v) (s .located) b m g (placed-view ∙ h)
+
+        pub read-sized : length (contents d m) ≡ 256
+        read-sized = view-sized d (s .lengths) (s .sound) v b (contents d m) (s .opened) content-view
+
+        pub read-given : (y : List ℕ) → y ≡ contents d m → Reads R.the-variants.Accepted y
+        unfolding refusal questions accepted replyAnswer orElse
+        read-given y e = performs-accepted (readBlock v b x) d _ (seen _ s ∙ ask-yes 5 _ _ w ∙ ask-yes 8 _ [] (placed-view ∙ h) ∙ all-asked) (rw (content-view, orElse, e))
