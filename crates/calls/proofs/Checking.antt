@@ -20,16 +20,19 @@ use Rattle.calls.specs.Performs.{Performs}
 use Rattle.inspect.specs.Clauses.{openUnit}
 use Rattle.inspect.specs.Inspect.{Looks}
 use Rattle.calls.specs.Checks.{Sounds, Checks}
-use Rattle.calls.proofs.Refusing.{ask-yes, ask-no, ask-more, number-nonzero, outside, Usual, usual-performs-refused, performs-accepted}
-
--- stream 0 is always open
-pub looks-checks : (d : Disk) (x : Looked) (t : Tables) → Looks false d 0 x t → Checks d x
-unfolding streamOpen firstNo ask
-looks-checks d (Refused x) t h = h
-looks-checks d Seen t h = record { lengths = h .lengths; sound = h .sound }
+use Rattle.calls.proofs.Refusing.{opens, ask-yes, ask-no, ask-more, number-nonzero, outside, Usual, usual-performs-refused, performs-accepted}
 
 abbrev pub checked : Disk → List (ℕ × Bool)
 checked d = (1, lengthsRight d) ∷ (3, recordSound d) ∷ []
+
+-- stream 0 is always open
+pub unchecked : (d : Disk) (x : Refusal) → firstNo (opens false d 0) ≡ number x → firstNo (checked d) ≡ number x
+unfolding streamOpen firstNo ask
+unchecked d x h = h
+
+pub looks-checks : (d : Disk) (x : Looked) (t : Tables) → Looks false d 0 x t → Checks d x
+looks-checks d (Refused x) t h = unchecked d x h
+looks-checks d Seen t h = record { lengths = h .lengths; sound = h .sound }
 
 pub check-refused : (k : Call) (d : Disk) (x : Refusal) (qs : List (ℕ × Bool)) → Usual k → refusal k d ≡ firstNo (checked d ++ qs) → firstNo (checked d) ≡ number x
     → Performs k d d (refusedAnswer x) (destination k)

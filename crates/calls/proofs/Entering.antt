@@ -6,7 +6,6 @@ use mathlib.Core.List.{List, [], _∷_, _++_}
 use Prim.Native.Nat.{ℕ}
 use Rattle.lists.specs.Tables.{Tables}
 use Rattle.lists.proofs.Basic.{eqb-false}
-use Rattle.log.specs.declared.place.Place.{Place}
 use Rattle.disk.specs.declared.answer.Refusal.{Refusal}
 use Rattle.disk.specs.Disk.{Disk, unitOf, view}
 use Rattle.disk.specs.Sound.{lengthsRight, recordSound, isOpenUnit}
@@ -15,9 +14,10 @@ use Rattle.disk.specs.Answers.{number, refusedAnswer}
 use Rattle.disk.specs.Call.{Call, destination}
 use Rattle.calls.specs.Performs.{Performs}
 use Rattle.inspect.specs.Clauses.{openUnit}
-use Rattle.inspect.specs.Inspect.{Accepted}
+use Rattle.inspect.specs.Inspect.{Sees}
 use Rattle.calls.specs.Entering.{openFor, Stands}
-use Rattle.calls.proofs.Refusing.{ask-yes, ask-no, ask-more, number-nonzero, Usual, usual-performs-refused}
+use Rattle.calls.proofs.Checking.{checked, unchecked}
+use Rattle.calls.proofs.Refusing.{opens, ask-yes, ask-no, ask-more, number-nonzero, Usual, usual-performs-refused}
 
 module _ (stream : Bool) (d : Disk) (s : ℕ) where
   -- stream 0 is open; another is open as its unit is
@@ -37,7 +37,7 @@ module _ (stream : Bool) (d : Disk) (s : ℕ) where
   unfolding isOpenUnit openUnit unitOf
   open-unit h = rw h
 
-  module _ (p : Place) (t : Tables) (a : Accepted 0 d p t) where
+  module _ (t : Tables) (a : Sees false d 0 t) where
     pub stands : openFor stream d s ≡ true → Stands stream d s t
     unfolding view
     stands o = record { lengths = a .lengths; sound = a .sound; opened = o; located = a .located }
@@ -48,6 +48,9 @@ module _ (stream : Bool) (d : Disk) (s : ℕ) where
   -- before other questions they say no, or all yes
   abbrev pub entering : List (ℕ × Bool)
   entering = (1, lengthsRight d) ∷ (3, recordSound d) ∷ (4, openFor stream d s) ∷ []
+
+  pub unsound : (x : Refusal) → firstNo (opens false d 0) ≡ number x → firstNo entering ≡ number x
+  unsound x h = ask-more (checked d) ((4, openFor stream d s) ∷ []) (number x) (number-nonzero x) (unchecked d x h)
 
   pub not-entered : (x : Refusal) (qs : List (ℕ × Bool)) → firstNo entering ≡ number x → firstNo (entering ++ qs) ≡ number x
   not-entered x qs h = ask-more entering qs (number x) (number-nonzero x) h

@@ -1,7 +1,7 @@
 -- The numbers given: from what the tables say of free numbers, and of the questions of a take and a put, to what NewList and NewBlock perform.
 use mathlib.Core.Path.{_≡_, refl, sym, ap, _∙_}
-use mathlib.Core.Logic.{_⊎_, inl, inr, _≢_}
-use mathlib.Core.Bool.{Bool, true, false, _&&_, _||_, not, and-false}
+use mathlib.Core.Logic.{_≢_}
+use mathlib.Core.Bool.{Bool, true, false, _&&_, _||_, not}
 use mathlib.Core.Option.{Option, none, some}
 use mathlib.Core.List.{List, [], _∷_}
 use Prim.Native.Nat.{ℕ, zero, suc, _+_, _-_, _%_, _≤_, _<_}
@@ -126,17 +126,9 @@ module _ (s l p b : ℕ) (r : Record) (rs : List (Row ℕ)) where
   nine : List (ℕ × Bool)
   nine = (9, eqb p 0 || onList l p rs) ∷ ten
 
-  pub put-range : 1 ≤ l → l ≤ 16 → p ≤ 64 → isList l && leb p 64 ≡ true
-  put-range h k m = rw (le-true 1 l h, le-true l 16 k, le-true p 64 m)
-
-  pub put-outside : (l < 1) ⊎ ((16 < l) ⊎ (64 < p)) → Puts (rangedPutQuestions l p b rs) s l p b r (Refused OutOfRange) r
+  pub put-outside : isList l && leb p 64 ≡ false → Puts (rangedPutQuestions l p b rs) s l p b r (Refused OutOfRange) r
   unfolding number
-  put-outside h = puts-no (putQuestions l p b rs) s l p b r 5 _ OutOfRange refl (go h)
-    where
-      go : (l < 1) ⊎ ((16 < l) ⊎ (64 < p)) → isList l && leb p 64 ≡ false
-      go (inl k) = rw (gt-false 1 l k)
-      go (inr (inl k)) = rw (gt-false l 16 k, and-false (leb 1 l))
-      go (inr (inr k)) = rw (gt-false p 64 k) (and-false (isList l))
+  put-outside h = puts-no (putQuestions l p b rs) s l p b r 5 _ OutOfRange refl h
 
   pub put-inside : (a : NumberReply) (r′ : Record) → isList l && leb p 64 ≡ true → Puts (putQuestions l p b rs) s l p b r a r′ → Puts (rangedPutQuestions l p b rs) s l p b r a r′
   put-inside a r′ h k = puts-yes (putQuestions l p b rs) s l p b r 5 _ a r′ h k

@@ -1,16 +1,15 @@
 -- What the look-ups perform, from what the tables of a view answer.
 use mathlib.Core.Path.{_≡_, refl, sym, _∙_}
-use mathlib.Core.Logic.{_≢_, _⊎_, inl, inr}
+use mathlib.Core.Logic.{_≢_}
 use mathlib.Core.Bool.{Bool, true, false, _&&_, _||_}
 use mathlib.Core.List.{List, []}
-use Prim.Native.Nat.{ℕ, zero, suc, _≤_}
-use native.Mathlib.Omega.{arith}
+use Prim.Native.Nat.{ℕ}
 use lib.Dec.{leb, eqb}
 use lib.ListN.{length}
 use Rattle.lists.specs.State.{taken, onList}
 use Rattle.lists.specs.Lookup.{nextAfter}
-use Rattle.lists.specs.Tables.{Tables, IsBlock, IsList, OfNext, OfOwners}
-use Rattle.lists.proofs.Basic.{and-true, or-right, leb-true, eqb-false, eq-true}
+use Rattle.lists.specs.Tables.{Tables, IsList, OfNext, OfOwners}
+use Rattle.lists.proofs.Basic.{eqb-false, eq-true}
 use Rattle.log.specs.Entry.{isList}
 use Rattle.disk.specs.declared.answer.Refusal.{Refusal}
 use Rattle.disk.specs.declared.answer.Refusal.the-variants.{OutOfRange, ListNotTaken, PredecessorElsewhere}
@@ -22,23 +21,13 @@ use Rattle.disk.specs.Perform.{accepted}
 use Rattle.disk.specs.Answers.{number, numberAnswer}
 use Rattle.calls.specs.Performs.{Performs}
 use Rattle.inspect.specs.Inspect.{Sees}
-use Rattle.inspect.proofs.Locating.{listNums-here, of-next, taken-told, onList-told, nextAfter-told}
+use Rattle.inspect.proofs.Locating.{onList-here, listNums-here, of-owners, of-next, taken-told, nextAfter-told}
 use Rattle.calls.proofs.Taken.{Stored}
-use Rattle.calls.proofs.Refusing.{ask-yes, ask-no, opens, seen, usual-performs-refused, look-refused, performs-accepted}
+use Rattle.calls.proofs.Refusing.{position-range, ask-yes, ask-no, opens, seen, usual-performs-refused, look-refused, performs-accepted}
 
 pub all-asked : firstNo [] ≡ 0
 unfolding firstNo
 all-asked = refl
-
-pub next-range : (l p : ℕ) → isList l && leb p 64 ≡ true → IsList l × (p ≤ 64)
-next-range l p h =
-    let (a, b) = and-true (isList l) (leb p 64) h in
-    let (x, y) = and-true (leb 1 l) (leb l 16) a in
-    ((leb-true 1 l x, leb-true l 16 y), leb-true p 64 b)
-
-positive : (p : ℕ) → p ≢ 0 → 1 ≤ p
-positive zero z = absurd (z refl)
-positive (suc p) z = omega arith
 
 module _ (d : Disk) (v l p : ℕ) where
   abbrev Nexts : N.NumberReply → Type 0
@@ -62,36 +51,32 @@ module _ (d : Disk) (v l p : ℕ) where
       abbrev TakenIs : Bool → Type 0
       TakenIs b = OfOwners (t .owner) (λ rs. IsList l → b ≡ taken l rs)
 
-      abbrev OnIs : Bool → Type 0
-      OnIs b = OfOwners (t .owner) (λ rs. IsList l → IsBlock p → b ≡ onList l p rs)
+      abbrev FollowsIs : Bool → Type 0
+      FollowsIs b = OfOwners (t .owner) (λ rs. b ≡ eqb p 0 || onList l p rs)
 
       taken-view : (b : Bool) → TakenIs b → taken l (view d v .lists) ≡ b
-      taken-view b f = sym (taken-told d t (view d v) (s .located) l b f (next-range l p w .0))
+      taken-view b f = sym (taken-told d t (view d v) (s .located) l b f (position-range l p w .0))
 
-      on-view : (b : Bool) → OnIs b → p ≢ 0 → onList l p (view d v .lists) ≡ b
-      on-view b f z = sym (onList-told d t (view d v) (s .located) l p b f (next-range l p w .0) (positive p z, next-range l p w .1))
+      follows-view : (b : Bool) → FollowsIs b → eqb p 0 || onList l p (view d v .lists) ≡ b
+      follows-view b f = rw (onList-here d t (view d v) (s .located) l p) (sym (of-owners d t (view d v) (s .located) (λ rs. b ≡ eqb p 0 || onList l p rs) f))
 
       pub next-untaken : (b : Bool) → TakenIs b → b ≡ false → Nexts (N.the-variants.Refused ListNotTaken)
       unfolding refusal questions number
       next-untaken b f h = next-refused ListNotTaken (seen _ s ∙ ask-yes 5 _ _ w ∙ ask-no 7 _ _ (taken-view b f ∙ h))
 
       module _ (b : Bool) (f : TakenIs b) (h : b ≡ true) where
-        pub next-elsewhere : (o : Bool) → OnIs o → p ≢ 0 → o ≡ false → Nexts (N.the-variants.Refused PredecessorElsewhere)
-        unfolding refusal questions number predecessorRight
-        next-elsewhere o g z e =
-            next-refused PredecessorElsewhere (seen _ s ∙ ask-yes 5 _ _ w ∙ ask-yes 7 _ _ (taken-view b f ∙ h) ∙ ask-no 9 _ _ (rw (eqb-false p 0 z) (on-view o g z ∙ e)))
+        module _ (o : Bool) (g : FollowsIs o) where
+          pub next-elsewhere : o ≡ false → Nexts (N.the-variants.Refused PredecessorElsewhere)
+          unfolding refusal questions number predecessorRight
+          next-elsewhere e =
+              next-refused PredecessorElsewhere (seen _ s ∙ ask-yes 5 _ _ w ∙ ask-yes 7 _ _ (taken-view b f ∙ h) ∙ ask-no 9 _ _ (follows-view o g ∙ e))
 
-        next-given : (n : ℕ) → eqb p 0 || onList l p (view d v .lists) ≡ true
-            → OfNext (t .next) (λ rs. taken l rs ≡ true → eqb p 0 || onList l p rs ≡ true → n ≡ nextAfter rs l p) → Nexts (N.the-variants.Number n)
-        unfolding refusal questions predecessorRight accepted numberAnswer
-        next-given n e g =
-            performs-accepted (blockAfter v l p) d _ (seen _ s ∙ ask-yes 5 _ _ w ∙ ask-yes 7 _ _ (taken-view b f ∙ h) ∙ ask-yes 9 _ [] e ∙ all-asked)
-            (rw (nextAfter-told d t (view d v) (s .located) l p n g (taken-view b f ∙ h) e))
-
-        pub next-found : (n : ℕ) → ((o : Bool) × OnIs o × (p ≢ 0) × (o ≡ true)) ⊎ (p ≡ 0)
-            → OfNext (t .next) (λ rs. taken l rs ≡ true → eqb p 0 || onList l p rs ≡ true → n ≡ nextAfter rs l p) → Nexts (N.the-variants.Number n)
-        next-found n (inl (o, g, z, e)) k = next-given n (or-right (eqb p 0) _ (on-view o g z ∙ e)) k
-        next-found n (inr z) k = next-given n (rw (eq-true p 0 z)) k
+          pub next-found : o ≡ true → (n : ℕ)
+              → OfNext (t .next) (λ rs. taken l rs ≡ true → eqb p 0 || onList l p rs ≡ true → n ≡ nextAfter rs l p) → Nexts (N.the-variants.Number n)
+          unfolding refusal questions predecessorRight accepted numberAnswer
+          next-found e n k =
+              performs-accepted (blockAfter v l p) d _ (seen _ s ∙ ask-yes 5 _ _ w ∙ ask-yes 7 _ _ (taken-view b f ∙ h) ∙ ask-yes 9 _ [] (follows-view o g ∙ e) ∙ all-asked)
+              (rw (nextAfter-told d t (view d v) (s .located) l p n k (taken-view b f ∙ h) (follows-view o g ∙ e)))
 
 module _ (d : Disk) (v : ℕ) (x : List ℕ) where
   abbrev Inventories : N.NumberReply → List ℕ → Type 0

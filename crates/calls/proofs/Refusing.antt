@@ -7,8 +7,9 @@ use Prim.Native.Nat.{ℕ, suc, _≤_, _<_}
 use native.Mathlib.Omega.{arith}
 use lib.Dec.{leb, eqb}
 use Rattle.lists.specs.Basic.{any}
-use Rattle.lists.specs.Tables.{Tables}
+use Rattle.lists.specs.Tables.{Tables, IsList}
 use Rattle.lists.proofs.Basic.{and-true, or-cases, leb-true, eqb-true, eqb-false, gt-false}
+use Rattle.log.specs.Entry.{isList}
 use Rattle.disk.specs.declared.answer.Refusal.{Refusal}
 use Rattle.disk.specs.declared.answer.Refusal.the-variants.{WrongLength, LogFault, RecordUnsound, StreamClosed, OutOfRange, UnitOpen, ListNotTaken, BlockNotPlaced, PredecessorElsewhere, NoNumberFree, JournalFull, Conflict, QueueFull}
 use Rattle.disk.specs.Disk.{Disk}
@@ -84,6 +85,10 @@ outside m n (inr l) = rw (gt-false n m l) (and-false (leb 1 n))
 
 pub inside : (m n : ℕ) → leb 1 n && leb n m ≡ true → (1 ≤ n) × (n ≤ m)
 inside m n h = let (a, b) = and-true (leb 1 n) (leb n m) h in (leb-true 1 n a, leb-true n m b)
+
+-- a list's number, and a predecessor's, which may be 0
+pub position-range : (l p : ℕ) → isList l && leb p 64 ≡ true → IsList l × (p ≤ 64)
+position-range l p h = let (a, b) = and-true (isList l) (leb p 64) h in (inside 16 l a, leb-true p 64 b)
 
 -- Refused calls.
 pub performs-refused : (c : Call) (d d′ : Disk) (x : Refusal) → number x ≢ 2 → refused c (number x) d ≡ d′ → refusal c d ≡ number x → Performs c d d′ (refusedAnswer x) (destination c)

@@ -1,9 +1,8 @@
 // Questions 1, 3 and 4 of a call that needs the committed state.
 use disk::answer::Refusal;
 use disk::record::Record;
-use inspect::examine::Examined;
-use inspect::examine::examine;
 use inspect::look::Looked;
+use inspect::look::look;
 use inspect::units::is_open;
 ghost use Rattle.lists.specs.Tables.{tables};
 ghost use Rattle.disk.specs.Disk.{disk};
@@ -24,24 +23,23 @@ pub fn enter(
 ) -> Looked
     ensures { λ r. ⌜ Enters stream (disk (now (card .entry)) (now (queue_data .entry)) (now (journal_data .entry)) rec) s r (tables (now (next .exit)) (now (prev .exit)) (now (owner .exit)) (now (place .exit))) ⌝ }
 {
-    match examine(
+    // stream 0 is always open, and its view is the committed state
+    match look(
         card,
         queue_data,
         journal_data,
         rec,
         false,
+        0,
         next,
         prev,
         owner,
         place,
     ) {
-        Examined::WrongLength => {
-            return Looked::Refused(Refusal::WrongLength);
+        Looked::Refused(x) => {
+            return Looked::Refused(x);
         }
-        Examined::Unsound => {
-            return Looked::Refused(Refusal::RecordUnsound);
-        }
-        Examined::Sound(_) => {}
+        Looked::Seen => {}
     }
     if stream {
         if s == 0 {

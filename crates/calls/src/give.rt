@@ -1,5 +1,7 @@
 // The numbers given: a free list taken, a free block put.
 use crate::add::add;
+use crate::ranges::follows;
+use crate::ranges::is_position;
 use crate::replied::NumberReplied;
 use disk::answer::NumberReply;
 use disk::answer::Refusal;
@@ -10,16 +12,13 @@ use disk::record::Record;
 use inspect::free::free_block;
 use inspect::free::free_list;
 use inspect::journal::enter_journal;
-use lists::tables::is_on;
 use lists::tables::is_taken;
 use log::entry::LogEntry;
 ghost use mathlib.Core.Path.{_≡_};
-ghost use mathlib.Core.Bool.{true, _||_};
+ghost use mathlib.Core.Bool.{true};
 ghost use mathlib.Core.List.{[]};
 ghost use Prim.Native.Nat.{_≤_, _<_};
-ghost use lib.Dec.{eqb};
 ghost use Rattle.lists.specs.Basic.{all, from};
-ghost use Rattle.lists.specs.State.{onList};
 ghost use Rattle.lists.specs.Tables.{tables, OfOwners, IsList};
 ghost use Rattle.log.specs.Entry.{legal, raw, member};
 ghost use Rattle.disk.specs.Record.{unitAt, withLastBlock, withLastList};
@@ -113,17 +112,6 @@ fn put_block(rec: Record, s: usize, l: u8, p: u8, b: u8) -> NumberReplied
     }
 }
 
-// 9. Is the predecessor on the list, if there is one?
-fn follows(owner: &[u8; 256], l: u8, p: u8) -> bool
-    requires { ⌜ IsList l × (p ≤ 64) ⌝ }
-    ensures { λ r. ⌜ OfOwners (now (owner .entry)) (λ rs. r ≡ eqb p 0 || onList l p rs) ⌝ }
-{
-    if p == 0 {
-        return true;
-    }
-    is_on(owner, l, p)
-}
-
 // 7, 9 and 10 of a block put on list l behind block p, first if p is 0; block b is 0 if none is free.
 fn put_on(owner: &[u8; 256], rec: Record, s: usize, l: u8, p: u8, b: u8) -> NumberReplied
     requires { ⌜ (s ≤ 4) × (rec .head < 32) × IsList l × (p ≤ 64) × (b ≤ 64) ⌝ }
@@ -149,7 +137,7 @@ fn put_ranged(owner: &[u8; 256], rec: Record, s: usize, l: usize, p: usize, b: u
     requires { ⌜ (s ≤ 4) × (rec .head < 32) × (b ≤ 64) ⌝ }
     ensures { λ r. ⌜ OfOwners (now (owner .entry)) (λ rs. Puts (rangedPutQuestions l p b rs) s l p b rec (r .reply) (r .rec)) ⌝ }
 {
-    if l < 1 || 16 < l || 64 < p {
+    if !is_position(l, p) {
         let reply = NumberReply::Refused(Refusal::OutOfRange);
         return NumberReplied { rec, reply };
     }

@@ -1,21 +1,18 @@
 // The look-up of the block after another.
-use crate::ranges::is_list;
+use crate::ranges::follows;
+use crate::ranges::is_position;
 use disk::answer::NumberReply;
 use disk::answer::Refusal;
 use disk::record::Record;
 use inspect::look::Looked;
 use inspect::look::look;
 use lists::tables::block_after;
-use lists::tables::is_on;
 use lists::tables::is_taken;
-use log::legal::both;
 ghost use mathlib.Core.List.{[]};
 ghost use Rattle.disk.specs.Disk.{disk};
 ghost use Rattle.disk.specs.Call.{blockAfter};
 ghost use Rattle.disk.specs.Answers.{numberAnswer};
 ghost use Rattle.calls.specs.Performs.{Performs};
-
-const BLOCKS: usize = 64;
 
 // The block after p on list l in view v: 0 stands for the first, and is returned at the end.
 // Questions: 1 lengths, 3 record, 4 view, 5 list and predecessor, 7 list taken, 9 predecessor on it.
@@ -51,7 +48,7 @@ pub fn next(
         }
         Looked::Seen => {}
     }
-    if !both(is_list(l), p <= BLOCKS) {
+    if !is_position(l, p) {
         return NumberReply::Refused(Refusal::OutOfRange);
     }
     let list = l as u8;
@@ -59,10 +56,8 @@ pub fn next(
     if !is_taken(&owner, list) {
         return NumberReply::Refused(Refusal::ListNotTaken);
     }
-    if p != 0 {
-        if !is_on(&owner, list, predecessor) {
-            return NumberReply::Refused(Refusal::PredecessorElsewhere);
-        }
+    if !follows(&owner, list, predecessor) {
+        return NumberReply::Refused(Refusal::PredecessorElsewhere);
     }
     let block = block_after(&next, list, predecessor) as usize;
     NumberReply::Number(block)

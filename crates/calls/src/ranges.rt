@@ -1,6 +1,12 @@
-// Question 5 of a block's and a list's number, as callers give them.
+// Question 5 of the numbers that callers give, and question 9 of a predecessor.
+use lists::tables::is_on;
 use log::legal::both;
 ghost use mathlib.Core.Path.{_≡_};
+ghost use mathlib.Core.Bool.{_&&_, _||_};
+ghost use Prim.Native.Nat.{_≤_};
+ghost use lib.Dec.{leb, eqb};
+ghost use Rattle.lists.specs.State.{onList};
+ghost use Rattle.lists.specs.Tables.{OfOwners, IsList};
 ghost use Rattle.log.specs.Entry.{isBlock, isList};
 
 const BLOCKS: usize = 64;
@@ -17,4 +23,22 @@ pub fn is_list(l: usize) -> bool
     ensures { λ r. ⌜ r ≡ isList l ⌝ }
 {
     both(1 <= l, l <= LISTS)
+}
+
+// A list, and a block on it or 0, which stands for none.
+pub fn is_position(l: usize, p: usize) -> bool
+    ensures { λ r. ⌜ r ≡ isList l && leb p 64 ⌝ }
+{
+    both(is_list(l), p <= BLOCKS)
+}
+
+// 9. Is the predecessor on the list, if there is one?
+pub fn follows(owner: &[u8; 256], l: u8, p: u8) -> bool
+    requires { ⌜ IsList l × (p ≤ 64) ⌝ }
+    ensures { λ r. ⌜ OfOwners (now (owner .entry)) (λ rs. r ≡ eqb p 0 || onList l p rs) ⌝ }
+{
+    if p == 0 {
+        return true;
+    }
+    is_on(owner, l, p)
 }

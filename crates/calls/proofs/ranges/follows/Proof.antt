@@ -1,8 +1,8 @@
 -- Predecessor 0 is none; another is a block, whose owner the table names. Assumes nothing.
 use Rattle.lists.proofs.Basic.{eqb-false, eq-true}
 use borrow.Author.Needs.{needs}
-use Rattle.calls.proofs.give.follows.Statement.{statement}
-use Rattle.calls.proofs.give.follows.Tie as tie
+use Rattle.calls.proofs.ranges.follows.Statement.{statement}
+use Rattle.calls.proofs.ranges.follows.Tie as tie
 
 returns : tie.Need-returns
 returns c nx pv pl rs sh = rw (eq-true _ 0 (c .if1 .taken))
