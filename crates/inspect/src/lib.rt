@@ -1,11 +1,11 @@
 // The questions that every call asks first, of lengths, record and card, and the tables of a view. No table outlives a call.
 pub mod examine;
 pub mod free;
-pub mod head;
-pub mod holders;
+mod head;
+mod holders;
 pub mod journal;
 pub mod lengths;
 pub mod look;
-pub mod numbers;
-pub mod queue;
+mod numbers;
+mod queue;
 pub mod units;
