@@ -8,9 +8,8 @@ use Rattle.lists.specs.Tables.{Tables}
 use Rattle.disk.specs.declared.answer.Refusal.{Refusal}
 use Rattle.disk.specs.declared.answer.Refusal.the-variants.{StreamClosed, UnitOpen}
 use Rattle.disk.specs.Disk.{Disk, unitOf}
-use Rattle.disk.specs.Sound.{lengthsRight, recordSound}
 use Rattle.disk.specs.Questions.{streamOpen, questions, ask, firstNo, refusal}
-use Rattle.disk.specs.Call.{Call, conflictCount, begin, destination}
+use Rattle.disk.specs.Call.{conflictCount, begin, destination}
 use Rattle.disk.specs.Perform.{accepted, opening}
 use Rattle.disk.specs.Answers.{number, refusedAnswer, acceptedAnswer}
 use Rattle.disk.proofs.Questions.{in-range}
@@ -20,10 +19,7 @@ use Rattle.calls.specs.Performs.{Performs}
 use Rattle.inspect.specs.Clauses.{openUnit}
 use Rattle.inspect.specs.Inspect.{Looks}
 use Rattle.calls.specs.Checks.{Sounds, Checks}
-use Rattle.calls.proofs.Refusing.{opens, ask-yes, ask-no, ask-more, number-nonzero, outside, Usual, usual-performs-refused, performs-accepted}
-
-abbrev pub checked : Disk → List (ℕ × Bool)
-checked d = (1, lengthsRight d) ∷ (3, recordSound d) ∷ []
+use Rattle.calls.proofs.Refusing.{ask-yes, ask-no, checked, sound-yes, opens, outside, usual-performs-refused, performs-accepted}
 
 -- stream 0 is always open
 pub unchecked : (d : Disk) (x : Refusal) → firstNo (opens false d 0) ≡ number x → firstNo (checked d) ≡ number x
@@ -34,12 +30,8 @@ pub looks-checks : (d : Disk) (x : Looked) (t : Tables) → Looks false d 0 x t 
 looks-checks d (Refused x) t h = unchecked d x h
 looks-checks d Seen t h = record { lengths = h .lengths; sound = h .sound }
 
-pub check-refused : (k : Call) (d : Disk) (x : Refusal) (qs : List (ℕ × Bool)) → Usual k → refusal k d ≡ firstNo (checked d ++ qs) → firstNo (checked d) ≡ number x
-    → Performs k d d (refusedAnswer x) (destination k)
-check-refused k d x qs u q h = usual-performs-refused k d x u (q ∙ ask-more (checked d) qs (number x) (number-nonzero x) h)
-
-pub checked-yes : {d : Disk} (qs : List (ℕ × Bool)) → Sounds d → firstNo (checked d ++ qs) ≡ firstNo qs
-checked-yes {d} qs s = ask-yes 1 (lengthsRight d) ((3, recordSound d) ∷ qs) (s .lengths) ∙ ask-yes 3 (recordSound d) qs (s .sound)
+checked-yes : {d : Disk} (qs : List (ℕ × Bool)) → Sounds d → firstNo (checked d ++ qs) ≡ firstNo qs
+checked-yes {d} qs s = sound-yes d qs (s .lengths) (s .sound)
 
 -- The conflict count.
 pub conflicts-given : (d : Disk) → Sounds d → Performs conflictCount d d (acceptedAnswer (d .rec .conflicts) 0) []

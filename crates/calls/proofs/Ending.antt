@@ -41,11 +41,10 @@ use Rattle.inspect.specs.Located.{journalHere}
 use Rattle.calls.specs.Entering.{Stands}
 use Rattle.inspect.specs.Clauses.{changeIn}
 use Rattle.calls.specs.Ending.{closed, QueuesMember, Ready, QueuesUnit, endQuestions, EndsAs, Ends}
-use Rattle.calls.proofs.Refusing.{ask-yes, ask-no, end-performs-refused, performs-accepted}
+use Rattle.calls.proofs.Refusing.{ask-yes, ask-no, last-yes, refused-more, end-performs-refused, performs-accepted}
 use Rattle.inspect.proofs.Locating.{applies-here}
 use Rattle.inspect.proofs.Looking.{unit-lawful}
-use Rattle.calls.proofs.Entering.{entering, not-entered, entered}
-use Rattle.calls.proofs.Giving.{last-yes}
+use Rattle.calls.proofs.Entering.{entering, entered}
 
 -- A member joins the queue.
 module _ (q j : List ℕ) (r : Record) (k : ℕ) where
@@ -208,4 +207,4 @@ pub end-not-entered : (u : ℕ) (d : Disk) (x : Refusal) → firstNo (entering f
 unfolding refusal questions
 end-not-entered u d x h =
     end-performs-refused u d d x (refused-same (end u) (number x) d (λ e. no-twelve (lengthsRight d) (recordSound d) (isOpenUnit d u) (h ∙ e)))
-    (not-entered false d u x ((12, endApplies d u) ∷ (13, queueRoom d (unitOf d u .len + 1)) ∷ []) h)
+    (refused-more x (entering false d u) ((12, endApplies d u) ∷ (13, queueRoom d (unitOf d u .len + 1)) ∷ []) h)

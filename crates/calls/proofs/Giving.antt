@@ -4,7 +4,7 @@ use mathlib.Core.Logic.{_≢_}
 use mathlib.Core.Bool.{Bool, true, false, _&&_, _||_, not}
 use mathlib.Core.Option.{Option, none, some}
 use mathlib.Core.List.{List, [], _∷_}
-use Prim.Native.Nat.{ℕ, zero, suc, _+_, _-_, _%_, _≤_, _<_}
+use Prim.Native.Nat.{ℕ, zero, suc, _+_, _%_, _≤_, _<_}
 use native.Mathlib.Omega.{arith}
 use lib.Dec.{leb, eqb}
 use Rattle.lists.specs.Basic.{isSome, orElse}
@@ -22,7 +22,7 @@ use Rattle.disk.specs.declared.answer.Reply.the-variants as A
 use Rattle.disk.specs.Record.{holderOf, withLastBlock}
 use Rattle.disk.specs.Disk.{Disk, withRecord, committed}
 use Rattle.disk.specs.Call.{newList, destination}
-use Rattle.disk.specs.Questions.{freeFrom, freeList, queueRoom, questions, ask, firstNo, refusal}
+use Rattle.disk.specs.Questions.{freeFrom, freeList, queueRoom, questions, firstNo, refusal}
 use Rattle.disk.specs.Perform.{accepted, enqueue, gaveList, queuedEntry, spliceSome}
 use Rattle.disk.specs.Answers.{number, numberAnswer}
 use Rattle.disk.proofs.Questions.{free-from}
@@ -30,7 +30,7 @@ use Rattle.calls.specs.Performs.{Performs}
 use Rattle.calls.specs.Entering.{Stands}
 use Rattle.calls.specs.Adds.{Adds}
 use Rattle.calls.specs.Giving.{freeListIn, freeBlockIn, takenList, Takes, putEntry, heldBy, putBlock, Puts, putQuestions, rangedPutQuestions}
-use Rattle.calls.proofs.Refusing.{ask-yes, ask-no, usual-performs-refused, performs-accepted}
+use Rattle.calls.proofs.Refusing.{ask-yes, ask-no, last-yes, usual-performs-refused, performs-accepted}
 use Rattle.inspect.proofs.Locating.{taken-here}
 use Rattle.calls.proofs.Adding.{rooms-yes}
 use Rattle.calls.proofs.Entering.{entered}
@@ -70,10 +70,6 @@ module _ (used : ℕ → Bool) (limit k last : ℕ) (l : 0 < limit) where
       go : (o : Option ℕ) → n ≡ orElse 0 o → o ≡ some n
       go none e = absurd (z e)
       go (some m) e = ap some (sym e)
-
-pub last-yes : (n : ℕ) (b : Bool) → b ≡ true → firstNo ((n, b) ∷ []) ≡ 0
-unfolding firstNo ask
-last-yes n b h = rw h
 
 pub free-block-limit : (r : Record) (rs : List (Row ℕ)) (n : ℕ) → n ≡ orElse 0 (freeBlockIn r rs) → n ≤ 64
 free-block-limit r rs n h = let l = free-limit (λ b. placed b rs || not (eqb (holderOf r b) 0)) 64 64 (r .«last_block») (omega arith) in omega arith

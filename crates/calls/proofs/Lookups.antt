@@ -23,11 +23,7 @@ use Rattle.calls.specs.Performs.{Performs}
 use Rattle.inspect.specs.Inspect.{Sees}
 use Rattle.inspect.proofs.Locating.{onList-here, listNums-here, of-owners, of-next, taken-told, nextAfter-told}
 use Rattle.calls.proofs.Taken.{Stored}
-use Rattle.calls.proofs.Refusing.{position-range, ask-yes, ask-no, opens, seen, usual-performs-refused, look-refused, performs-accepted}
-
-pub all-asked : firstNo [] ≡ 0
-unfolding firstNo
-all-asked = refl
+use Rattle.calls.proofs.Refusing.{ask-yes, ask-no, last-yes, opens, seen, position-range, usual-performs-refused, first-refused, performs-accepted}
 
 module _ (d : Disk) (v l p : ℕ) where
   abbrev Nexts : N.NumberReply → Type 0
@@ -39,7 +35,7 @@ module _ (d : Disk) (v l p : ℕ) where
 
   pub next-unseen : (x : Refusal) → firstNo (opens true d v) ≡ number x → Nexts (N.the-variants.Refused x)
   unfolding refusal questions destination numberAnswer
-  next-unseen x h = look-refused (blockAfter v l p) d true v x _ tt refl h
+  next-unseen x h = first-refused (blockAfter v l p) d x (opens true d v) _ tt refl h
 
   module _ (t : Tables) (s : Sees true d v t) where
     pub next-out : isList l && leb p 64 ≡ false → Nexts (N.the-variants.Refused OutOfRange)
@@ -75,7 +71,7 @@ module _ (d : Disk) (v l p : ℕ) where
               → OfNext (t .next) (λ rs. taken l rs ≡ true → eqb p 0 || onList l p rs ≡ true → n ≡ nextAfter rs l p) → Nexts (N.the-variants.Number n)
           unfolding refusal questions predecessorRight accepted numberAnswer
           next-found e n k =
-              performs-accepted (blockAfter v l p) d _ (seen _ s ∙ ask-yes 5 _ _ w ∙ ask-yes 7 _ _ (taken-view b f ∙ h) ∙ ask-yes 9 _ [] (follows-view o g ∙ e) ∙ all-asked)
+              performs-accepted (blockAfter v l p) d _ (seen _ s ∙ ask-yes 5 _ _ w ∙ ask-yes 7 _ _ (taken-view b f ∙ h) ∙ last-yes 9 _ (follows-view o g ∙ e))
               (rw (nextAfter-told d t (view d v) (s .located) l p n k (taken-view b f ∙ h) (follows-view o g ∙ e)))
 
 module _ (d : Disk) (v : ℕ) (x : List ℕ) where
@@ -84,7 +80,7 @@ module _ (d : Disk) (v : ℕ) (x : List ℕ) where
 
   pub inventory-unseen : (r : Refusal) → firstNo (opens true d v) ≡ number r → Inventories (N.the-variants.Refused r) x
   unfolding refusal questions destination numberAnswer
-  inventory-unseen r h = look-refused (inventory v x) d true v r _ tt refl h
+  inventory-unseen r h = first-refused (inventory v x) d r (opens true d v) _ tt refl h
 
   module _ (t : Tables) (s : Sees true d v t) where
     pub inventory-out : length x ≢ 16 → Inventories (N.the-variants.Refused OutOfRange) x
@@ -95,4 +91,4 @@ module _ (d : Disk) (v : ℕ) (x : List ℕ) where
     unfolding refusal questions accepted numberAnswer
     inventory-given h n y f =
         let (a, b) = of-next d t (view d v) (s .located) (λ rs. Stored x rs n y) f in
-        performs-accepted (inventory v x) d _ (seen _ s ∙ ask-yes 5 _ [] (eq-true (length x) 16 h) ∙ all-asked) (rw (listNums-here d t (view d v) (s .located), a, b))
+        performs-accepted (inventory v x) d _ (seen _ s ∙ last-yes 5 _ (eq-true (length x) 16 h)) (rw (listNums-here d t (view d v) (s .located), a, b))

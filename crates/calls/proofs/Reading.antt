@@ -2,7 +2,7 @@
 use mathlib.Core.Path.{_≡_, refl, sym, _∙_}
 use mathlib.Core.Bool.{Bool, true, false, _&&_}
 use mathlib.Core.Option.{some}
-use mathlib.Core.List.{List, []}
+use mathlib.Core.List.{List}
 use Prim.Native.Nat.{ℕ}
 use lib.Dec.{leb, eqb}
 use lib.ListN.{length}
@@ -25,8 +25,7 @@ use Rattle.calls.specs.Performs.{Performs}
 use Rattle.inspect.specs.Located.{contents}
 use Rattle.inspect.specs.Inspect.{Sees}
 use Rattle.inspect.proofs.Locating.{placed-told, content-told}
-use Rattle.calls.proofs.Refusing.{ask-yes, ask-no, opens, seen, usual-performs-refused, look-refused, performs-accepted}
-use Rattle.calls.proofs.Lookups.{all-asked}
+use Rattle.calls.proofs.Refusing.{ask-yes, ask-no, last-yes, opens, seen, usual-performs-refused, first-refused, performs-accepted}
 
 pub read-range : (b n : ℕ) → isBlock b && eqb n 256 ≡ true → IsBlock b × (n ≡ 256)
 read-range b n h =
@@ -44,7 +43,7 @@ module _ (d : Disk) (v b : ℕ) (x : List ℕ) where
 
   pub read-unseen : (r : Refusal) → firstNo (opens true d v) ≡ number r → Reads (R.the-variants.Refused r) x
   unfolding refusal questions destination replyAnswer
-  read-unseen r h = look-refused (readBlock v b x) d true v r _ tt refl h
+  read-unseen r h = first-refused (readBlock v b x) d r (opens true d v) _ tt refl h
 
   module _ (t : Tables) (s : Sees true d v t) where
     pub read-out : isBlock b && eqb (length x) 256 ≡ false → Reads (R.the-variants.Refused OutOfRange) x
@@ -69,4 +68,4 @@ module _ (d : Disk) (v b : ℕ) (x : List ℕ) where
 
         pub read-given : (y : List ℕ) → y ≡ contents d m → Reads R.the-variants.Accepted y
         unfolding refusal questions accepted replyAnswer orElse
-        read-given y e = performs-accepted (readBlock v b x) d _ (seen _ s ∙ ask-yes 5 _ _ w ∙ ask-yes 8 _ [] (placed-view ∙ h) ∙ all-asked) (rw (content-view, orElse, e))
+        read-given y e = performs-accepted (readBlock v b x) d _ (seen _ s ∙ ask-yes 5 _ _ w ∙ last-yes 8 _ (placed-view ∙ h)) (rw (content-view, orElse, e))

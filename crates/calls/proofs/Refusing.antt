@@ -33,6 +33,10 @@ pub ask-no : (n : ℕ) (b : Bool) (qs : List (ℕ × Bool)) → b ≡ false → 
 unfolding firstNo ask
 ask-no n b qs h = rw h
 
+pub last-yes : (n : ℕ) (b : Bool) → b ≡ true → firstNo ((n, b) ∷ []) ≡ 0
+unfolding firstNo ask
+last-yes n b h = rw h
+
 -- a no among the first questions is the first no of all
 pub ask-more : (ps qs : List (ℕ × Bool)) (n : ℕ) → n ≢ 0 → firstNo ps ≡ n → firstNo (ps ++ qs) ≡ n
 unfolding firstNo ask
@@ -59,16 +63,22 @@ number-some QueueFull = (_, refl)
 pub number-nonzero : (x : Refusal) → number x ≢ 0
 number-nonzero x e = let (m, h) = number-some x in omega arith
 
--- Questions 1, 3 and 4, as `look` answers them: before others they say no, or all yes.
+-- a refusal by one of the first questions
+pub refused-more : (x : Refusal) (ps qs : List (ℕ × Bool)) → firstNo ps ≡ number x → firstNo (ps ++ qs) ≡ number x
+refused-more x ps qs h = ask-more ps qs (number x) (number-nonzero x) h
+
+-- Questions 1 and 3, and with them 4 as `look` answers it.
+abbrev pub checked : Disk → List (ℕ × Bool)
+checked d = (1, lengthsRight d) ∷ (3, recordSound d) ∷ []
+
+pub sound-yes : (d : Disk) (qs : List (ℕ × Bool)) → lengthsRight d ≡ true → recordSound d ≡ true → firstNo (checked d ++ qs) ≡ firstNo qs
+sound-yes d qs l s = ask-yes 1 (lengthsRight d) _ l ∙ ask-yes 3 (recordSound d) qs s
+
 abbrev pub opens : Bool → Disk → ℕ → List (ℕ × Bool)
 opens looked d v = (1, lengthsRight d) ∷ (3, recordSound d) ∷ (4, openAs looked d v) ∷ []
 
-pub not-seen : (looked : Bool) (d : Disk) (v : ℕ) (x : Refusal) (qs : List (ℕ × Bool)) → firstNo (opens looked d v) ≡ number x → firstNo (opens looked d v ++ qs) ≡ number x
-not-seen looked d v x qs h = ask-more (opens looked d v) qs (number x) (number-nonzero x) h
-
 pub seen : {looked : Bool} {d : Disk} {v : ℕ} {t : Tables} (qs : List (ℕ × Bool)) → Sees looked d v t → firstNo (opens looked d v ++ qs) ≡ firstNo qs
-seen {looked} {d} {v} qs s =
-    ask-yes 1 (lengthsRight d) _ (s .lengths) ∙ ask-yes 3 (recordSound d) _ (s .sound) ∙ ask-yes 4 (openAs looked d v) qs (s .opened)
+seen {looked} {d} {v} qs s = sound-yes d _ (s .lengths) (s .sound) ∙ ask-yes 4 (openAs looked d v) qs (s .opened)
 
 -- what the code needs then: the number is a stream's, and the queue's head a place
 pub seen-ranges : {d : Disk} {s : ℕ} {t : Tables} → Sees false d s t → (s ≤ 4) × (d .rec .head < 32)
@@ -165,10 +175,10 @@ unfolding destination refusal
 end-performs-refused u d d′ x r h =
     performs-refused (end u) d d′ x (λ e. false≢true (sym (end-asks-two u d) ∙ numbered (questions (end u) d) 2 (omega arith) (h ∙ e))) r h
 
--- refused by a question that `look` answers
-pub look-refused : (k : Call) (d : Disk) (looked : Bool) (v : ℕ) (x : Refusal) (qs : List (ℕ × Bool)) → Usual k → refusal k d ≡ firstNo (opens looked d v ++ qs)
-    → firstNo (opens looked d v) ≡ number x → Performs k d d (refusedAnswer x) (destination k)
-look-refused k d looked v x qs u q h = usual-performs-refused k d x u (q ∙ not-seen looked d v x qs h)
+-- refused by one of the call's first questions
+pub first-refused : (k : Call) (d : Disk) (x : Refusal) (ps qs : List (ℕ × Bool)) → Usual k → refusal k d ≡ firstNo (ps ++ qs) → firstNo ps ≡ number x
+    → Performs k d d (refusedAnswer x) (destination k)
+first-refused k d x ps qs u q h = usual-performs-refused k d x u (q ∙ refused-more x ps qs h)
 
 -- Accepted calls.
 pub performs-accepted : (c : Call) (d : Disk) (r : Result) → refusal c d ≡ 0 → accepted c d ≡ r → perform c d ≡ r

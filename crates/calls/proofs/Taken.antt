@@ -8,18 +8,13 @@ use native.Mathlib.Omega.{arith}
 use native.Mathlib.Numerals.{add-one}
 use native.Mathlib.Decide.{decLt}
 use lib.Dec.{eqb}
-use lib.ListN.{length, getD, set, take, drop, List·getD-eq-default}
+use lib.ListN.{length, getD, set, take, drop}
 use lib.Seq.{take-length, paste-suc}
 use Rattle.lists.specs.State.{Row, taken}
 use Rattle.lists.specs.Lookup.{nextIn, listNums, takenAfter}
-use Rattle.lists.specs.Tables.{Tables, Shows, Away}
+use Rattle.lists.specs.Tables.{Tables, Shows}
 use Rattle.lists.proofs.Basic.{or-right, eqb-same, eqb-false}
-use Rattle.lists.proofs.Runs.{lists-apart, lists-few, lists-run}
-
-some-at : (xs : List ℕ) (i : ℕ) → Away 0 xs → i < length xs → getD xs i 0 ≢ 0
-some-at [] i a h = absurd (omega arith)
-some-at (x ∷ xs) zero a h = a .0
-some-at (x ∷ xs) (suc i) a h = some-at xs i (a .1) (omega arith)
+use Rattle.lists.proofs.Runs.{away-at, some-within, lists-apart, lists-few, lists-run}
 
 nums-taken : (rs : List (Row ℕ)) (i : ℕ) → i < length (listNums rs) → taken (getD (listNums rs) i 0) rs ≡ true
 unfolding listNums taken
@@ -48,16 +43,9 @@ unfolding takenAfter nextIn
 storing-none dest rs list e = record { room = omega arith; stored = refl; next = e }
 
 module _ (t : Tables) (rs : List (Row ℕ)) (s : Shows t rs) {dest₀ : List ℕ} {i : ℕ} {dest : List ℕ} {list : ℕ} (p : Storing dest₀ rs i dest list) where
-  inside : list ≢ 0 → i < length (listNums rs)
-  inside n = go (decLt i (length (listNums rs)))
-    where
-      go : Dec (i < length (listNums rs)) → i < length (listNums rs)
-      go (yes k) = k
-      go (no k) = absurd (n (p .next ∙ List·getD-eq-default (listNums rs) 0 {n = i} (omega arith)))
-
   pub storing-more : {list′ : ℕ} → i < length dest₀ → list ≢ 0 → (eqb list 0 || taken list rs ≡ true → list′ ≡ takenAfter rs list) → Storing dest₀ rs (i + 1) (set dest i list) list′
   storing-more h n f =
-      let k = inside n in
+      let k = some-within (listNums rs) i (λ e. n (p .next ∙ e)) in
       let on : eqb list 0 || taken list rs ≡ true = rw (eqb-false list 0 n, p .next) (nums-taken rs i k) in
       record {
         room = omega arith;
@@ -73,7 +61,7 @@ module _ (t : Tables) (rs : List (Row ℕ)) (s : Shows t rs) {dest₀ : List ℕ
   storing-end e = go (decLt i (length (listNums rs)))
     where
       go : Dec (i < length (listNums rs)) → Stored dest₀ rs i dest
-      go (yes k) = absurd (some-at (listNums rs) i (lists-apart t rs s .0) k (sym (p .next) ∙ e))
+      go (yes k) = absurd (away-at 0 (listNums rs) i (lists-apart t rs s .0) k (sym e ∙ p .next))
       go (no k) = done (omega (arith, p .room))
 
   pub storing-full : 16 ≤ i → Stored dest₀ rs i dest

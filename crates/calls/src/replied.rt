@@ -2,7 +2,6 @@
 use disk::answer::FlushReply;
 use disk::answer::MountReply;
 use disk::answer::NumberReply;
-use disk::answer::Refusal;
 use disk::answer::Reply;
 use disk::record::Record;
 

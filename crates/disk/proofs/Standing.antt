@@ -37,10 +37,10 @@ standing-all (x ∷ ss) (suc k) c m f =
     rw (eq-true (getD c (x .0) 256) (x .1) (f 0 (omega arith))) (standing-all ss k c (omega arith) (λ j l. f (suc j) (omega arith)))
 
 -- an element of a list does not go by the default
-inside : (l : List ℕ) (i a b : ℕ) → i < length l → getD l i a ≡ getD l i b
-inside [] i a b h = absurd (omega arith)
-inside (x ∷ l) zero a b h = refl
-inside (x ∷ l) (suc i) a b h = inside l i a b (omega arith)
+pub any-default : (l : List ℕ) (i a b : ℕ) → i < length l → getD l i a ≡ getD l i b
+any-default [] i a b h = absurd (omega arith)
+any-default (x ∷ l) zero a b h = refl
+any-default (x ∷ l) (suc i) a b h = any-default l i a b (omega arith)
 
 module _ (c : List ℕ) (ess : List (List (Entry Content))) (h : Carries c ess) where
   home-same : (e : Entry Content) → home (segmentsIn c) (tail c) e ≡ home (length ess) (endOf ess) e
@@ -58,7 +58,7 @@ module _ (c : List ℕ) (ess : List (List (Entry Content))) (h : Carries c ess) 
         let t : headAt c k (some p) e ≡ true = ap (λ (o : Option Place). headAt c k o e) (sym (home-same e ∙ v)) ∙ s in
         let (a, b) = and-true (ltb k (length (entryStores p e))) (standing (take k (entryStores p e)) c) t in
         let l : k < length (entryStores p e) = ltb-true k (length (entryStores p e)) a in
-        (λ j m. inside c (storeOf p e j .0) 0 256 (store-on p e j v (g .0) (omega arith)) ∙ standing-at (entryStores p e) k c j b m (omega arith), l),
+        (λ j m. any-default c (storeOf p e j .0) 0 256 (store-on p e j v (g .0) (omega arith)) ∙ standing-at (entryStores p e) k c j b m (omega arith), l),
     λ v. eqb-true k 0 (ap (λ (o : Option Place). headAt c k o e) (sym (home-same e ∙ v)) ∙ s),
   )
 
@@ -74,4 +74,4 @@ module _ (c : List ℕ) (ess : List (List (Entry Content))) (h : Carries c ess) 
           ap (λ (o : Option Place). headAt c k o e) v
           ∙ rw (lt-true k (length (entryStores p e)) l)
           (standing-all (entryStores p e) k c (omega arith)
-          (λ j m. inside c (storeOf p e j .0) 256 0 (store-on p e j v (g .0) (omega arith)) ∙ b j m))
+          (λ j m. any-default c (storeOf p e j .0) 256 0 (store-on p e j v (g .0) (omega arith)) ∙ b j m))

@@ -27,6 +27,7 @@ use Rattle.disk.specs.declared.record.Record.{Record}
 use Rattle.disk.specs.Record.{noQueued}
 use Rattle.disk.specs.Disk.{disk, queuedAt, queued}
 use Rattle.disk.specs.Sound.{standing, headAt, headStanding}
+use Rattle.disk.proofs.Standing.{any-default}
 use Rattle.inspect.specs.Begun.{standsFrom}
 
 -- A loop over bytes.
@@ -81,12 +82,6 @@ each-split f a (suc n) m =
     and-assoc true y z = refl
     and-assoc false y z = refl
 
--- an element of a list does not go by the default
-inside : (l : List ℕ) (i d : ℕ) → i < length l → getD l i d ≡ getD l i 0
-inside [] i d h = absurd (omega arith)
-inside (x ∷ l) zero d h = refl
-inside (x ∷ l) (suc i) d h = inside l i d (omega arith)
-
 -- the bytes w are those of the list v
 abbrev pub SameBytes : List ℕ → List ℕ → ℕ → Type 0
 SameBytes w v n = (i : ℕ) → i < n → getD w i 0 ≡ getD v i 0
@@ -112,13 +107,13 @@ module _ (c d : List ℕ) (z : length d ≡ 256) (m : Bool) (e : LogEntry) (p : 
   stands j = standsAt c (storeOf p (going d m e) j)
 
   stands-data : (j : ℕ) → j < dataBytes e → stands j ≡ sameAt c (dataAt p) d j
-  stands-data j l = let (a, b) = store-data d z m e p j l in rw (a, b) (ap (λ (x : ℕ). eqb x (getD d j 0)) (inside c (dataAt p + j) 256 (omega (arith, room c p e right on fit .0))))
+  stands-data j l = let (a, b) = store-data d z m e p j l in rw (a, b) (ap (λ (x : ℕ). eqb x (getD d j 0)) (any-default c (dataAt p + j) 256 0 (omega (arith, room c p e right on fit .0))))
 
   stands-code : (j : ℕ) → j < codeBytes e → stands (dataBytes e + j) ≡ sameAt c (codeAt p) (encode (raw (p .slots) (asEntry m e))) j
   stands-code j l =
       let q : dataBytes e + j - dataBytes e ≡ j = omega arith in
       let (a, b) = store-code d z m e p (dataBytes e + j) (omega arith) (omega arith) in
-      rw (a, b) (rw q (ap (λ (x : ℕ). eqb x (getD (encode (raw (p .slots) (asEntry m e))) j 0)) (inside c (codeAt p + j) 256 (omega (arith, room c p e right on fit .1)))))
+      rw (a, b) (rw q (ap (λ (x : ℕ). eqb x (getD (encode (raw (p .slots) (asEntry m e))) j 0)) (any-default c (codeAt p + j) 256 0 (omega (arith, room c p e right on fit .1)))))
 
   counted : (k : ℕ) → k ≤ dataBytes e + codeBytes e → headAt c k (some p) (going d m e) ≡ each (from stands 0 k)
   unfolding headAt

@@ -4,7 +4,7 @@ use mathlib.Core.Bool.{true}
 use mathlib.Core.List.{List, []}
 use Prim.Native.Nat.{ℕ, _-_, _<_}
 use native.Mathlib.Omega.{arith}
-use lib.ListN.{length, getD}
+use lib.ListN.{getD}
 use Rattle.log.specs.Entry.{Entry}
 use Rattle.log.specs.Reader.{Reader}
 use Rattle.log.specs.Card.{Content, cardLength, segmentsIn, sound, mounted}

@@ -1,8 +1,8 @@
 -- From locations to contents: what the queue, a journal, the replays and the look-ups say at locations, they say of the contents that stand there.
 use mathlib.Core.Path.{_≡_, refl, sym, ap, _∙_}
-use mathlib.Core.Bool.{Bool, true, false, _||_}
+use mathlib.Core.Bool.{Bool, true, _||_}
 use mathlib.Core.Option.{Option, none, some}
-use mathlib.Core.List.{List, [], _∷_, map}
+use mathlib.Core.List.{List, _∷_, map}
 use Prim.Native.Nat.{ℕ, zero, suc, _+_}
 use native.Mathlib.Omega.{arith}
 use native.Mathlib.Nat.{mod-lt}
@@ -10,10 +10,10 @@ use lib.Dec.{eqb}
 use lib.ListN.{getD}
 use Rattle.lists.specs.Basic.{isSome, from}
 use Rattle.lists.specs.Change.{mapChange}
-use Rattle.lists.specs.State.{Block, Row, State, taken, placed, onList, applyAll, overlay, mapBlock, mapRow, mapState}
-use Rattle.lists.specs.Lookup.{contentIn, contentOf, blocksOf, nextAfter, listNums, takenAfter}
+use Rattle.lists.specs.State.{Row, State, taken, placed, onList, applyAll, overlay, mapRow, mapState}
+use Rattle.lists.specs.Lookup.{contentOf, nextAfter, listNums, takenAfter}
 use Rattle.lists.specs.Tables.{Tables, IsBlock, IsList, OfNext, OfOwners, OfPlaces}
-use Rattle.lists.proofs.Naturality.{mapOption, taken-map, placed-map, onList-map, change-comp, applyAll-map, overlay-map}
+use Rattle.lists.proofs.Naturality.{mapOption, taken-map, placed-map, onList-map, change-comp, applyAll-map, overlay-map, nextAfter-map, listNums-map, contentOf-map}
 use Rattle.log.specs.Entry.{mapEntry, asEntry, asChange}
 use Rattle.log.specs.Reader.{Reader, replay}
 use Rattle.log.specs.Card.{Content, zeros, sound, cardLength, walkCard}
@@ -81,46 +81,6 @@ module _ (d : Disk) where
   applies-here u s =
       rw (← journal-here u, ← blank-here, applyAll-map (contents d) blank (journalHere (unitOf d u) u) s)
       (some-map (mapState (contents d)) (applyAll blank (journalHere (unitOf d u) u) s))
-
--- The look-ups: numbers do not depend on contents.
-module _ {D E : Type 0} (h : D → E) where
-  contentIn-map : (xs : List (Block D)) (b : ℕ) → contentIn (map (mapBlock h) xs) b ≡ mapOption h (contentIn xs b)
-  unfolding contentIn
-  contentIn-map [] b = refl
-  contentIn-map (x ∷ xs) b = go (contentIn-map xs b) (eqb (x .num) b)
-    where
-      go : contentIn (map (mapBlock h) xs) b ≡ mapOption h (contentIn xs b) → (t : Bool)
-          → _≡_ {A = Option E} (elim t [ true ↦ some (h (x .content)) | false ↦ contentIn (map (mapBlock h) xs) b ]) (mapOption h (elim t [ true ↦ some (x .content) | false ↦ contentIn xs b ]))
-      go ih true = refl
-      go ih false = ih
-
-  contentOf-map : (rs : List (Row D)) (b : ℕ) → contentOf (map (mapRow h) rs) b ≡ mapOption h (contentOf rs b)
-  unfolding contentOf
-  contentOf-map [] b = refl
-  contentOf-map (r ∷ rs) b = rw (contentIn-map (r .blocks) b, contentOf) (go (contentOf-map rs b) (contentIn (r .blocks) b))
-    where
-      go : contentOf (map (mapRow h) rs) b ≡ mapOption h (contentOf rs b) → (o : Option D)
-          → _≡_ {A = Option E} (elim (mapOption h o) [ none ↦ contentOf (map (mapRow h) rs) b | some x ↦ some x ]) (mapOption h (elim o [ none ↦ contentOf rs b | some x ↦ some x ]))
-      go ih none = ih
-      go ih (some x) = refl
-
-  nums-map : (xs : List (Block D)) → map (λ x. x .num) (map (mapBlock h) xs) ≡ map (λ x. x .num) xs
-  nums-map [] = refl
-  nums-map (x ∷ xs) = rw (nums-map xs)
-
-  blocksOf-map : (rs : List (Row D)) (l : ℕ) → blocksOf (map (mapRow h) rs) l ≡ blocksOf rs l
-  unfolding blocksOf
-  blocksOf-map [] l = refl
-  blocksOf-map (r ∷ rs) l = λ i. elim (eqb (r .num) l) [ true ↦ nums-map (r .blocks) i | false ↦ blocksOf-map rs l i ]
-
-  pub nextAfter-map : (rs : List (Row D)) (l p : ℕ) → nextAfter (map (mapRow h) rs) l p ≡ nextAfter rs l p
-  unfolding nextAfter
-  nextAfter-map rs l p = rw (blocksOf-map rs l)
-
-  pub listNums-map : (rs : List (Row D)) → listNums (map (mapRow h) rs) ≡ listNums rs
-  unfolding listNums
-  listNums-map [] = refl
-  listNums-map (r ∷ rs) = ap {B = List ℕ} (λ ns. r .num ∷ ns) (listNums-map rs)
 
 -- A state that tables show.
 module _ (d : Disk) (t : Tables) (s : State Content) (k : Located d t s) where

@@ -5,7 +5,6 @@ use super::journal::enter_journal;
 use super::units::is_open;
 use disk::answer::Refusal;
 use disk::record::Record;
-ghost use Prim.Native.Nat.{_<_};
 ghost use Rattle.lists.specs.Tables.{tables};
 ghost use Rattle.disk.specs.Disk.{disk};
 ghost use Rattle.inspect.specs.Inspect.{Looks};

@@ -3,7 +3,6 @@ use disk::record::Record;
 use log::feed::Fed;
 use log::feed::feed;
 use log::legal::is_legal;
-ghost use mathlib.Core.Path.{_≡_};
 ghost use Prim.Native.Nat.{_*_, _≤_, _<_};
 ghost use Rattle.lists.specs.Tables.{tables};
 ghost use Rattle.log.specs.Feed.{lent};

@@ -9,23 +9,18 @@ use native.Mathlib.Omega.{arith}
 use native.Mathlib.Numerals.{add-one}
 use native.Mathlib.Decide.{decLt}
 use lib.Dec.{eqb}
-use lib.ListN.{length, getD, take, List·getD-eq-default}
+use lib.ListN.{length, getD, take}
 use lib.Seq.{take-all}
 use Rattle.lists.specs.Basic.{joined}
 use Rattle.lists.specs.State.{Block, Row, placed, onList, onRow, onBlocksOf}
 use Rattle.lists.specs.Lookup.{blocksOf, contentIn, contentOf, nextIn, nextAfter}
-use Rattle.lists.specs.Tables.{Tables, Shows, Away}
+use Rattle.lists.specs.Tables.{Tables, Shows}
 use Rattle.lists.proofs.Basic.{either, or-both, or-right, eqb-same, eqb-false}
-use Rattle.lists.proofs.Runs.{blocks-apart, blocks-few, blocks-run}
+use Rattle.lists.proofs.Runs.{away-at, some-within, blocks-apart, blocks-few, blocks-run}
 use Rattle.text.specs.Written.{Puts}
 use Rattle.text.proofs.Writing.{puts-none, puts-more}
 use Rattle.listing.specs.Listing.{numbers}
 use Rattle.listing.proofs.Lines.{numbers-take}
-
-some-at : (xs : List ℕ) (i : ℕ) → Away 0 xs → i < length xs → getD xs i 0 ≢ 0
-some-at [] i a h = absurd (omega arith)
-some-at (x ∷ xs) zero a h = a .0
-some-at (x ∷ xs) (suc i) a h = some-at xs i (a .1) (omega arith)
 
 -- the blocks of list l are on list l
 row-on : (xs : List (Block ℕ)) (i : ℕ) → i < length (map (λ x. x .num) xs) → onBlocksOf (getD (map (λ x. x .num) xs) i 0) xs ≡ true
@@ -52,17 +47,10 @@ putting-none out at rs l block e = record { puts = puts-none out at; next = e }
 
 module _ (t : Tables) (rs : List (Row ℕ)) (s : Shows t rs) (l : ℕ) {out₀ : List ℕ} {at i : ℕ} {out : List ℕ} {position block : ℕ}
     (p : Putting out₀ at rs l i out position block) where
-  inside : block ≢ 0 → i < length (blocksOf rs l)
-  inside n = go (decLt i (length (blocksOf rs l)))
-    where
-      go : Dec (i < length (blocksOf rs l)) → i < length (blocksOf rs l)
-      go (yes k) = k
-      go (no k) = absurd (n (p .next ∙ List·getD-eq-default (blocksOf rs l) 0 {n = i} (omega arith)))
-
   pub putting-more : {out′ : List ℕ} {position′ block′ : ℕ} → block ≢ 0 → Puts out position (numbers (block ∷ [])) out′ position′
       → (eqb block 0 || onList l block rs ≡ true → block′ ≡ nextAfter rs l block) → Putting out₀ at rs l (i + 1) out′ position′ block′
   putting-more n q f =
-      let k = inside n in
+      let k = some-within (blocksOf rs l) i (λ e. n (p .next ∙ e)) in
       let on : eqb block 0 || onList l block rs ≡ true = rw (eqb-false block 0 n, p .next) (blocks-on l rs i k) in
       record {
         puts = rw (add-one i, numbers-take (blocksOf rs l) i k, ← p .next) (puts-more (p .puts) q);
@@ -74,7 +62,7 @@ module _ (t : Tables) (rs : List (Row ℕ)) (s : Shows t rs) (l : ℕ) {out₀ :
   putting-end e = go (decLt i (length (blocksOf rs l)))
     where
       go : Dec (i < length (blocksOf rs l)) → Puts out₀ at (numbers (blocksOf rs l)) out position
-      go (yes k) = absurd (some-at (blocksOf rs l) i (blocks-apart t rs s l .0) k (sym (p .next) ∙ e))
+      go (yes k) = absurd (away-at 0 (blocksOf rs l) i (blocks-apart t rs s l .0) k (sym e ∙ p .next))
       go (no k) = rw (take-all i (blocksOf rs l) (omega arith)) at (p .puts)
 
   pub putting-full : 64 ≤ i → Puts out₀ at (numbers (blocksOf rs l)) out position

@@ -10,7 +10,7 @@ use lib.Dec.{eqb}
 use Rattle.lists.specs.Basic.{guard, bind, orElse, keep}
 use Rattle.lists.specs.Change.{Change, takeList, putFirst, putAfter, write, delBlock, delList, mapChange, carriedBy}
 use Rattle.lists.specs.State.{Block, Row, State, block, row, state, isBlockNum, isRow, onRow, isRowWith, taken, placed, onList, applies, insertAfter, onBlocks, at, put, otherBlock, otherRow, changed, apply, applyAll, overlay, mapBlock, mapRow, mapState}
-use Rattle.lists.specs.Lookup.{contentIn, contentOf, blocksOf}
+use Rattle.lists.specs.Lookup.{contentIn, contentOf, blocksOf, nextAfter, listNums}
 use Rattle.lists.proofs.Basic.{either, cond-map, any-map, keep-map}
 
 abbrev pub mapOption : {A B : Type 0} → (A → B) → Option A → Option B
@@ -129,6 +129,15 @@ module _ {D E : Type 0} (h : D → E) where
       (λ (e : eqb (r .num) l ≡ true). rw (e, blocksOf) (nums-map (r .blocks)))
       (λ (e : eqb (r .num) l ≡ false). rw (e, blocksOf) (blocksOf-map rs l))
       (either (eqb (r .num) l))
+
+  pub nextAfter-map : (rs : List (Row D)) (l p : ℕ) → nextAfter (map (mapRow h) rs) l p ≡ nextAfter rs l p
+  unfolding nextAfter
+  nextAfter-map rs l p = rw (blocksOf-map rs l)
+
+  pub listNums-map : (rs : List (Row D)) → listNums (map (mapRow h) rs) ≡ listNums rs
+  unfolding listNums
+  listNums-map [] = refl
+  listNums-map (r ∷ rs) = ap {B = List ℕ} (λ ns. r .num ∷ ns) (listNums-map rs)
 
   contentIn-map : (xs : List (Block D)) (b : ℕ) → contentIn (map (mapBlock h) xs) b ≡ mapOption h (contentIn xs b)
   unfolding contentIn

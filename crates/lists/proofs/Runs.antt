@@ -14,10 +14,16 @@ use Rattle.lists.proofs.Basic.{either, eqb-same, eqb-false}
 use Rattle.lists.proofs.Chain.{away-right, apart-left, apart-right}
 use Rattle.lists.proofs.Freeing.{AllOf, all-times}
 
-away-at : (x : ℕ) (xs : List ℕ) (i : ℕ) → Away x xs → i < length xs → x ≢ getD xs i 0
+-- Numbers by their places in a list, where 0 stands for none.
+pub away-at : (x : ℕ) (xs : List ℕ) (i : ℕ) → Away x xs → i < length xs → x ≢ getD xs i 0
 away-at x [] i a h e = omega arith
 away-at x (y ∷ xs) zero a h e = a .0 (sym e)
 away-at x (y ∷ xs) (suc i) a h e = away-at x xs i (a .1) (omega arith) e
+
+pub some-within : (xs : List ℕ) (i : ℕ) → getD xs i 0 ≢ 0 → i < length xs
+some-within [] i n = absurd (n refl)
+some-within (x ∷ xs) zero n = omega arith
+some-within (x ∷ xs) (suc i) n = let l = some-within xs i n in omega arith
 
 pub nextIn-at : (xs : List ℕ) (i : ℕ) → Apart xs → i < length xs → nextIn (getD xs i 0) xs ≡ getD xs (suc i) 0
 unfolding nextIn

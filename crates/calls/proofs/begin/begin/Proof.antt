@@ -11,7 +11,8 @@ use Rattle.disk.specs.Call.{destination}
 use Rattle.disk.specs.Questions.{questions, refusal}
 use Rattle.disk.specs.Perform.{opening}
 use Rattle.disk.specs.Answers.{replyAnswer}
-use Rattle.calls.proofs.Checking.{check-refused, begin-outside, begin-twice, begin-opens}
+use Rattle.calls.proofs.Refusing.{checked, first-refused}
+use Rattle.calls.proofs.Checking.{begin-outside, begin-twice, begin-opens}
 use Rattle.calls.proofs.begin.begin.Tie as tie
 
 check-requires : tie.Need-check-requires
@@ -24,7 +25,8 @@ returns : tie.Need-returns
 unfolding refusal questions destination replyAnswer
 returns c =
     let a = c .before .before .before .before .before .before .before .args in
-    check-refused (Call.begin (a .u)) (disk (a .card .now) (a .queue-data .now) (a .journal-data .now) (a .rec)) _ _ tt refl (rw (c .before .x .given .1) at (c .before .before .before .check .ensures))
+    let d = (disk (a .card .now) (a .queue-data .now) (a .journal-data .now) (a .rec)) in
+    first-refused (Call.begin (a .u)) d _ (checked d) _ tt refl (rw (c .before .x .given .1) at (c .before .before .before .check .ensures))
 
 enum-told : tie.Need-enum-told
 enum-told c = search needs

@@ -7,7 +7,8 @@ use Rattle.disk.specs.Disk.{disk}
 use Rattle.disk.specs.Call.{conflictCount, destination}
 use Rattle.disk.specs.Questions.{questions, refusal}
 use Rattle.disk.specs.Answers.{numberAnswer}
-use Rattle.calls.proofs.Checking.{check-refused, conflicts-given}
+use Rattle.calls.proofs.Refusing.{checked, first-refused}
+use Rattle.calls.proofs.Checking.{conflicts-given}
 use Rattle.calls.proofs.conflicts.conflicts.Tie as tie
 
 check-requires : tie.Need-check-requires
@@ -26,7 +27,8 @@ returns : tie.Need-returns
 unfolding refusal questions destination numberAnswer
 returns c =
     let a = c .before .before .before .before .before .before .before .args in
-    check-refused conflictCount (disk (a .card .now) (a .queue-data .now) (a .journal-data .now) (a .rec)) _ [] tt refl (rw (c .before .x .given .1) at (c .before .before .before .check .ensures))
+    let d = (disk (a .card .now) (a .queue-data .now) (a .journal-data .now) (a .rec)) in
+    first-refused conflictCount d _ (checked d) [] tt refl (rw (c .before .x .given .1) at (c .before .before .before .check .ensures))
 
 returns-2 : tie.Need-returns-2
 unfolding numberAnswer

@@ -1,5 +1,4 @@
 -- What a flush makes of its head by the stores that are left of it, or by those that the allowance allows. Assumes nothing.
-use Prim.Native.Nat.{_-_}
 use native.Mathlib.Omega.{arith}
 use Rattle.calls.proofs.Storing.{storable, heads-full, heads-spent, heads-drained}
 use borrow.Author.Needs.{needs}

@@ -12,10 +12,10 @@ use Rattle.disk.specs.declared.answer.FlushReply.the-variants.{Refused}
 use Rattle.disk.specs.Disk.{Disk, disk}
 use Rattle.disk.specs.Sound.{lengthsRight, recordSound}
 use Rattle.disk.specs.Call.{flush, destination}
-use Rattle.disk.specs.Questions.{questions, refusal, firstNo, ask}
+use Rattle.disk.specs.Questions.{questions, refusal, firstNo}
 use Rattle.disk.specs.Answers.{number, flushAnswer}
 use Rattle.calls.specs.Performs.{Performs}
-use Rattle.calls.proofs.Refusing.{ask-yes, ask-no, usual-performs-refused, performs-accepted}
+use Rattle.calls.proofs.Refusing.{ask-yes, ask-no, last-yes, sound-yes, usual-performs-refused, performs-accepted}
 use Rattle.calls.proofs.Draining.{flushable}
 use Rattle.calls.proofs.flush.flush.Statement.{statement}
 use Rattle.calls.proofs.flush.flush.Tie as tie
@@ -35,11 +35,11 @@ module _ (a : ℕ) (d : Disk) where
 
   outside : lengthsRight d ≡ true → recordSound d ≡ true → 65535 < a → Performs (flush a) d d (flushAnswer (Refused OutOfRange)) []
   unfolding number
-  outside h s l = flush-refused OutOfRange (ask-yes 1 _ _ h ∙ ask-yes 3 _ _ s ∙ ask-no 5 _ [] (gt-false a 65535 l))
+  outside h s l = flush-refused OutOfRange (sound-yes d _ h s ∙ ask-no 5 _ [] (gt-false a 65535 l))
 
   inside : lengthsRight d ≡ true → recordSound d ≡ true → a ≤ 65535 → refusal (flush a) d ≡ 0
-  unfolding refusal questions firstNo ask
-  inside h s l = rw (h, s, le-true a 65535 l)
+  unfolding refusal questions
+  inside h s l = sound-yes d _ h s ∙ last-yes 5 _ (le-true a 65535 l)
 
 examine-requires : tie.Need-examine-requires
 examine-requires c κs = search needs

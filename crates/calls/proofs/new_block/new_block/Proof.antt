@@ -5,7 +5,8 @@ use Rattle.disk.specs.Disk.{disk}
 use Rattle.disk.specs.Call.{newBlock, destination}
 use Rattle.disk.specs.Questions.{questions, refusal}
 use Rattle.disk.specs.Answers.{numberAnswer}
-use Rattle.calls.proofs.Entering.{enter-refused}
+use Rattle.calls.proofs.Refusing.{first-refused}
+use Rattle.calls.proofs.Entering.{entering}
 use Rattle.calls.proofs.Putting.{stands-put, puts-performs}
 use borrow.Author.Needs.{needs}
 use Rattle.calls.proofs.new_block.new_block.Statement.{statement}
@@ -23,7 +24,7 @@ returns c =
     let l = c .before .before .before in
     let a = l .before .before .before .before .before .before .before .before .args in
     let d = disk (a .card .now) (a .queue-data .now) (a .journal-data .now) (a .rec) in
-    enter-refused true d (a .s) (newBlock (a .s) (a .l) (a .p)) _ _ tt refl (rw (c .before .x .given .1) at (l .enter .ensures))
+    first-refused (newBlock (a .s) (a .l) (a .p)) d _ (entering true d (a .s)) _ tt refl (rw (c .before .x .given .1) at (l .enter .ensures))
 
 enum-told : tie.Need-enum-told
 enum-told c = search needs

@@ -6,7 +6,8 @@ use Rattle.disk.specs.Call.{newList, destination}
 use Rattle.disk.specs.Questions.{questions, refusal}
 use Rattle.disk.specs.Answers.{numberAnswer}
 use Rattle.disk.proofs.Clauses.{right}
-use Rattle.calls.proofs.Entering.{enter-refused}
+use Rattle.calls.proofs.Refusing.{first-refused}
+use Rattle.calls.proofs.Entering.{entering}
 use Rattle.calls.proofs.Giving.{takes-performs}
 use borrow.Author.Needs.{needs}
 use Rattle.calls.proofs.new_list.new_list.Statement.{statement}
@@ -24,7 +25,7 @@ returns c =
     let l = c .before .before .before in
     let a = l .before .before .before .before .before .before .before .before .args in
     let d = disk (a .card .now) (a .queue-data .now) (a .journal-data .now) (a .rec) in
-    enter-refused true d (a .s) (newList (a .s)) _ _ tt refl (rw (c .before .x .given .1) at (l .enter .ensures))
+    first-refused (newList (a .s)) d _ (entering true d (a .s)) _ tt refl (rw (c .before .x .given .1) at (l .enter .ensures))
 
 enum-told : tie.Need-enum-told
 enum-told c = search needs

@@ -1,5 +1,4 @@
 -- Both tests are the definition's. Assumes nothing.
-use mathlib.Core.Path.{_∙_}
 use borrow.Author.Needs.{needs}
 use Rattle.calls.proofs.ranges.is_position.Statement.{statement}
 use Rattle.calls.proofs.ranges.is_position.Tie as tie

@@ -1,6 +1,6 @@
 -- By the number of stores done there is no such number before the closing one, or they are among the data's, or they are all of those and some of the
 -- entry's bytes. Assumes nothing.
-use mathlib.Core.Path.{_≡_, sym, ap, _∙_}
+use mathlib.Core.Path.{sym, ap, _∙_}
 use mathlib.Core.Bool.{false}
 use Prim.Native.Nat.{ℕ, _*_}
 use native.Mathlib.Omega.{arith}
