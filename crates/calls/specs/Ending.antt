@@ -52,6 +52,7 @@ QueuesUnit q j r u q′ r′ = (c : List ℕ) → (let d = disk c q j r in enque
 abbrev pub endQuestions : Bool → Record → ℕ → List (ℕ × Bool)
 endQuestions a r u = (12, a) ∷ (13, leb (r .len + (unitAt r u .len + 1)) 32) ∷ []
 
+-- refused by the first no, as the definition leaves a refused End; or accepted, queued and closed
 abbrev pub EndsAs : Bool → List ℕ → List ℕ → Record → ℕ → Reply → List ℕ → Record → Type 0
 EndsAs a q j r u (Refused x) q′ r′ = (firstNo (endQuestions a r u) ≡ number x) × ((c : List ℕ) → refused (end u) (number x) (disk c q j r) ≡ disk c q′ j r′)
 EndsAs a q j r u Accepted q′ r′ =

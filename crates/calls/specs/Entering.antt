@@ -23,6 +23,7 @@ pub record Stands (stream : Bool) (d : Disk) (s : ℕ) (t : Tables) : Type 0 whe
   pub opened : openFor stream d s ≡ true
   pub located : Located d t (committed d)
 
+-- refused by the first no, or entered
 abbrev pub Enters : Bool → Disk → ℕ → Looked → Tables → Type 0
 Enters stream d s (Refused x) t = firstNo ((1, lengthsRight d) ∷ (3, recordSound d) ∷ (4, openFor stream d s) ∷ []) ≡ number x
 Enters stream d s Seen t = Stands stream d s t

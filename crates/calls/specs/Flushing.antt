@@ -18,6 +18,7 @@ use Rattle.disk.specs.Answers.{flushAnswer}
 use Rattle.calls.specs.declared.drain.Headed.{Headed}
 use Rattle.calls.specs.declared.drain.Headed.the-variants.{Full, Spent, Drained}
 
+-- the log on card c ends at p, queue q is left, and k stores of its head are done
 abbrev pub flow : List ℕ → Place → List (Entry Content) → ℕ → Flow
 flow c p q k = record { card = c; place = p; queue = q; done = k }
 

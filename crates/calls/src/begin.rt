@@ -1,4 +1,4 @@
-// Begin.
+// Begin: a unit opened, its journal empty.
 use crate::check::check;
 use crate::replied::Replied;
 use disk::answer::Refusal;

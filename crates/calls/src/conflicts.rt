@@ -1,4 +1,4 @@
-// The conflict count.
+// The look-up of the conflict count.
 use crate::check::check;
 use disk::answer::NumberReply;
 use disk::record::Record;

@@ -1,4 +1,4 @@
-// DeleteBlock.
+// DeleteBlock: a block taken off its list.
 use crate::add::add;
 use crate::owners::look_owners;
 use crate::ranges::is_block;

@@ -1,4 +1,4 @@
-// DeleteList.
+// DeleteList: a list given up with its blocks.
 use crate::add::add;
 use crate::owners::look_owners;
 use crate::ranges::is_list;

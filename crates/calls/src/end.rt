@@ -1,4 +1,4 @@
-// End.
+// End: a unit closed, its journal queued whole or, at a conflict, dropped.
 use crate::enter::enter;
 use crate::replied::Replied;
 use disk::answer::Refusal;

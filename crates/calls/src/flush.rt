@@ -1,4 +1,4 @@
-// Flush.
+// Flush: the queue stored on the card, as far as the allowance and the card go.
 use crate::drain::drain;
 use crate::replied::FlushReplied;
 use disk::answer::FlushReply;

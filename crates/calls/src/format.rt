@@ -1,4 +1,4 @@
-// Formatting.
+// Formatting: the card becomes an empty log, the record a fresh one.
 use crate::replied::Replied;
 use disk::answer::Refusal;
 use disk::answer::Reply;

@@ -1,4 +1,4 @@
-// Mounting.
+// Mounting: the record becomes a fresh one, if the log is acceptable.
 use crate::replied::MountReplied;
 use disk::answer::MountReply;
 use disk::answer::Refusal;

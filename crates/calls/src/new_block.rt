@@ -1,4 +1,4 @@
-// NewBlock.
+// NewBlock: a free block put on a list, first or behind another.
 use crate::enter::enter;
 use crate::give::put_free;
 use crate::replied::NumberReplied;

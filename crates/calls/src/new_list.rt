@@ -1,4 +1,4 @@
-// NewList.
+// NewList: a free list taken.
 use crate::enter::enter;
 use crate::give::take_list;
 use crate::replied::NumberReplied;

@@ -1,4 +1,4 @@
-// ReadBlock.
+// ReadBlock: a block of a view copied to what the caller lends.
 use crate::ranges::is_block;
 use disk::answer::Refusal;
 use disk::answer::Reply;

@@ -1,4 +1,4 @@
-// Write.
+// Write: 256 bytes that a block is to hold, added on a stream.
 use crate::add::add;
 use crate::owners::look_owners;
 use crate::ranges::is_block;

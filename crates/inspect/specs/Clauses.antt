@@ -33,34 +33,42 @@ changeRight hs u c = legal (raw 0 (member c)) && all (λ b. eqb (getD hs (b - 1)
 abbrev pub changeIn : Unit → ℕ → Change ℕ
 changeIn x k = asChange (getD (x .journal) k noJournaled .entry)
 
+-- unit u of the record, x: its count, a journal only if it is open, and each change of it
 unfoldable pub unitRight : List ℕ → Unit → ℕ → Bool
 unitRight hs x u = each (leb (x .len) journalPlaces ∷ (x .opened || eqb (x .len) 0) ∷ all (changeRight hs u) (from (changeIn x) 0 (x .len)) ∷ [])
 
+-- all four
 unfoldable pub unitsRight : Record → Bool
 unitsRight r = all (λ u. unitRight (r .holder) (unitAt r u) u) (from (λ u. u) 1 unitCount)
 
+-- is u the number of an open unit?
 unfoldable pub openUnit : Record → ℕ → Bool
 openUnit r u = leb 1 u && leb u unitCount && unitAt r u .opened
 
--- block b over the lists rs of the committed state
+-- block b has no holder, or an open unit holds it and it is on no list of rs, those of the committed state
 unfoldable pub holderRight : {D : Type 0} → Record → List (Row D) → ℕ → Bool
 holderRight r rs b = eqb (holderOf r b) 0 || openUnit r (holderOf r b) && not (placed b rs)
 
+-- all 64
 unfoldable pub holdersRight : {D : Type 0} → Record → List (Row D) → Bool
 holdersRight r rs = all (holderRight r rs) (from (λ b. b) 1 64)
 
 -- What is promised where the queue is fed to the reader that lent tables keep.
 
+-- is every entry one that may stand in the queue?
 abbrev pub lawful : List (Entry ℕ) → Bool
 lawful es = all (λ e. legal (raw 0 e)) es
 
+-- entries es replayed from reader x: whether they are lawful and apply, and what the tables show then
 abbrev pub ReplayTo : List (Entry ℕ) → Reader ℕ → Bool → Tables → Type 0
 ReplayTo es x false t = lawful es && isSome (replay blank x es) ≡ false
 ReplayTo es x true t = (lawful es ≡ true) × (y : Reader ℕ) × (replay blank x es ≡ some y) × Shows t (y .state .lists)
 
+-- the queue, from whichever reader the lent tables keep
 abbrev pub Replays : Lent → ℕ → Record → Bool → Tables → Type 0
 Replays m run r b t = (x : Reader ℕ) → Kept m run x → ReplayTo (queueHere r) x b t
 
+-- the lists of the state that a replay led to, if it did
 abbrev pub rowsOf : Option (Reader ℕ) → List (Row ℕ)
 rowsOf none = []
 rowsOf (some x) = x .state .lists
@@ -71,9 +79,11 @@ settled c q r x =
     let o = replay blank x (queueHere r) in
     each (lawful (queueHere r) ∷ isSome o ∷ holdersRight r (rowsOf o) ∷ headStanding c (r .done) (queued (disk c q [] r)) ∷ [])
 
+-- the answer b to it, whichever reader the lent tables keep
 abbrev pub Settled : List ℕ → List ℕ → Lent → ℕ → Record → Bool → Type 0
 Settled c q m run r b = (x : Reader ℕ) → Kept m run x → b ≡ settled c q r x
 
+-- and if it is yes, the tables show the committed state
 pub record Settles (c q : List ℕ) (m : Lent) (run : ℕ) (r : Record) (b : Bool) (t : Tables) : Type 0 where
   pub answer : Settled c q m run r b
   pub shows : (x y : Reader ℕ) → Kept m run x → b ≡ true → replay blank x (queueHere r) ≡ some y → Shows t (y .state .lists)

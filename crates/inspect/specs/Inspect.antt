@@ -35,6 +35,7 @@ behindLog d =
     ∷ headStanding (d .card) (d .rec .done) (queued d)
     ∷ [])
 
+-- these hold, the tables showing state v and p being the place behind the log
 pub record Behind (v : ℕ) (d : Disk) (p : Place) (t : Tables) : Type 0 where
   pub sound : behindLog d ≡ true
   pub place : p ≡ tail (d .card)
@@ -46,6 +47,7 @@ ExaminesLog v d WrongLength t = ⊥
 ExaminesLog v d Unsound t = behindLog d ≡ false
 ExaminesLog v d (Sound p) t = Behind v d p t
 
+-- questions 1 and 3 whole
 abbrev pub Examines : ℕ → Disk → Examined → Tables → Type 0
 Examines v d WrongLength t = lengthsRight d ≡ false
 Examines v d Unsound t = (lengthsRight d ≡ true) × (recordSound d ≡ false)
@@ -55,12 +57,14 @@ Examines v d (Sound p) t = Accepted v d p t
 abbrev pub openAs : Bool → Disk → ℕ → Bool
 openAs looked d v = cond looked (viewOpen d v) (streamOpen d v)
 
+-- questions 1, 3 and 4 are answered yes, the tables showing view v
 pub record Sees (looked : Bool) (d : Disk) (v : ℕ) (t : Tables) : Type 0 where
   pub lengths : lengthsRight d ≡ true
   pub sound : recordSound d ≡ true
   pub opened : openAs looked d v ≡ true
   pub located : Located d t (view d v)
 
+-- refused by the first no, or seen
 abbrev pub Looks : Bool → Disk → ℕ → Looked → Tables → Type 0
 Looks looked d v (Refused x) t = firstNo ((1, lengthsRight d) ∷ (3, recordSound d) ∷ (4, openAs looked d v) ∷ []) ≡ number x
 Looks looked d v Seen t = Sees looked d v t
