@@ -1,7 +1,7 @@
 //! Cards with full segments.
 
-use second::limits::{ENTRY_BYTES, SEGMENT_BYTES, SLOTS};
-use second::log::{count_at, entries_at};
+use second::limits::{BLOCK_BYTES, ENTRY_BYTES, SEGMENTS, SEGMENT_BYTES, SLOTS};
+use second::log::{count_at, entries_at, slot_at};
 
 /// What the segments of a card are full of.
 #[derive(Clone, Copy, PartialEq, Eq)]
@@ -70,14 +70,47 @@ pub struct Card {
 
 /// A card whose segments are all full: of entry bytes, or of slots if it is one of writes.
 pub fn full(kind: Kind, segments: usize) -> Card {
+    let opening = vec![vec![TAKE, 1], vec![PUT_FIRST, 1, 1]];
+    let rounds = (0..).flat_map(|number| kind.round(number));
+    filled(opening.into_iter().chain(rounds), segments)
+}
+
+/// A card for the calls, with list 1 and block 1, which is written: all else is empty, or full of units but for the
+/// last entries, so that a flush has room.
+pub fn for_calls(is_full: bool) -> Card {
+    let opening = vec![vec![TAKE, 1], vec![PUT_FIRST, 1, 1], vec![WRITE, 1, 0]];
+    let rounds = (0..).flat_map(|number| Kind::Units.round(number));
+    let rounds = rounds.take(if is_full { usize::MAX } else { 0 });
+    let mut card = filled(opening.into_iter().chain(rounds), SEGMENTS);
+    for (at, byte) in card.bytes[slot_at(0, 0)..][..BLOCK_BYTES].iter_mut().enumerate() {
+        *byte = at as u8;
+    }
+    if is_full {
+        let tail = card.tail();
+        card.bytes[tail] -= ROOM;
+        card.entries -= usize::from(ROOM);
+    }
+    card
+}
+
+/// Entries taken from the end of a full card.
+const ROOM: u8 = 42;
+
+impl Card {
+    /// Where the count byte of the last segment in use stands.
+    pub fn tail(&self) -> usize {
+        let used = (0..self.ends.len()).filter(|&segment| self.bytes[count_at(segment)] > 0);
+        count_at(used.last().unwrap_or(0))
+    }
+}
+
+fn filled(coming: impl Iterator<Item = Vec<u8>>, segments: usize) -> Card {
     let mut card = Card {
         bytes: vec![0; segments * SEGMENT_BYTES],
         entries: 0,
         ends: Vec::new(),
     };
-    let opening = vec![vec![TAKE, 1], vec![PUT_FIRST, 1, 1]];
-    let rounds = (0..).flat_map(|number| kind.round(number));
-    let mut coming = opening.into_iter().chain(rounds).peekable();
+    let mut coming = coming.peekable();
     for segment in 0..segments {
         let mut slots = 0;
         let mut at = entries_at(segment);

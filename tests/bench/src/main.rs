@@ -1,11 +1,13 @@
 //! Times three ways over the summaries of full cards: the proved walk, the walk of the second implementation, and a
-//! plain sum of the bytes that both read.
+//! plain sum of the bytes that both read. Times the calls, proved and of the second implementation.
 //!
 //! `bench` prints the times. `bench --once WAY KIND SEGMENTS` goes one way once, for a tool that counts its
-//! instructions, and prints the number of entries.
+//! instructions, and prints the number of entries. `bench --calls WAY CALL CARD TIMES` repeats a call.
 
+mod calls;
 mod cards;
 
+use calls::{card_name, proved, second_calls, Call, Disk};
 use cards::{full, Card, Kind};
 use second::log::{count_at, segments, Log};
 use std::hint::black_box;
@@ -152,13 +154,32 @@ fn once(way: &str, kind: &str, size: &str) -> Option<()> {
     Some(())
 }
 
+fn repeat(way: &str, call: &str, card: &str, times: &str) -> Option<()> {
+    let call = Call::ALL.into_iter().find(|known| known.name() == call)?;
+    let is_full = [false, true].into_iter().find(|&is_full| card_name(is_full) == card)?;
+    let times = times.parse().ok()?;
+    let mut disk = Disk::new(is_full);
+    match way {
+        "proved" => proved(call, &mut disk, times),
+        "second" => second_calls(call, &mut disk, times),
+        _ => return None,
+    };
+    Some(())
+}
+
 fn main() {
     let words: Vec<String> = std::env::args().skip(1).collect();
     let words: Vec<&str> = words.iter().map(String::as_str).collect();
     match words[..] {
-        [] => times(),
+        [] => {
+            times();
+            println!();
+            calls::times();
+        }
         ["--once", way, kind, size] if once(way, kind, size).is_some() => (),
+        ["--calls", way, call, card, times] if repeat(way, call, card, times).is_some() => (),
         _ => {
+            eprintln!("bench [--calls proved|second CALL CARD TIMES]");
             eprintln!("bench [--once proved|second|sum lists|blocks|chains|writes|units SEGMENTS]");
             std::process::exit(2);
         }
