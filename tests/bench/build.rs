@@ -1,4 +1,4 @@
-//! Links the proved walk, which `rt staticlib bench` writes.
+//! Links the proved walk and calls, which `rt staticlib bench` writes.
 
 fn main() {
     let archive = concat!(env!("CARGO_MANIFEST_DIR"), "/../../target/staticlib");

@@ -5,11 +5,11 @@ use log::mount::mount;
 ghost use mathlib.Core.Path.{_≡_};
 ghost use Rattle.bench.specs.Accept.{acceptance};
 
-pub mod count;
+mod count;
 pub mod flushing;
 pub mod mounting;
 pub mod reading;
-pub mod start;
+mod start;
 pub mod unit;
 pub mod writing;
 

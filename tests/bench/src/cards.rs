@@ -99,8 +99,8 @@ const ROOM: u8 = 42;
 impl Card {
     /// Where the count byte of the last segment in use stands.
     pub fn tail(&self) -> usize {
-        let used = (0..self.ends.len()).filter(|&segment| self.bytes[count_at(segment)] > 0);
-        count_at(used.last().unwrap_or(0))
+        let last = (0..self.ends.len()).rfind(|&segment| self.bytes[count_at(segment)] > 0);
+        count_at(last.unwrap_or(0))
     }
 }
 
