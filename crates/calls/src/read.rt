@@ -9,6 +9,8 @@ use inspect::look::look;
 use lists::tables::is_placed;
 use lists::tables::location_of;
 use log::legal::both;
+use log::location::JOURNALS_AT;
+use log::location::QUEUE_AT;
 ghost use mathlib.Core.Path.{_≡_};
 ghost use Prim.Native.Nat.{_≤_};
 ghost use lib.ListN.{length};
@@ -21,10 +23,9 @@ ghost use Rattle.calls.specs.Performs.{Performs};
 
 const CONTENT: usize = 256;
 
-// The locations of the first places of the queue data and of the journal data; those between the blank's and them are the card's slots.
-const QUEUE_AT: usize = 1025;
+const QUEUE: usize = QUEUE_AT as usize;
 
-const JOURNALS_AT: usize = 1057;
+const JOURNALS: usize = JOURNALS_AT as usize;
 
 // Block b of view v goes to dest.
 // Questions: 1 lengths, 3 record, 4 view, 5 block and destination, 8 on a list.
@@ -83,12 +84,12 @@ fn copy_content(card: &[u8], queue_data: &[u8], journal_data: &[u8], location: u
         return;
     }
     let at = location as usize;
-    if at < QUEUE_AT {
+    if at < QUEUE {
         copy_slot(card, at - 1, dest);
-    } else if at < JOURNALS_AT {
-        copy_slot(queue_data, at - QUEUE_AT, dest);
+    } else if at < JOURNALS {
+        copy_slot(queue_data, at - QUEUE, dest);
     } else {
-        copy_slot(journal_data, at - JOURNALS_AT, dest);
+        copy_slot(journal_data, at - JOURNALS, dest);
     }
 }
 

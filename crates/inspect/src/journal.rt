@@ -2,6 +2,7 @@
 use disk::record::Unit;
 use lists::tables::act;
 use log::feed::fields_of;
+use log::location::JOURNALS_AT;
 ghost use mathlib.Core.Path.{_≡_};
 ghost use mathlib.Core.Bool.{true};
 ghost use Prim.Native.Nat.{_≤_};
@@ -9,9 +10,6 @@ ghost use Rattle.lists.specs.Basic.{all, from};
 ghost use Rattle.lists.specs.Tables.{tables};
 ghost use Rattle.log.specs.Entry.{legal, raw, member};
 ghost use Rattle.inspect.specs.Clauses.{Overlays, changeIn};
-
-// The location of the data at the journals' first place.
-const JOURNALS_AT: u16 = 1057;
 
 // Unit u's changes in order; one that does not apply is skipped. Did every one apply?
 pub fn enter_journal(

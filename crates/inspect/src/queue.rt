@@ -3,13 +3,11 @@ use disk::record::Record;
 use log::feed::Fed;
 use log::feed::feed;
 use log::legal::is_legal;
+use log::location::QUEUE_AT;
 ghost use Prim.Native.Nat.{_*_, _≤_, _<_};
 ghost use Rattle.lists.specs.Tables.{tables};
 ghost use Rattle.log.specs.Feed.{lent};
 ghost use Rattle.inspect.specs.Clauses.{Replays};
-
-// The location of the data at the queue's first place.
-const QUEUE_AT: u16 = 1025;
 
 // Is the queue acceptable behind the log? If so the tables show the committed state.
 pub fn enter_queue(

@@ -1,13 +1,11 @@
 -- One parsed entry: how it is read, and what a step says of the items of its segment.
 use mathlib.Core.Path.{_≡_, refl, sym, ap, _∙_}
-use mathlib.Core.Bool.{Bool, true, false, true≢false}
+use mathlib.Core.Bool.{Bool, true, false}
 use mathlib.Core.Option.{Option, none, some, Option·none-ne-some, Option·some-injective}
 use mathlib.Core.List.{List, _∷_, _++_}
-use Prim.Native.Nat.{ℕ, suc, _+_, _-_, _*_, _%_, _≤_, _<_}
+use Prim.Native.Nat.{ℕ, suc, _+_, _*_, _%_, _≤_}
 use native.Mathlib.Omega.{arith}
 use native.Mathlib.Nat.{add-zero}
-use lib.Bits.{bitAnd, and-mask}
-use lib.Dec.{leb}
 use lib.ListN.{length, set, length-append}
 use borrow.Author.Tests.{leb-true}
 use Rattle.lists.specs.Basic.{guard, bind}
@@ -16,11 +14,11 @@ use Rattle.lists.specs.Tables.{Tables, DidSome}
 use Rattle.lists.proofs.Basic.{bind-some, guard-some, eqb-true}
 use Rattle.log.specs.Entry.{Entry, plain, member, commit, mapEntry, carried, changeBytes, encode, decode, raw, entryLength, legal, asEntry}
 use Rattle.log.specs.Reader.{Reader, read}
-use Rattle.log.specs.Card.{part, usedBy, isNext, entryAt, Item, good, itemsOf, walk, fault}
+use Rattle.log.specs.Card.{usedBy, isNext, entryAt, Item, good, itemsOf, walk, fault}
 use Rattle.log.specs.Feed.{Lent, memberSet, fieldsOf, ReadTo, Commits}
 use Rattle.log.specs.Location.{cardLocation}
-use Rattle.log.specs.Parse.{byteAt, decodedAt}
-use Rattle.log.specs.Walk.{entered, runAfter, Reads, inTurn, stepIf, Enters, Steps, Went}
+use Rattle.log.specs.Found.{entered, bytesFrom, Stands}
+use Rattle.log.specs.Walk.{runAfter, Reads, stepIf, Enters, Steps, Went}
 use Rattle.log.specs.declared.walk.Cursor.{Cursor}
 use Rattle.log.specs.declared.walk.Step.{Step}
 use Rattle.log.specs.declared.walk.Step.the-variants.{Next, Stuck}
@@ -29,7 +27,7 @@ use Rattle.log.specs.declared.entry.LogEntry.the-variants.{Take, PutFirs
 use Rattle.log.proofs.Decode.{decode-complete}
 use Rattle.log.proofs.Naturality.{entryLength-map}
 use Rattle.log.proofs.Segment.{used-map}
-use Rattle.log.proofs.Parsing.{admitted, at-bad, at-cut, at-entry, legal-at, part-size}
+use Rattle.log.proofs.Parsing.{part-size}
 use Rattle.log.proofs.Feeding.{NoCommit, fieldsChange, ended, legal-ranged, read-now, read-later}
 
 -- A parsed entry, which is x, read.
@@ -50,38 +48,34 @@ reads-commit : (m : Lent) (run : ℕ) (e : LogEntry) (n d : ℕ) → e ≡ Commi
 unfolding asEntry mapEntry legal
 reads-commit m run e n d q b m′ w r k l = rw q (w r k (leb-true n 15 (rw q at l)))
 
--- Its slot compared too, k slots being used before it, j behind it.
+-- The step behind it, k slots being used before it, j behind it.
 module _ (m : Lent) (run : ℕ) (e x : LogEntry) (q : e ≡ x) (d a k : ℕ) where
-  enters-if : (t b : Bool) (m′ : Lent) (s : Step) (j : ℕ) → s ≡ stepIf b a j (runAfter t run) → inTurn x k ≡ true → j ≡ k + usedBy (carried (asEntry false x)) → Reads m run t e d b m′
-      → Enters m run t e d a k s m′
-  enters-if t true m′ s j g p u w = rw (g, u, q) (p, refl, rw q at w)
-  enters-if t false m′ s j g p u w = rw g (λ p′. w)
+  enters-if : (t b : Bool) (m′ : Lent) (s : Step) (j : ℕ) → s ≡ stepIf b a j (runAfter t run) → j ≡ k + usedBy (carried (asEntry false x)) → Reads m run t e d b m′ → Enters m run t e d a k s m′
+  enters-if t true m′ s j g u w = rw (g, u, q) (refl, rw q at w)
+  enters-if t false m′ s j g u w = rw g w
 
-  pub enters-now : (b : Bool) (u : Tables) (s : Step) (j : ℕ) → s ≡ stepIf b a j 0 → inTurn x k ≡ true → j ≡ k + usedBy (carried (asEntry false x)) → NoCommit x
-      → DidSome (fieldsChange x d) (m .tables) b u → Enters m run false e d a k s (ended m u)
-  enters-now b u s j g p l n w = enters-if false b (ended m u) s j g p l (reads-now m run e x q d b u n w)
+  pub enters-now : (b : Bool) (u : Tables) (s : Step) (j : ℕ) → s ≡ stepIf b a j 0 → j ≡ k + usedBy (carried (asEntry false x)) → NoCommit x → DidSome (fieldsChange x d) (m .tables) b u
+      → Enters m run false e d a k s (ended m u)
+  enters-now b u s j g l n w = enters-if false b (ended m u) s j g l (reads-now m run e x q d b u n w)
 
-  pub enters-later : (d′ : ℕ) (s : Step) (j : ℕ) → s ≡ stepIf true a j (run + 1) → inTurn x k ≡ true → j ≡ k + usedBy (carried (asEntry false x)) → NoCommit x
-      → entered true x ≡ some (asEntry true x) → fieldsChange x d′ ≡ fieldsChange x d
+  pub enters-later : (d′ : ℕ) (s : Step) (j : ℕ) → s ≡ stepIf true a j (run + 1) → j ≡ k + usedBy (carried (asEntry false x)) → NoCommit x → entered true x ≡ some (asEntry true x)
+      → fieldsChange x d′ ≡ fieldsChange x d
       → Enters m run true e d a k s
       (record {
         tables = m .tables;
         members = memberSet (m .members) run (fieldsOf x .kind) (fieldsOf x .block) (fieldsOf x .list) (fieldsOf x .predecessor);
         locations = set (m .locations) (run % 16) d′;
       })
-  enters-later d′ s j g p l n o v = enters-if true true _ s j g p l (reads-later m run e x q d d′ n o v)
+  enters-later d′ s j g l n o v = enters-if true true _ s j g l (reads-later m run e x q d d′ n o v)
 
-  -- a take or a commit with the mark, or a write from another slot
+  -- a take or a commit with the mark
   pub enters-never : (m′ : Lent) → entered true x ≡ none → Enters m run true e d a k Stuck m′
-  enters-never m′ p p′ r h l = rw (q, p) refl
-
-  pub enters-wrong : (t : Bool) (m′ : Lent) → inTurn x k ≡ false → Enters m run t e d a k Stuck m′
-  enters-wrong t m′ p p′ = absurd (true≢false (sym (rw q at p′) ∙ p))
+  enters-never m′ p r h l = rw (q, p) refl
 
 pub enters-commit : (m : Lent) (run : ℕ) (e : LogEntry) (n d a k : ℕ) (q : e ≡ Commit n) (b : Bool) (m′ : Lent) (s : Step) → s ≡ stepIf b a k 0 → Commits m run n b m′
     → Enters m run false e d a k s m′
-unfolding asEntry isNext carried usedBy
-enters-commit m run e n d a k q b m′ s g w = enters-if m run e (Commit n) q d a k false b m′ s k g refl (sym (add-zero k)) (reads-commit m run e n d q b m′ w)
+unfolding asEntry carried usedBy
+enters-commit m run e n d a k q b m′ s g w = enters-if m run e (Commit n) q d a k false b m′ s k g (sym (add-zero k)) (reads-commit m run e n d q b m′ w)
 
 -- The mark of a member changes nothing of what an entry carries.
 carried-mark : (e : LogEntry) (y : Entry ℕ) (t : Bool) → entered t e ≡ some y → carried y ≡ carried (asEntry false e)
@@ -111,21 +105,6 @@ place-next f k (member (write b s)) h = ap (λ (n : ℕ). member (write b (f n))
 place-next f k (member (delBlock b)) h = refl
 place-next f k (member (delList l)) h = refl
 place-next f k (commit n) h = refl
-
--- the slot of an entry with its mark
-admitted-wrong : (t : Bool) (e : LogEntry) (k : ℕ) → isNext k (carried (asEntry false e)) ≡ false → admitted t e k ≡ none
-admitted-wrong t e k h = go (entered t e) (λ y p. carried-mark e y t p)
-  where
-    go : (o : Option (Entry ℕ)) → ((y : Entry ℕ) → o ≡ some y → carried y ≡ carried (asEntry false e)) → bind o (λ y. guard (isNext k (carried y)) (some y)) ≡ none
-    go none f = refl
-    go (some y) f = rw (f y refl, h)
-
-admitted-right : (t : Bool) (e : LogEntry) (k : ℕ) → isNext k (carried (asEntry false e)) ≡ true → admitted t e k ≡ entered t e
-admitted-right t e k h = go (entered t e) (λ y p. carried-mark e y t p)
-  where
-    go : (o : Option (Entry ℕ)) → ((y : Entry ℕ) → o ≡ some y → carried y ≡ carried (asEntry false e)) → bind o (λ y. guard (isNext k (carried y)) (some y)) ≡ o
-    go none f = refl
-    go (some y) f = rw (f y refl, h)
 
 length-encode : (e : Entry ℕ) → length (encode e) ≡ entryLength e
 unfolding entryLength encode raw mapEntry mapChange changeBytes
@@ -171,93 +150,67 @@ size-read k bs y rest h =
     let w : z ≡ (y, rest) = Option·some-injective _ _ (guard-some (isNext k (carried (z .0))) (some z) (y, rest) q .1) in
     ap length (decode-complete bs (y, rest) (p ∙ ap some w) .0) ∙ length-append (encode y) rest
 
--- One entry of segment g, at the cursor: its map is b, and x and its length n are what the parser found.
+-- One entry of segment g, found at the cursor.
 abbrev pub cursor : ℕ → ℕ → ℕ → Cursor
 cursor a k run = record { at = a; slots = k; run = run }
 
-module _ (c : List ℕ) (g : ℕ) (cur : Cursor) (m m′ : Lent) (h : 4096 * g + 4096 ≤ length c) (b : ℕ) (q : b ≡ byteAt c (4096 * g + 4096) (cur .at)) (v : b < 256) where
-  stuck-at : entryAt (cur .slots) (part c (cur .at) (4096 * g + 4096)) ≡ none → Steps c g cur m Stuck m′
-  stuck-at p r k n i is = items-bad cardLocation g (cur .slots) n i (part c (cur .at) (4096 * g + 4096)) is r p
+module _ (c : List ℕ) (g : ℕ) (cur : Cursor) (m m′ : Lent) where
+  pub steps-bad : entryAt (cur .slots) (bytesFrom c g (cur .at)) ≡ none → Steps c g cur m Stuck m′
+  steps-bad p r k n i is = items-bad cardLocation g (cur .slots) n i (bytesFrom c g (cur .at)) is r p
 
-  pub steps-bad : none ≡ decodedAt c (cur .at) (4096 * g + 4096) (bitAnd b 127) → Steps c g cur m Stuck m′
-  steps-bad d = stuck-at (at-bad c (cur .at) (4096 * g + 4096) h b q v (cur .slots) (rw (and-mask b 7) at d))
+  module _ (h : 4096 * g + 4096 ≤ length c) (t : Bool) (x : LogEntry) (n : ℕ) (f : Stands c g (cur .at) (cur .slots) t x n) where
+    here-is : (o : Option (Entry ℕ)) → entered t x ≡ o → entryAt (cur .slots) (bytesFrom c g (cur .at)) ≡ bind o (λ y. some (y, bytesFrom c g n))
+    here-is o u = f .entry ∙ rw u
 
-  module _ (x : LogEntry) (n : ℕ) (d : _≡_ {A = Option (Entry ℕ × ℕ)} (some (asEntry false x, n)) (decodedAt c (cur .at) (4096 * g + 4096) (bitAnd b 127))) where
-    pub steps-cut : 4096 * g + 4096 - cur .at < n → Steps c g cur m Stuck m′
-    steps-cut w = stuck-at (at-cut c (cur .at) (4096 * g + 4096) h b q v (cur .slots) n x (rw (and-mask b 7) at d) w)
+    placed : (y : Entry ℕ) → entered t x ≡ some y → mapEntry (λ s. cardLocation g (cur .slots)) y ≡ mapEntry (cardLocation g) y
+    placed y u = place-next (cardLocation g) (cur .slots) y (rw (carried-mark x y t u) (f .turn))
 
-    module _ (w : n ≤ 4096 * g + 4096 - cur .at) where
-      here : entryAt (cur .slots) (part c (cur .at) (4096 * g + 4096))
-          ≡ bind (admitted (leb 128 b) x (cur .slots)) (λ y. some (y, part c (cur .at + n) (4096 * g + 4096)))
-      here = at-entry c (cur .at) (4096 * g + 4096) h b q v (cur .slots) n x (rw (and-mask b 7) at d) w
+    steps-refused : Reads m (cur .run) t x (cardLocation g (cur .slots)) false m′ → Steps c g cur m Stuck m′
+    steps-refused w r k j i is = go (entered t x) refl (w r k (f .ranged))
+      where
+        go : (o : Option (Entry ℕ)) → entered t x ≡ o → bind o (λ y. read 0 r (mapEntry (λ s. cardLocation g (cur .slots)) y)) ≡ none
+            → walk 0 r (itemsOf cardLocation g (suc j) i (cur .slots) (bytesFrom c g (cur .at)) ++ is) ≡ fault g i
+        go none u z = items-bad cardLocation g (cur .slots) j i (bytesFrom c g (cur .at)) is r (here-is none u)
+        go (some y) u z = items-stuck cardLocation g (cur .slots) j i (bytesFrom c g (cur .at)) is r y (bytesFrom c g n) (here-is (some y) u) (rw (placed y u) at z)
 
-      steps-wrong : isNext (cur .slots) (carried (asEntry false x)) ≡ false → Steps c g cur m Stuck m′
-      steps-wrong p = stuck-at (here ∙ rw (admitted-wrong (leb 128 b) x (cur .slots) p))
+    steps-next : Reads m (cur .run) t x (cardLocation g (cur .slots)) true m′
+        → Steps c g cur m (Next (cursor n (cur .slots + usedBy (carried (asEntry false x))) (runAfter t (cur .run)))) m′
+    steps-next w = record {
+      onward = f .onward;
+      until = f .until;
+      few = omega (arith, used-one (carried (asEntry false x)));
+      short = short t;
+      went = λ r k. go r (entered t x) refl (w r k (f .ranged));
+    }
+      where
+        short : (b : Bool) → runAfter b (cur .run) ≤ cur .run + 1
+        short true = omega arith
+        short false = omega arith
 
-      module _ (p : isNext (cur .slots) (carried (asEntry false x)) ≡ true) where
-        legal-here : legal (asEntry false x) ≡ true
-        legal-here = legal-at c (cur .at) (4096 * g + 4096) h b q v (cur .slots) n x (rw (and-mask b 7) at d)
+        size : (y : Entry ℕ) → _≡_ {A = Option (Entry ℕ × List ℕ)} (entryAt (cur .slots) (bytesFrom c g (cur .at))) (some (y, bytesFrom c g n)) → n ≡ cur .at + entryLength y
+        size y s =
+            let l = size-read (cur .slots) (bytesFrom c g (cur .at)) y (bytesFrom c g n) s in
+            let l₁ = part-size c (cur .at) (4096 * g + 4096) h in
+            let l₂ = part-size c n (4096 * g + 4096) h in
+            let l₃ = length-encode y in
+            omega (arith, f .onward, f .until)
 
-        here-is : (o : Option (Entry ℕ)) → entered (leb 128 b) x ≡ o
-            → entryAt (cur .slots) (part c (cur .at) (4096 * g + 4096)) ≡ bind o (λ y. some (y, part c (cur .at + n) (4096 * g + 4096)))
-        here-is o u = here ∙ rw (admitted-right (leb 128 b) x (cur .slots) p, u)
+        go : (r : Reader ℕ) (o : Option (Entry ℕ)) → entered t x ≡ o
+            → ReadTo (bind o (λ y. read 0 r (mapEntry (λ s. cardLocation g (cur .slots)) y))) true m′ (runAfter t (cur .run))
+            → Went c g cur r (cursor n (cur .slots + usedBy (carried (asEntry false x))) (runAfter t (cur .run))) m′
+        go r none u z = absurd (Option·none-ne-some _ (z .1))
+        go r (some y) u z =
+            let s = here-is (some y) u in
+            record {
+              entry = mapEntry (cardLocation g) y;
+              items = λ j i. items-good cardLocation g (cur .slots) j i (bytesFrom c g (cur .at)) y (bytesFrom c g n) s ∙ rw (carried-mark x y t u);
+              at = size y s ∙ ap (λ (j : ℕ). cur .at + j) (sym (entryLength-map (cardLocation g) y));
+              slots = ap (λ (j : ℕ). cur .slots + j) (ap usedBy (sym (carried-mark x y t u)) ∙ sym (used-map (cardLocation g) y));
+              reader = z .0;
+              reads = rw (placed y u) at (z .1);
+              kept = z .2;
+            }
 
-        next-slot : (y : Entry ℕ) → entered (leb 128 b) x ≡ some y → isNext (cur .slots) (carried y) ≡ true
-        next-slot y u = rw (carried-mark x y (leb 128 b) u) p
-
-        steps-refused : Reads m (cur .run) (leb 128 b) x (cardLocation g (cur .slots)) false m′ → Steps c g cur m Stuck m′
-        steps-refused f r k j i is = go (entered (leb 128 b) x) refl (f r k legal-here)
-          where
-            go : (o : Option (Entry ℕ)) → entered (leb 128 b) x ≡ o → bind o (λ y. read 0 r (mapEntry (λ s. cardLocation g (cur .slots)) y)) ≡ none
-                → walk 0 r (itemsOf cardLocation g (suc j) i (cur .slots) (part c (cur .at) (4096 * g + 4096)) ++ is) ≡ fault g i
-            go none u z = items-bad cardLocation g (cur .slots) j i (part c (cur .at) (4096 * g + 4096)) is r (here-is none u)
-            go (some y) u z =
-                items-stuck cardLocation g (cur .slots) j i (part c (cur .at) (4096 * g + 4096)) is r y (part c (cur .at + n) (4096 * g + 4096)) (here-is (some y) u)
-                (rw (place-next (cardLocation g) (cur .slots) y (next-slot y u)) at z)
-
-        steps-next : cur .at ≤ 4096 * g + 4096 → Reads m (cur .run) (leb 128 b) x (cardLocation g (cur .slots)) true m′
-            → Steps c g cur m (Next (cursor (cur .at + n) (cur .slots + usedBy (carried (asEntry false x))) (runAfter (leb 128 b) (cur .run)))) m′
-        steps-next a f = record {
-          onward = omega arith;
-          until = omega arith;
-          few = omega (arith, used-one (carried (asEntry false x)));
-          short = short (leb 128 b);
-          went = λ r k. go r (entered (leb 128 b) x) refl (f r k legal-here);
-        }
-          where
-            short : (t : Bool) → runAfter t (cur .run) ≤ cur .run + 1
-            short true = omega arith
-            short false = omega arith
-
-            size : (y : Entry ℕ)
-                → _≡_ {A = Option (Entry ℕ × List ℕ)} (entryAt (cur .slots) (part c (cur .at) (4096 * g + 4096))) (some (y, part c (cur .at + n) (4096 * g + 4096))) → n ≡ entryLength y
-            size y s =
-                let l = size-read (cur .slots) (part c (cur .at) (4096 * g + 4096)) y (part c (cur .at + n) (4096 * g + 4096)) s in
-                let l₁ = part-size c (cur .at) (4096 * g + 4096) h in
-                let l₂ = part-size c (cur .at + n) (4096 * g + 4096) h in
-                let l₃ = length-encode y in
-                omega arith
-
-            go : (r : Reader ℕ) (o : Option (Entry ℕ)) → entered (leb 128 b) x ≡ o
-                → ReadTo (bind o (λ y. read 0 r (mapEntry (λ s. cardLocation g (cur .slots)) y))) true m′ (runAfter (leb 128 b) (cur .run))
-                → Went c g cur r (cursor (cur .at + n) (cur .slots + usedBy (carried (asEntry false x))) (runAfter (leb 128 b) (cur .run))) m′
-            go r none u z = absurd (Option·none-ne-some _ (z .1))
-            go r (some y) u z =
-                let s = here-is (some y) u in
-                record {
-                  entry = mapEntry (cardLocation g) y;
-                  items = λ j i. items-good cardLocation g (cur .slots) j i (part c (cur .at) (4096 * g + 4096)) y (part c (cur .at + n) (4096 * g + 4096)) s ∙ rw (carried-mark x y (leb 128 b) u);
-                  at = ap (λ (j : ℕ). cur .at + j) (size y s ∙ sym (entryLength-map (cardLocation g) y));
-                  slots = ap (λ (j : ℕ). cur .slots + j) (ap usedBy (sym (carried-mark x y (leb 128 b) u)) ∙ sym (used-map (cardLocation g) y));
-                  reader = z .0;
-                  reads = rw (place-next (cardLocation g) (cur .slots) y (next-slot y u)) at (z .1);
-                  kept = z .2;
-                }
-
-      pub steps-entered : (s : Step) → cur .at ≤ 4096 * g + 4096 → Enters m (cur .run) (leb 128 b) x (cardLocation g (cur .slots)) (cur .at + n) (cur .slots) s m′ → Steps c g cur m s m′
-      steps-entered Stuck l f = go (inTurn x (cur .slots)) refl
-        where
-          go : (t : Bool) → inTurn x (cur .slots) ≡ t → Steps c g cur m Stuck m′
-          go true p = steps-refused p (f p)
-          go false p = steps-wrong p
-      steps-entered (Next next) l f = rw (f .1) (steps-next (f .0) l (f .2))
+    pub steps-entered : (s : Step) → Enters m (cur .run) t x (cardLocation g (cur .slots)) n (cur .slots) s m′ → Steps c g cur m s m′
+    steps-entered Stuck w = steps-refused w
+    steps-entered (Next next) w = rw (w .0) (steps-next (w .1))

@@ -14,6 +14,7 @@ pub mod Flows
 pub mod EntryBytes
 pub mod LegalEntry
 pub mod CardLength
+pub mod Held
 pub mod Parsing
 pub mod Within
 pub mod Sequence

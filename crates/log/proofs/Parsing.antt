@@ -1,74 +1,111 @@
--- What a map says, kind by kind: the entry of its fields if they are in range, and how long it is; and what the mark of a member adds.
+-- What a map says, kind by kind: the entry of its fields if they are in range, and the place behind it; and what the mark of a member adds.
 use mathlib.Core.Path.{_≡_, refl, sym, ap, _∙_}
 use mathlib.Core.Logic.{_≢_}
 use mathlib.Core.Bool.{Bool, true, false, _&&_, cond, and-true, and-false}
-use mathlib.Core.Option.{Option, none, some, Option·none-ne-some, Option·some-injective}
+use mathlib.Core.Option.{Option, none, some, Option·some-injective}
 use mathlib.Core.List.{List}
-use Prim.Native.Nat.{ℕ, _+_, _-_, _%_, _≤_, _<_}
+use Prim.Native.Nat.{ℕ, _+_, _-_, _*_, _%_, _≤_, _<_}
 use native.Mathlib.Omega.{arith}
 use native.Mathlib.Nat.{add-zero}
+use lib.Bits.{bitAnd, and-mask}
 use lib.Dec.{eqb, leb}
 use lib.ListN.{length, getD, take, length-drop, length-take}
 use lib.Seq.{getD-drop, drop-drop}
 use borrow.Author.Tests.{ne-eqb, lt-leb, le-leb, leb-true, leb-false}
 use Rattle.lists.specs.Basic.{guard, bind, all, from}
-use Rattle.lists.specs.Change.{Change}
+use Rattle.lists.specs.Change.{Change, carriedBy}
 use Rattle.lists.proofs.Basic.{bind-bind, bind-ext, bind-some, guard-some, eqb-true, all-from}
 use Rattle.log.specs.Entry.{Entry, plain, member, commit, hasMember, asEntry, changeOf, entryOf, checked, legal, legalChange, isBlock, isList, isSlot, isCount, sizeOf, decode, carried}
 use Rattle.log.specs.Card.{part, isNext, entryAt}
 use Rattle.log.specs.Parse.{byteAt, decodedAt}
-use Rattle.log.specs.Walk.{entered}
+use Rattle.log.specs.Found.{entered, InSegment, bytesFrom, Stands}
 use Rattle.log.specs.declared.entry.LogEntry.{LogEntry}
 use Rattle.log.specs.declared.entry.LogEntry.the-variants.{Take, PutFirst, PutAfter, Write, DeleteBlock, DeleteList, Commit}
 
--- an entry in range and its length
+-- nothing asked of nothing; an entry of which nothing is asked
+guard-none : {A : Type 0} (t : Bool) → _≡_ {A = Option A} none (guard t none)
+guard-none true = refl
+guard-none false = refl
+
+bind-alone : {A : Type 0} (o : Option A) → o ≡ bind o (λ x. some x)
+bind-alone none = refl
+bind-alone (some x) = refl
+
+-- an entry in range and the place behind it
 abbrev inRange : Bool → LogEntry → ℕ → Option (Entry ℕ × ℕ)
 inRange t x n = guard t (some (asEntry false x, n))
 
-in-range : (x : Entry ℕ) (t : Bool) (n : ℕ) → guard {A = Entry ℕ × ℕ} t (some (x, n)) ≡ bind (guard t (some x)) (λ y. some (y, n))
-in-range x true n = refl
-in-range x false n = refl
+in-range : (k : ℕ) (x : Entry ℕ) (t u : Bool) (n : ℕ) → isNext k (carried x) ≡ u
+    → guard {A = Entry ℕ × ℕ} (t && u) (some (x, n)) ≡ bind (guard t (some x)) (λ y. guard (isNext k (carried y)) (some (y, n)))
+in-range k x true u n h = rw h
+in-range k x false u n h = refl
 
-module _ (c : List ℕ) (a e : ℕ) (t : Bool) (n : ℕ) where
-  pub parsed-take : (l : ℕ) → l ≡ byteAt c e (a + 1) → t ≡ isList l → n ≡ sizeOf 2 → inRange t (Take l) n ≡ decodedAt c a e 2
-  unfolding decodedAt entryOf changeOf checked legal legalChange asEntry
-  parsed-take l h1 q s = rw (q, s, ← h1) (in-range (asEntry false (Take l)) (isList l) 2)
+-- without a slot
+in-turn : (k : ℕ) (x : Entry ℕ) (t : Bool) (n : ℕ) → isNext k (carried x) ≡ true
+    → guard {A = Entry ℕ × ℕ} t (some (x, n)) ≡ bind (guard t (some x)) (λ y. guard (isNext k (carried y)) (some (y, n)))
+in-turn k x t n h = rw and-true at (in-range k x t true n h)
 
-  pub parsed-put-first : (b l : ℕ) → b ≡ byteAt c e (a + 1) → l ≡ byteAt c e (a + 2) → t ≡ (isBlock b && isList l) → n ≡ sizeOf 3 → inRange t (PutFirst b l) n ≡ decodedAt c a e 3
-  unfolding decodedAt entryOf changeOf checked legal legalChange asEntry
-  parsed-put-first b l h1 h2 q s = rw (q, s, ← h1, ← h2) (in-range (asEntry false (PutFirst b l)) (isBlock b && isList l) 3)
+-- byte j of an entry that ends before e
+pub field-before : (a e n j : ℕ) → leb n (e - a) ≡ true → j < n → a + j < e
+field-before a e n j w h = omega (arith, leb-true n (e - a) w)
 
-  pub parsed-put-after : (b l p : ℕ) → b ≡ byteAt c e (a + 1) → l ≡ byteAt c e (a + 2) → p ≡ byteAt c e (a + 3) → t ≡ (isBlock b && isList l && isBlock p) → n ≡ sizeOf 7 → inRange t (PutAfter b l p) n ≡ decodedAt c a e 7
-  unfolding decodedAt entryOf changeOf checked legal legalChange asEntry
-  parsed-put-after b l p h1 h2 h3 q s = rw (q, s, ← h1, ← h2, ← h3) (in-range (asEntry false (PutAfter b l p)) (isBlock b && isList l && isBlock p) 4)
+-- an entry that does not
+pub parsed-cut : (c : List ℕ) (a e k m : ℕ) → leb (sizeOf m) (e - a) ≡ false → none ≡ decodedAt c a e k m
+unfolding decodedAt
+parsed-cut c a e k m h = rw h
 
-  pub parsed-write : (b s : ℕ) → b ≡ byteAt c e (a + 1) → s ≡ byteAt c e (a + 2) → t ≡ (isBlock b && isSlot s) → n ≡ sizeOf 9 → inRange t (Write b s) n ≡ decodedAt c a e 9
-  unfolding decodedAt entryOf changeOf checked legal legalChange asEntry
-  parsed-write b s h1 h2 q r = rw (q, r, ← h1, ← h2) (in-range (asEntry false (Write b s)) (isBlock b && isSlot s) 3)
+-- one that does: its fields, whether they are in range, and its length
+module _ (c : List ℕ) (a e k : ℕ) (t : Bool) (n : ℕ) where
+  pub parsed-take : (l : ℕ) → leb (sizeOf 2) (e - a) ≡ true → l ≡ byteAt c e (a + 1) → t ≡ isList l → n ≡ sizeOf 2
+      → inRange t (Take l) (a + n) ≡ decodedAt c a e k 2
+  unfolding decodedAt entryOf changeOf checked legal legalChange asEntry isNext carried carriedBy
+  parsed-take l w h1 q z = rw (w, q, z, ← h1) (in-turn k (asEntry false (Take l)) (isList l) (a + 2) refl)
 
-  pub parsed-delete-block : (b : ℕ) → b ≡ byteAt c e (a + 1) → t ≡ isBlock b → n ≡ sizeOf 33 → inRange t (DeleteBlock b) n ≡ decodedAt c a e 33
-  unfolding decodedAt entryOf changeOf checked legal legalChange asEntry
-  parsed-delete-block b h1 q s = rw (q, s, ← h1) (in-range (asEntry false (DeleteBlock b)) (isBlock b) 2)
+  pub parsed-put-first : (b l : ℕ) → leb (sizeOf 3) (e - a) ≡ true → b ≡ byteAt c e (a + 1) → l ≡ byteAt c e (a + 2) → t ≡ (isBlock b && isList l) → n ≡ sizeOf 3
+      → inRange t (PutFirst b l) (a + n) ≡ decodedAt c a e k 3
+  unfolding decodedAt entryOf changeOf checked legal legalChange asEntry isNext carried carriedBy
+  parsed-put-first b l w h1 h2 q z = rw (w, q, z, ← h1, ← h2) (in-turn k (asEntry false (PutFirst b l)) (isBlock b && isList l) (a + 3) refl)
 
-  pub parsed-delete-list : (l : ℕ) → l ≡ byteAt c e (a + 1) → t ≡ isList l → n ≡ sizeOf 34 → inRange t (DeleteList l) n ≡ decodedAt c a e 34
-  unfolding decodedAt entryOf changeOf checked legal legalChange asEntry
-  parsed-delete-list l h1 q s = rw (q, s, ← h1) (in-range (asEntry false (DeleteList l)) (isList l) 2)
+  pub parsed-put-after : (b l p : ℕ) → leb (sizeOf 7) (e - a) ≡ true → b ≡ byteAt c e (a + 1) → l ≡ byteAt c e (a + 2) → p ≡ byteAt c e (a + 3) → t ≡ (isBlock b && isList l && isBlock p) → n ≡ sizeOf 7
+      → inRange t (PutAfter b l p) (a + n) ≡ decodedAt c a e k 7
+  unfolding decodedAt entryOf changeOf checked legal legalChange asEntry isNext carried carriedBy
+  parsed-put-after b l p w h1 h2 h3 q z = rw (w, q, z, ← h1, ← h2, ← h3) (in-turn k (asEntry false (PutAfter b l p)) (isBlock b && isList l && isBlock p) (a + 4) refl)
 
-  pub parsed-commit : (m : ℕ) → m ≡ byteAt c e (a + 1) → t ≡ isCount m → n ≡ sizeOf 16 → inRange t (Commit m) n ≡ decodedAt c a e 16
-  unfolding decodedAt entryOf changeOf checked legal legalChange asEntry
-  parsed-commit m h1 q s = rw (q, s, ← h1) (in-range (asEntry false (Commit m)) (isCount m) 2)
+  pub parsed-write : (b s : ℕ) → leb (sizeOf 9) (e - a) ≡ true → b ≡ byteAt c e (a + 1) → s ≡ byteAt c e (a + 2) → t ≡ (isBlock b && isSlot s && eqb s k) → n ≡ sizeOf 9
+      → inRange t (Write b s) (a + n) ≡ decodedAt c a e k 9
+  unfolding decodedAt entryOf changeOf checked legal legalChange asEntry isNext carried carriedBy
+  parsed-write b s w h1 h2 q z = rw (w, q, z, ← h1, ← h2) (in-range k (asEntry false (Write b s)) (isBlock b && isSlot s) (eqb s k) (a + 3) refl)
+
+  pub parsed-delete-block : (b : ℕ) → leb (sizeOf 33) (e - a) ≡ true → b ≡ byteAt c e (a + 1) → t ≡ isBlock b → n ≡ sizeOf 33
+      → inRange t (DeleteBlock b) (a + n) ≡ decodedAt c a e k 33
+  unfolding decodedAt entryOf changeOf checked legal legalChange asEntry isNext carried carriedBy
+  parsed-delete-block b w h1 q z = rw (w, q, z, ← h1) (in-turn k (asEntry false (DeleteBlock b)) (isBlock b) (a + 2) refl)
+
+  pub parsed-delete-list : (l : ℕ) → leb (sizeOf 34) (e - a) ≡ true → l ≡ byteAt c e (a + 1) → t ≡ isList l → n ≡ sizeOf 34
+      → inRange t (DeleteList l) (a + n) ≡ decodedAt c a e k 34
+  unfolding decodedAt entryOf changeOf checked legal legalChange asEntry isNext carried carriedBy
+  parsed-delete-list l w h1 q z = rw (w, q, z, ← h1) (in-turn k (asEntry false (DeleteList l)) (isList l) (a + 2) refl)
+
+  pub parsed-commit : (m : ℕ) → leb (sizeOf 16) (e - a) ≡ true → m ≡ byteAt c e (a + 1) → t ≡ isCount m → n ≡ sizeOf 16
+      → inRange t (Commit m) (a + n) ≡ decodedAt c a e k 16
+  unfolding decodedAt entryOf changeOf checked legal legalChange asEntry isNext carried carriedBy
+  parsed-commit m w h1 q z = rw (w, q, z, ← h1) (in-turn k (asEntry false (Commit m)) (isCount m) (a + 2) refl)
 
 -- a map of no kind
-pub parsed-none : (c : List ℕ) (a e k : ℕ) → k < 128 → k ≢ 2 → k ≢ 3 → k ≢ 7 → k ≢ 9 → k ≢ 33 → k ≢ 34 → k ≢ 16 → none ≡ decodedAt c a e k
+pub parsed-none : (c : List ℕ) (a e k m : ℕ) → m < 128 → m ≢ 2 → m ≢ 3 → m ≢ 7 → m ≢ 9 → m ≢ 33 → m ≢ 34 → m ≢ 16 → none ≡ decodedAt c a e k m
 unfolding decodedAt entryOf changeOf
-parsed-none c a e k h p2 p3 p7 p9 p33 p34 p16 =
-    simp (ne-eqb k 16 p16, lt-leb 128 k h, ne-eqb k 2 p2, ne-eqb k 3 p3, ne-eqb k 7 p7, ne-eqb k 9 p9, ne-eqb k 33 p33, ne-eqb k 34 p34)
+parsed-none c a e k m h p2 p3 p7 p9 p33 p34 p16 =
+    simp (ne-eqb m 16 p16, lt-leb 128 m h, ne-eqb m 2 p2, ne-eqb m 3 p3, ne-eqb m 7 p7, ne-eqb m 9 p9, ne-eqb m 33 p33, ne-eqb m 34 p34) (guard-none (leb (sizeOf m) (e - a)))
 
 -- What the mark of a member adds to a map.
 abbrev asMember : Entry ℕ → Option (Entry ℕ)
 asMember (plain c) = guard (hasMember c) (some (member c))
 asMember (member c) = none
 asMember (commit n) = none
+
+abbrev mark : Bool → Entry ℕ → Option (Entry ℕ)
+mark true x = asMember x
+mark false x = some x
 
 checked-member : (c : Change ℕ) → checked (member c) ≡ bind (checked (plain c)) asMember
 unfolding checked legal
@@ -92,35 +129,24 @@ entry-marked m x y z h l =
     go true e = rw (eqb-true (m - 128) 16 e) (no-commit x (legal (commit x)))
     go false e = bind-ext (changeOf (m - 128) x y z) (λ c. checked (member c)) (λ c. bind (checked (plain c)) asMember) checked-member ∙ sym (bind-bind (changeOf (m - 128) x y z) (λ c. checked (plain c)) asMember)
 
-entered-mark : (e : LogEntry) → entered true e ≡ asMember (asEntry false e)
-unfolding asEntry hasMember
-entered-mark (Take l) = refl
-entered-mark (PutFirst b l) = refl
-entered-mark (PutAfter b l p) = refl
-entered-mark (Write b s) = refl
-entered-mark (DeleteBlock b) = refl
-entered-mark (DeleteList l) = refl
-entered-mark (Commit n) = refl
-
 -- the map m by its kind, m % 128
-module _ (m x y z : ℕ) (h : m < 256) where
-  entry-bad : entryOf (m % 128) x y z ≡ none → entryOf m x y z ≡ none
-  entry-bad e = go (leb 128 m) refl
-    where
-      go : (b : Bool) → leb 128 m ≡ b → entryOf m x y z ≡ none
-      go true q =
-          let k : m % 128 ≡ m - 128 = omega (arith, leb-true 128 m q) in
-          entry-marked m x y z (leb-true 128 m q) h ∙ rw (rw k at e)
-      go false q = let k : m % 128 ≡ m = omega (arith, leb-false 128 m q) in rw k at e
+entry-by : (m x y z : ℕ) → m < 256 → entryOf m x y z ≡ bind (entryOf (m % 128) x y z) (mark (leb 128 m))
+entry-by m x y z h = go (leb 128 m) refl
+  where
+    go : (b : Bool) → leb 128 m ≡ b → entryOf m x y z ≡ bind (entryOf (m % 128) x y z) (mark b)
+    go true q = let k : m % 128 ≡ m - 128 = omega (arith, leb-true 128 m q) in rw k (entry-marked m x y z (leb-true 128 m q) h)
+    go false q = let k : m % 128 ≡ m = omega (arith, leb-false 128 m q) in rw k (bind-alone (entryOf m x y z))
 
-  entry-found : (e : LogEntry) → entryOf (m % 128) x y z ≡ some (asEntry false e) → entryOf m x y z ≡ entered (leb 128 m) e
-  entry-found e q = go (leb 128 m) refl
-    where
-      go : (b : Bool) → leb 128 m ≡ b → entryOf m x y z ≡ entered b e
-      go true p =
-          let k : m % 128 ≡ m - 128 = omega (arith, leb-true 128 m p) in
-          entry-marked m x y z (leb-true 128 m p) h ∙ rw (rw k at q) (sym (entered-mark e))
-      go false p = let k : m % 128 ≡ m = omega (arith, leb-false 128 m p) in rw k at q
+entered-mark : (t : Bool) (e : LogEntry) → entered t e ≡ mark t (asEntry false e)
+unfolding asEntry hasMember
+entered-mark false e = refl
+entered-mark true (Take l) = refl
+entered-mark true (PutFirst b l) = refl
+entered-mark true (PutAfter b l p) = refl
+entered-mark true (Write b s) = refl
+entered-mark true (DeleteBlock b) = refl
+entered-mark true (DeleteList l) = refl
+entered-mark true (Commit n) = refl
 
 size-marked : (m : ℕ) → m < 256 → sizeOf (m % 128) ≡ sizeOf m
 unfolding all from
@@ -149,28 +175,39 @@ entry-legal m x y z e h = first (eqb m 16) h
     first true q = tested (commit x) q
     first false q = second (leb 128 m) q
 
--- The entry that x and its mark stand for, its slot being the next one.
-abbrev pub admitted : Bool → LogEntry → ℕ → Option (Entry ℕ)
-admitted t x k = bind (entered t x) (λ y. guard (isNext k (carried y)) (some y))
+-- The mark changes nothing of what an entry carries.
+turn-mark : (k : ℕ) (t : Bool) (x : Entry ℕ) (r : List ℕ)
+    → bind (mark t x) (λ y. guard {A = Entry ℕ × List ℕ} (isNext k (carried y)) (some (y, r))) ≡ guard (isNext k (carried x)) (bind (mark t x) (λ y. some (y, r)))
+unfolding carried
+turn-mark k false x r = refl
+turn-mark k true (plain c) r = go (hasMember c)
+  where
+    go : (b : Bool)
+        → bind (guard b (some (member c))) (λ y. guard {A = Entry ℕ × List ℕ} (isNext k (carried y)) (some (y, r))) ≡ guard (isNext k (carriedBy c)) (bind (guard b (some (member c))) (λ y. some (y, r)))
+    go true = refl
+    go false = guard-none (isNext k (carriedBy c))
+turn-mark k true (member c) r = guard-none (isNext k (carriedBy c))
+turn-mark k true (commit n) r = guard-none (isNext k none)
 
 -- The entry at the front of a part of the card.
 abbrev saidBy : List ℕ → ℕ → ℕ → ℕ → Option (Entry ℕ)
 saidBy c a e m = entryOf m (byteAt c e (a + 1)) (byteAt c e (a + 2)) (byteAt c e (a + 3))
 
-decoded-none : (c : List ℕ) (a e k : ℕ) → none ≡ decodedAt c a e k → saidBy c a e k ≡ none
-unfolding decodedAt
-decoded-none c a e k h = go (saidBy c a e k) h
-  where
-    go : (o : Option (Entry ℕ)) → _≡_ {A = Option (Entry ℕ × ℕ)} none (bind o (λ x. some (x, sizeOf k))) → o ≡ none
-    go none w = refl
-    go (some x) w = absurd (Option·none-ne-some _ w)
+record Said (c : List ℕ) (a e k m : ℕ) (x : Entry ℕ) (n : ℕ) : Type 0 where
+  fits : sizeOf m ≤ e - a
+  behind : n ≡ a + sizeOf m
+  said : saidBy c a e m ≡ some x
+  turn : isNext k (carried x) ≡ true
 
-decoded-some : (c : List ℕ) (a e k : ℕ) (x : Entry ℕ) (n : ℕ) → _≡_ {A = Option (Entry ℕ × ℕ)} (some (x, n)) (decodedAt c a e k) → (saidBy c a e k ≡ some x) × (n ≡ sizeOf k)
+decoded-some : (c : List ℕ) (a e k m : ℕ) (x : Entry ℕ) (n : ℕ) → _≡_ {A = Option (Entry ℕ × ℕ)} (some (x, n)) (decodedAt c a e k m) → Said c a e k m x n
 unfolding decodedAt
-decoded-some c a e k x n h =
-    let (y, p, w) = bind-some (saidBy c a e k) (λ z. some (z, sizeOf k)) (x, n) (sym h) in
-    let v : _≡_ {A = Entry ℕ × ℕ} (y, sizeOf k) (x, n) = Option·some-injective _ _ w in
-    (p ∙ ap (λ (z : Entry ℕ × ℕ). some (z .0)) v, sym (ap (λ (z : Entry ℕ × ℕ). z .1) v))
+decoded-some c a e k m x n h =
+    let (s, w) = guard-some (leb (sizeOf m) (e - a)) (bind (saidBy c a e m) (λ y. guard (isNext k (carried y)) (some (y, a + sizeOf m)))) (x, n) (sym h) in
+    let (y, p, u) = bind-some (saidBy c a e m) (λ y. guard (isNext k (carried y)) (some (y, a + sizeOf m))) (x, n) w in
+    let (t, v) = guard-some (isNext k (carried y)) (some (y, a + sizeOf m)) (x, n) u in
+    let z : _≡_ {A = Entry ℕ × ℕ} (y, a + sizeOf m) (x, n) = Option·some-injective _ _ v in
+    let f : y ≡ x = ap (λ (i : Entry ℕ × ℕ). i .0) z in
+    record { fits = leb-true _ _ s; behind = sym (ap (λ (i : Entry ℕ × ℕ). i .1) z); said = p ∙ ap some f; turn = ap (λ (i : Entry ℕ). isNext k (carried i)) (sym f) ∙ t }
 
 module _ (c : List ℕ) (a e : ℕ) (l : e ≤ length c) where
   part-at : (j : ℕ) → getD (part c a e) j 0 ≡ byteAt c e (a + j)
@@ -187,36 +224,39 @@ module _ (c : List ℕ) (a e : ℕ) (l : e ≤ length c) where
     unfolding decode
     decode-part = rw (part-first, part-at 1, part-at 2, part-at 3, part-size, ← q, drop-drop (sizeOf m) a (take e c))
 
-    pub at-bad : (k : ℕ) → none ≡ decodedAt c a e (m % 128) → entryAt k (part c a e) ≡ none
-    unfolding entryAt
-    at-bad k d = rw (decode-part, entry-bad m _ _ _ h (decoded-none c a e (m % 128) d)) (go (leb (sizeOf m) (e - a)))
+    -- the entry there is the decoded one with its mark
+    entry-at : (k : ℕ) → entryAt k (part c a e) ≡ bind (decodedAt c a e k (m % 128)) (λ z. bind (mark (leb 128 m) (z .0)) (λ y. some (y, part c (z .1) e)))
+    unfolding entryAt decodedAt
+    entry-at k = rw (decode-part, entry-by m (byteAt c e (a + 1)) (byteAt c e (a + 2)) (byteAt c e (a + 3)) h, size-marked m h) (go (leb (sizeOf m) (e - a)) (saidBy c a e (m % 128)))
       where
-        go : (b : Bool) → bind (guard {A = Entry ℕ × List ℕ} b none) (λ x. guard (isNext k (carried (x .0))) (some x)) ≡ none
-        go true = refl
-        go false = refl
+        asked : (x : Entry ℕ) (b : Bool) → guard {A = Entry ℕ × List ℕ} b (bind (mark (leb 128 m) x) (λ y. some (y, part c (a + sizeOf m) e)))
+            ≡ bind (guard {A = Entry ℕ × ℕ} b (some (x, a + sizeOf m))) (λ z. bind (mark (leb 128 m) (z .0)) (λ y. some (y, part c (z .1) e)))
+        asked x true = refl
+        asked x false = refl
 
-    module _ (k n : ℕ) (x : LogEntry) (d : _≡_ {A = Option (Entry ℕ × ℕ)} (some (asEntry false x, n)) (decodedAt c a e (m % 128))) where
-      pub size-at : n ≡ sizeOf m
-      size-at = decoded-some c a e (m % 128) (asEntry false x) n d .1 ∙ size-marked m h
+        go : (b : Bool) (o : Option (Entry ℕ))
+            → bind (guard {A = Entry ℕ × List ℕ} b (bind (bind o (mark (leb 128 m))) (λ y. some (y, part c (a + sizeOf m) e)))) (λ z. guard {A = Entry ℕ × List ℕ} (isNext k (carried (z .0))) (some z))
+            ≡ bind (guard {A = Entry ℕ × ℕ} b (bind o (λ x. guard (isNext k (carried x)) (some (x, a + sizeOf m))))) (λ z. bind (mark (leb 128 m) (z .0)) (λ y. some (y, part c (z .1) e)))
+        go false o = refl
+        go true none = refl
+        go true (some x) =
+            bind-bind (mark (leb 128 m) x) (λ y. some (y, part c (a + sizeOf m) e)) (λ z. guard (isNext k (carried (z .0))) (some z))
+            ∙ turn-mark k (leb 128 m) x (part c (a + sizeOf m) e)
+            ∙ asked x (isNext k (carried x))
 
-      pub legal-at : legal (asEntry false x) ≡ true
-      legal-at = entry-legal (m % 128) _ _ _ (asEntry false x) (decoded-some c a e (m % 128) (asEntry false x) n d .0)
+-- What is found at a place of segment g, where the map m stands.
+module _ (c : List ℕ) (g a k : ℕ) (i : InSegment c g a) (m : ℕ) (q : m ≡ byteAt c (4096 * g + 4096) a) (h : m < 256) where
+  pub finds-none : none ≡ decodedAt c a (4096 * g + 4096) k (bitAnd m 127) → entryAt k (bytesFrom c g a) ≡ none
+  finds-none d = entry-at c a (4096 * g + 4096) (i .holds) m q h k ∙ rw (← rw (and-mask m 7) at d)
 
-      pub at-cut : e - a < n → entryAt k (part c a e) ≡ none
-      unfolding entryAt
-      at-cut w = rw (decode-part, lt-leb (sizeOf m) (e - a) (omega (arith, size-at)))
-
-      pub at-entry : n ≤ e - a → entryAt k (part c a e) ≡ bind (admitted (leb 128 m) x k) (λ y. some (y, part c (a + n) e))
-      unfolding entryAt
-      at-entry w =
-          let u : n ≡ sizeOf m = size-at in
-          rw (decode-part, ← u, le-leb n (e - a) w, entry-found m _ _ _ h x (decoded-some c a e (m % 128) (asEntry false x) n d .0)) (go (entered (leb 128 m) x))
-        where
-          step : (y : Entry ℕ) (b : Bool) → guard {A = Entry ℕ × List ℕ} b (some (y, part c (a + n) e)) ≡ bind (guard b (some y)) (λ z. some (z, part c (a + n) e))
-          step y true = refl
-          step y false = refl
-
-          go : (o : Option (Entry ℕ)) → bind (bind o (λ y. some (y, part c (a + n) e))) (λ y. guard {A = Entry ℕ × List ℕ} (isNext k (carried (y .0))) (some y))
-              ≡ bind (bind o (λ y. guard (isNext k (carried y)) (some y))) (λ y. some (y, part c (a + n) e))
-          go none = refl
-          go (some y) = step y (isNext k (carried y))
+  pub finds-entry : (x : LogEntry) (n : ℕ) → _≡_ {A = Option (Entry ℕ × ℕ)} (some (asEntry false x, n)) (decodedAt c a (4096 * g + 4096) k (bitAnd m 127)) → Stands c g a k (leb 128 m) x n
+  finds-entry x n d =
+      let e = rw (and-mask m 7) at d in
+      let s = decoded-some c a (4096 * g + 4096) k (m % 128) (asEntry false x) n e in
+      record {
+        onward = omega (arith, s .behind);
+        until = omega (arith, s .behind, s .fits, i .until);
+        ranged = entry-legal (m % 128) _ _ _ (asEntry false x) (s .said);
+        turn = s .turn;
+        entry = entry-at c a (4096 * g + 4096) (i .holds) m q h k ∙ rw (← e, entered-mark (leb 128 m) x);
+      }

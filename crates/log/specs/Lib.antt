@@ -6,6 +6,7 @@ pub mod Flush
 pub mod Parse
 pub mod Within
 pub mod Location
+pub mod Found
 pub mod Feed
 pub mod Walk
 pub mod Mount

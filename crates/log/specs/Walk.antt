@@ -3,7 +3,7 @@
 use mathlib.Core.Path.{_≡_}
 use mathlib.Core.Logic.{_≢_}
 use mathlib.Core.Bool.{Bool, true, false, cond}
-use mathlib.Core.Option.{Option, none, some}
+use mathlib.Core.Option.{some}
 use mathlib.Core.List.{List, [], _∷_, _++_}
 use Prim.Native.Nat.{ℕ, suc, _+_, _-_, _*_, _≤_, _<_}
 use lib.Dec.{ltb, eqb}
@@ -11,12 +11,12 @@ use lib.ListN.{length}
 use Rattle.lists.specs.Basic.{bind}
 use Rattle.log.specs.Entry.{Entry, mapEntry, carried, entryLength, asEntry, legal}
 use Rattle.log.specs.Reader.{Reader, read}
-use Rattle.log.specs.Card.{part, count, usedBy, isNext, Item, good, bad, itemsOf, segmentItems, afterEmpty, sound, fault, walk, walkCard, segmentBytes}
+use Rattle.log.specs.Card.{part, count, usedBy, Item, good, bad, itemsOf, segmentItems, afterEmpty, sound, fault, walk, walkCard, segmentBytes}
 use Rattle.log.specs.Location.{blank, cardLocation}
+use Rattle.log.specs.Found.{entered}
 use Rattle.log.specs.Feed.{Lent, Kept, ReadTo}
 use Rattle.log.specs.Store.{opened, behindAll, tail}
 use Rattle.log.specs.declared.entry.LogEntry.{LogEntry}
-use Rattle.log.specs.declared.entry.LogEntry.the-variants.{Take, PutFirst, PutAfter, Write, DeleteBlock, DeleteList, Commit}
 use Rattle.log.specs.declared.place.Place.{Place}
 use Rattle.log.specs.declared.walk.Cursor.{Cursor}
 use Rattle.log.specs.declared.walk.Step.{Step}
@@ -25,17 +25,6 @@ use Rattle.log.specs.declared.walk.Segment.{Segment}
 use Rattle.log.specs.declared.walk.Segment.the-variants.{Done, Broken}
 use Rattle.log.specs.declared.walk.Walked.{Walked}
 use Rattle.log.specs.declared.walk.Walked.the-variants.{Sound, Fault}
-
--- what a parsed entry stands for, t telling whether its map has the mark of a member: "131, 135, 137, 161, 162. No other map is legal"
-abbrev pub entered : Bool → LogEntry → Option (Entry ℕ)
-entered false e = some (asEntry false e)
-entered true (Take l) = none
-entered true (PutFirst b l) = some (asEntry true (PutFirst b l))
-entered true (PutAfter b l p) = some (asEntry true (PutAfter b l p))
-entered true (Write b s) = some (asEntry true (Write b s))
-entered true (DeleteBlock b) = some (asEntry true (DeleteBlock b))
-entered true (DeleteList l) = some (asEntry true (DeleteList l))
-entered true (Commit n) = none
 
 -- the length of the run behind it
 abbrev pub runAfter : Bool → ℕ → ℕ
@@ -46,19 +35,15 @@ abbrev pub Reads : Lent → ℕ → Bool → LogEntry → ℕ → Bool → Lent 
 Reads m run t e d b m′ =
     (r : Reader ℕ) → Kept m run r → legal (asEntry false e) ≡ true → ReadTo (bind (entered t e) (λ x. read blank r (mapEntry (λ s. d) x))) b m′ (runAfter t run)
 
--- is its slot, if it writes, the next one, k?
-abbrev pub inTurn : LogEntry → ℕ → Bool
-inTurn e k = isNext k (carried (asEntry false e))
-
 abbrev pub stepIf : Bool → ℕ → ℕ → ℕ → Step
 stepIf true a k run = Next (record { at = a; slots = k; run = run })
 stepIf false a k run = Stuck
 
--- its slot compared and the entry read, k slots being used before it; a is behind it
+-- an entry read, k slots being used before it; a is behind it
 abbrev pub Enters : Lent → ℕ → Bool → LogEntry → ℕ → ℕ → ℕ → Step → Lent → Type 0
-Enters m run t e d a k Stuck m′ = inTurn e k ≡ true → Reads m run t e d false m′
+Enters m run t e d a k Stuck m′ = Reads m run t e d false m′
 Enters m run t e d a k (Next next) m′ =
-    (inTurn e k ≡ true) × (next ≡ record { at = a; slots = k + usedBy (carried (asEntry false e)); run = runAfter t run }) × Reads m run t e d true m′
+    (next ≡ record { at = a; slots = k + usedBy (carried (asEntry false e)); run = runAfter t run }) × Reads m run t e d true m′
 
 -- a cursor in segment g of the card
 pub record OnSegment (c : List ℕ) (g : ℕ) (cur : Cursor) : Type 0 where

@@ -6,13 +6,11 @@ use super::feed::keep;
 use super::layout::COUNT_AT;
 use super::layout::ENTRIES_AT;
 use super::layout::SEGMENT;
-use super::layout::SLOT;
-use super::map;
-use super::parse::Parsed;
-use super::parse::byte_at;
-use super::parse::parse;
+use super::location::card_location;
 use super::place::Place;
 use super::place::opened;
+use super::reader::Found;
+use super::reader::entry_at;
 use lists::kind;
 use lists::tables;
 use lists::tables::act;
@@ -25,12 +23,6 @@ ghost use Rattle.log.specs.Card.{cardLength};
 ghost use Rattle.log.specs.Location.{cardLocation};
 ghost use Rattle.log.specs.Feed.{lent};
 ghost use Rattle.log.specs.Walk.{stepIf, Enters, OnSegment, Steps, OnCard, Passes, FirstUsed, Walks};
-
-// The mark of a member in an entry's map.
-const MARK: u8 = 1 << map::MEMBER;
-
-// How many locations a segment has; the blank is before them all.
-const LOCATIONS: usize = SEGMENT / SLOT;
 
 // The next entry of a segment: where it stands, how many slots are used before it, and how many members stand directly before it.
 pub struct Cursor {
@@ -67,8 +59,7 @@ fn go(accepted: bool, at: usize, slots: usize, run: usize) -> Step
     }
 }
 
-// A plain entry acts, or is refused: `at` is behind it, `slots` are used before it. The entry is matched once, its slot compared in the arm: a walk
-// takes a fifth less.
+// A plain entry of segment g acts, or is refused: `at` is behind it, `slots` are used before it.
 fn plain(
     next: &mut [u8; 256],
     prev: &mut [u8; 256],
@@ -78,12 +69,12 @@ fn plain(
     locations: &[u16; 16],
     run: usize,
     e: LogEntry,
-    location: u16,
+    g: usize,
     at: usize,
     slots: usize,
 ) -> Step
-    requires { ⌜ slots < 256 ⌝ }
-    ensures { λ r. ⌜ Enters (lent (now (next .entry)) (now (prev .entry)) (now (owner .entry)) (now (place .entry)) (now (members .entry)) (now (locations .entry))) run false e location at slots r (lent (now (next .exit)) (now (prev .exit)) (now (owner .exit)) (now (place .exit)) (now (members .entry)) (now (locations .entry))) ⌝ }
+    requires { ⌜ (g < 64) × (slots < 256) ⌝ }
+    ensures { λ r. ⌜ Enters (lent (now (next .entry)) (now (prev .entry)) (now (owner .entry)) (now (place .entry)) (now (members .entry)) (now (locations .entry))) run false e (cardLocation g slots) at slots r (lent (now (next .exit)) (now (prev .exit)) (now (owner .exit)) (now (place .exit)) (now (members .entry)) (now (locations .entry))) ⌝ }
 {
     match e {
         LogEntry::Take { list } => {
@@ -102,10 +93,8 @@ fn plain(
             let done = act(next, prev, owner, place, kind::PUT_AFTER, block, list, x, 0);
             go(done, at, slots, 0)
         }
-        LogEntry::Write { block, slot } => {
-            if slot as usize != slots {
-                return Step::Stuck;
-            }
+        LogEntry::Write { block, slot: _ } => {
+            let location = card_location(g, slots);
             let done = act(next, prev, owner, place, kind::WRITE, block, 0, 0, location);
             go(done, at, slots + 1, 0)
         }
@@ -131,12 +120,12 @@ fn member(
     locations: &mut [u16; 16],
     run: usize,
     e: LogEntry,
-    location: u16,
+    g: usize,
     at: usize,
     slots: usize,
 ) -> Step
-    requires { ⌜ (slots < 256) × (run < 1000000) ⌝ }
-    ensures { λ r. ⌜ ((t : Tables) → Enters (record { tables = t; members = now (members .entry); locations = now (locations .entry) }) run true e location at slots r (record { tables = t; members = now (members .exit); locations = now (locations .exit) })) ⌝ }
+    requires { ⌜ (g < 64) × (slots < 256) × (run < 1000000) ⌝ }
+    ensures { λ r. ⌜ ((t : Tables) → Enters (record { tables = t; members = now (members .entry); locations = now (locations .entry) }) run true e (cardLocation g slots) at slots r (record { tables = t; members = now (members .exit); locations = now (locations .exit) })) ⌝ }
 {
     match e {
         LogEntry::Take { list: _ } => Step::Stuck,
@@ -152,10 +141,8 @@ fn member(
             let kept = keep(members, locations, run, kind::PUT_AFTER, block, list, x, 0);
             go(kept, at, slots, run + 1)
         }
-        LogEntry::Write { block, slot } => {
-            if slot as usize != slots {
-                return Step::Stuck;
-            }
+        LogEntry::Write { block, slot: _ } => {
+            let location = card_location(g, slots);
             let kept = keep(members, locations, run, kind::WRITE, block, 0, 0, location);
             go(kept, at, slots + 1, run + 1)
         }
@@ -169,13 +156,6 @@ fn member(
         }
         LogEntry::Commit { count: _ } => Step::Stuck,
     }
-}
-
-fn location_of(g: usize, k: usize) -> u16
-    requires { ⌜ (g < 64) × (k < 256) ⌝ }
-    ensures { λ r. ⌜ r ≡ cardLocation g k ⌝ }
-{
-    (LOCATIONS * g + 1 + k) as u16
 }
 
 // The entry at the cursor, in segment g.
@@ -196,20 +176,9 @@ fn step_entry(
     let at = cur.at;
     let slots = cur.slots;
     let run = cur.run;
-    let end = SEGMENT * g + SEGMENT;
-    let map = byte_at(card, at, end);
-    let Parsed::Entry(e, size) = parse(card, at, end, map & (MARK - 1)) else {
-        return Step::Stuck;
-    };
-    if end - at < size {
-        return Step::Stuck;
-    }
-    let location = location_of(g, slots);
-    let behind = at + size;
-    if MARK <= map {
-        member(members, locations, run, e, location, behind, slots)
-    } else {
-        plain(
+    match entry_at(card, g, at, slots) {
+        Found::Member(e, behind) => member(members, locations, run, e, g, behind, slots),
+        Found::Plain(e, behind) => plain(
             next,
             prev,
             owner,
@@ -218,10 +187,11 @@ fn step_entry(
             locations,
             run,
             e,
-            location,
+            g,
             behind,
             slots,
-        )
+        ),
+        Found::Bad => Step::Stuck,
     }
 }
 

@@ -1,32 +1,29 @@
--- A byte has at most 8 ones, so the place of the field is no overflow. Assumes nothing.
-use native.Mathlib.Omega.{arith}
-use Prim.Native.Nat.{ℕ, _-_, _≤_, _<_}
-use lib.Bits.{bitAnd, and-lt}
-use lib.Count.{ones, ones-le}
+-- The place of the field is before the end, so the byte is one of those taken. Assumes nothing.
+use mathlib.Core.Path.{sym}
+use lib.Seq.{getD-take}
 use borrow.Author.Needs.{needs}
 use Rattle.log.proofs.parse.field.Statement.{statement}
 use Rattle.log.proofs.parse.field.Tie as tie
 
-few : (m b : ℕ) → m < 256 → b < 256 → ones (bitAnd m (b - 1)) ≤ 8
-few m b h k = ones-le 8 (bitAnd m (b - 1)) (and-lt 8 m (b - 1) h (omega arith))
+sub-result : tie.Need-sub-result
+sub-result c = search needs
 
-sub-byte-at : tie.Need-sub-byte-at
-sub-byte-at c = search needs
+cast-result : tie.Need-cast-result
+cast-result c = search needs
 
-cast-byte-at : tie.Need-cast-byte-at
-cast-byte-at c = let s = c .before in omega (arith, few (s .args .map) (s .args .bit) (s .fits .map .fits) (s .fits .bit .fits))
+add-result : tie.Need-add-result
+add-result c = search needs
 
-add-byte-at : tie.Need-add-byte-at
-add-byte-at c = let s = c .before in omega (arith, few (s .args .map) (s .args .bit) (s .fits .map .fits) (s .fits .bit .fits))
+add-result-2 : tie.Need-add-result-2
+add-result-2 c = search needs
 
-add-byte-at-2 : tie.Need-add-byte-at-2
-add-byte-at-2 c = let s = c .before in omega (arith, few (s .args .map) (s .args .bit) (s .fits .map .fits) (s .fits .bit .fits))
-
-byte-at-requires : tie.Need-byte-at-requires
-byte-at-requires c κs = search needs
+shared-slice-read-result : tie.Need-shared-slice-read-result
+shared-slice-read-result c = search needs
 
 returns : tie.Need-returns
-returns c = search needs
+returns c = let s = c .before .args in sym (getD-take (s .end) (s .card .now) _ 0 (c .before .pre .1))
 
 pub field-spec : {M : Type 1} → statement M
-field-spec = tie.close (tie.spec sub-byte-at cast-byte-at add-byte-at add-byte-at-2 byte-at-requires returns)
+field-spec =
+    tie.close
+    (tie.spec sub-result cast-result add-result add-result-2 shared-slice-read-result returns)

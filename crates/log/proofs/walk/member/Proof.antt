@@ -1,22 +1,17 @@
 -- Each arm keeps its fields; a take and a commit have no member's map. Assumes nothing.
 use mathlib.Core.Path.{refl, sym}
-use mathlib.Core.Bool.{true}
 use Prim.Native.Nat.{_+_}
 use native.Mathlib.Omega.{arith}
 use native.Mathlib.Nat.{add-zero}
-use borrow.Author.Tests.{eq-eqb, ne-eqb}
 use Rattle.lists.specs.Change.{carriedBy}
 use Rattle.lists.specs.Tables.{ofKind}
 use Rattle.log.specs.Entry.{asEntry, carried}
-use Rattle.log.specs.Card.{isNext, usedBy}
-use Rattle.log.proofs.Entering.{enters-later, enters-never, enters-wrong}
+use Rattle.log.specs.Card.{usedBy}
+use Rattle.log.specs.Location.{cardLocation}
+use Rattle.log.proofs.Entering.{enters-later, enters-never}
 use borrow.Author.Needs.{needs}
 use Rattle.log.proofs.walk.member.Statement.{statement}
 use Rattle.log.proofs.walk.member.Tie as tie
-use Rattle.log.proofs.walk.member.Reads as reads
-use Rattle.log.proofs.walk.member.Lts as lts
-use Rattle.log.proofs.feed.keep.Reads as keep-reads
-use Rattle.log.proofs.walk.go.Reads as go-reads
 
 enum-told : tie.Need-enum-told
 enum-told c = search needs
@@ -48,15 +43,8 @@ go-requires-2 c κs = search needs
 enum-known-e-3 : tie.Need-enum-known-e-3
 enum-known-e-3 c = search needs
 
-cast-if1 : tie.Need-cast-if1
-cast-if1 c = search needs
-
-returns : tie.Need-returns
-unfolding ofKind isNext carried carriedBy asEntry usedBy
-returns c =
-    λ t.
-    let s = c .before .before .before .before .args in
-    enters-wrong (record { tables = t; members = s .members .now; locations = s .locations .now }) (s .run) (s .e) _ (c .before .before .e3 .given .1) (s .location) (s .at) (s .slots) true (record { tables = t; members = s .members .now; locations = s .locations .now }) (ne-eqb _ _ (c .if1 .taken))
+card-location-requires : tie.Need-card-location-requires
+card-location-requires c κs = search needs
 
 keep-requires-3 : tie.Need-keep-requires-3
 keep-requires-3 c κs = search needs
@@ -97,62 +85,62 @@ go-requires-5 c κs = search needs
 enum-told-2 : tie.Need-enum-told-2
 enum-told-2 c = search needs
 
-returns-2 : tie.Need-returns-2
-returns-2 c =
+returns : tie.Need-returns
+returns c =
     λ t.
     let s = c .before .before .args in
-    enters-never (record { tables = t; members = s .members .now; locations = s .locations .now }) (s .run) (s .e) _ (c .enum-told .given .1) (s .location) (s .at) (s .slots) (record { tables = t; members = s .members .now; locations = s .locations .now }) refl
+    enters-never (record { tables = t; members = s .members .now; locations = s .locations .now }) (s .run) (s .e) _ (c .enum-told .given .1) (cardLocation (s .g) (s .slots)) (s .at) (s .slots) (record { tables = t; members = s .members .now; locations = s .locations .now }) refl
 
-returns-3 : tie.Need-returns-3
-unfolding ofKind isNext carried carriedBy asEntry usedBy
-returns-3 c =
+returns-2 : tie.Need-returns-2
+unfolding ofKind carried carriedBy asEntry usedBy
+returns-2 c =
     λ t.
     let s = c .before .before .before .before .before .before .before .args in
     let k = c .before .keep .ensures in
     rw (k .1, k .2)
-    (enters-later (record { tables = t; members = s .members .now; locations = s .locations .now }) (s .run) (s .e) _ (c .before .before .before .before .before .e .given .1) (s .location) (s .at) (s .slots) 0 _ (s .slots) (rw (k .0) at (c .go .ensures)) refl (sym (add-zero (s .slots))) (λ z. omega arith) refl refl)
+    (enters-later (record { tables = t; members = s .members .now; locations = s .locations .now }) (s .run) (s .e) _ (c .before .before .before .before .before .e .given .1) (cardLocation (s .g) (s .slots)) (s .at) (s .slots) 0 _ (s .slots) (rw (k .0) at (c .go .ensures)) (sym (add-zero (s .slots))) (λ z. omega arith) refl refl)
 
-returns-4 : tie.Need-returns-4
-unfolding ofKind isNext carried carriedBy asEntry usedBy
-returns-4 c =
+returns-3 : tie.Need-returns-3
+unfolding ofKind carried carriedBy asEntry usedBy
+returns-3 c =
     λ t.
     let s = c .before .before .before .before .before .before .before .args in
     let k = c .before .keep2 .ensures in
     rw (k .1, k .2)
-    (enters-later (record { tables = t; members = s .members .now; locations = s .locations .now }) (s .run) (s .e) _ (c .before .before .before .before .before .e2 .given .1) (s .location) (s .at) (s .slots) 0 _ (s .slots) (rw (k .0) at (c .go2 .ensures)) refl (sym (add-zero (s .slots))) (λ z. omega arith) refl refl)
+    (enters-later (record { tables = t; members = s .members .now; locations = s .locations .now }) (s .run) (s .e) _ (c .before .before .before .before .before .e2 .given .1) (cardLocation (s .g) (s .slots)) (s .at) (s .slots) 0 _ (s .slots) (rw (k .0) at (c .go2 .ensures)) (sym (add-zero (s .slots))) (λ z. omega arith) refl refl)
 
-returns-5 : tie.Need-returns-5
-unfolding ofKind isNext carried carriedBy asEntry usedBy
-returns-5 c =
+returns-4 : tie.Need-returns-4
+unfolding ofKind carried carriedBy asEntry usedBy
+returns-4 c =
     λ t.
     let s = c .before .before .before .before .before .before .before .before .args in
     let k = c .before .keep3 .ensures in
-    rw (k .1, k .2)
-    (enters-later (record { tables = t; members = s .members .now; locations = s .locations .now }) (s .run) (s .e) _ (c .before .before .before .before .before .before .e3 .given .1) (s .location) (s .at) (s .slots) (s .location) _ (s .slots + 1) (rw (k .0) at (c .go3 .ensures)) (eq-eqb _ _ (c .before .before .before .before .if1 .left)) refl (λ z. omega arith) refl refl)
+    rw (k .1, k .2, c .before .before .before .before .card-location .ensures)
+    (enters-later (record { tables = t; members = s .members .now; locations = s .locations .now }) (s .run) (s .e) _ (c .before .before .before .before .before .before .e3 .given .1) (cardLocation (s .g) (s .slots)) (s .at) (s .slots) (cardLocation (s .g) (s .slots)) _ (s .slots + 1) (rw (k .0) at (c .go3 .ensures)) refl (λ z. omega arith) refl refl)
 
-returns-6 : tie.Need-returns-6
-unfolding ofKind isNext carried carriedBy asEntry usedBy
-returns-6 c =
+returns-5 : tie.Need-returns-5
+unfolding ofKind carried carriedBy asEntry usedBy
+returns-5 c =
     λ t.
     let s = c .before .before .before .before .before .before .before .args in
     let k = c .before .keep4 .ensures in
     rw (k .1, k .2)
-    (enters-later (record { tables = t; members = s .members .now; locations = s .locations .now }) (s .run) (s .e) _ (c .before .before .before .before .before .e4 .given .1) (s .location) (s .at) (s .slots) 0 _ (s .slots) (rw (k .0) at (c .go4 .ensures)) refl (sym (add-zero (s .slots))) (λ z. omega arith) refl refl)
+    (enters-later (record { tables = t; members = s .members .now; locations = s .locations .now }) (s .run) (s .e) _ (c .before .before .before .before .before .e4 .given .1) (cardLocation (s .g) (s .slots)) (s .at) (s .slots) 0 _ (s .slots) (rw (k .0) at (c .go4 .ensures)) (sym (add-zero (s .slots))) (λ z. omega arith) refl refl)
 
-returns-7 : tie.Need-returns-7
-unfolding ofKind isNext carried carriedBy asEntry usedBy
-returns-7 c =
+returns-6 : tie.Need-returns-6
+unfolding ofKind carried carriedBy asEntry usedBy
+returns-6 c =
     λ t.
     let s = c .before .before .before .before .before .before .before .args in
     let k = c .before .keep5 .ensures in
     rw (k .1, k .2)
-    (enters-later (record { tables = t; members = s .members .now; locations = s .locations .now }) (s .run) (s .e) _ (c .before .before .before .before .before .e5 .given .1) (s .location) (s .at) (s .slots) 0 _ (s .slots) (rw (k .0) at (c .go5 .ensures)) refl (sym (add-zero (s .slots))) (λ z. omega arith) refl refl)
+    (enters-later (record { tables = t; members = s .members .now; locations = s .locations .now }) (s .run) (s .e) _ (c .before .before .before .before .before .e5 .given .1) (cardLocation (s .g) (s .slots)) (s .at) (s .slots) 0 _ (s .slots) (rw (k .0) at (c .go5 .ensures)) (sym (add-zero (s .slots))) (λ z. omega arith) refl refl)
 
-returns-8 : tie.Need-returns-8
-returns-8 c =
+returns-7 : tie.Need-returns-7
+returns-7 c =
     λ t.
     let s = c .before .before .args in
-    enters-never (record { tables = t; members = s .members .now; locations = s .locations .now }) (s .run) (s .e) _ (c .enum-told2 .given .1) (s .location) (s .at) (s .slots) (record { tables = t; members = s .members .now; locations = s .locations .now }) refl
+    enters-never (record { tables = t; members = s .members .now; locations = s .locations .now }) (s .run) (s .e) _ (c .enum-told2 .given .1) (cardLocation (s .g) (s .slots)) (s .at) (s .slots) (record { tables = t; members = s .members .now; locations = s .locations .now }) refl
 
 pub member-spec : {M : Type 1} → statement M
 member-spec =
@@ -168,8 +156,7 @@ member-spec =
     add-go-2
     go-requires-2
     enum-known-e-3
-    cast-if1
-    returns
+    card-location-requires
     keep-requires-3
     add-go-3
     add-go-4
@@ -183,10 +170,10 @@ member-spec =
     add-go-6
     go-requires-5
     enum-told-2
+    returns
     returns-2
     returns-3
     returns-4
     returns-5
     returns-6
-    returns-7
-    returns-8)
+    returns-7)

@@ -1,24 +1,18 @@
 -- Each arm acts as its kind does; a commit takes its members. Assumes nothing.
 use mathlib.Core.Path.{refl, sym}
-use mathlib.Core.Bool.{false}
 use Prim.Native.Nat.{_+_}
 use native.Mathlib.Omega.{arith}
 use native.Mathlib.Nat.{add-zero}
-use borrow.Author.Tests.{eq-eqb, ne-eqb}
 use Rattle.lists.specs.Change.{carriedBy}
 use Rattle.lists.specs.Tables.{tables, ofKind}
 use Rattle.log.specs.Entry.{asEntry, carried}
-use Rattle.log.specs.Card.{isNext, usedBy}
+use Rattle.log.specs.Card.{usedBy}
 use Rattle.log.specs.Feed.{lent}
-use Rattle.log.proofs.Entering.{enters-now, enters-wrong, enters-commit}
+use Rattle.log.specs.Location.{cardLocation}
+use Rattle.log.proofs.Entering.{enters-now, enters-commit}
 use borrow.Author.Needs.{needs}
 use Rattle.log.proofs.walk.plain.Statement.{statement}
 use Rattle.log.proofs.walk.plain.Tie as tie
-use Rattle.log.proofs.walk.plain.Reads as reads
-use Rattle.log.proofs.walk.plain.Lts as lts
-use Rattle.lists.proofs.tables.act.Reads as act-reads
-use Rattle.log.proofs.feed.commit.Reads as commit-reads
-use Rattle.log.proofs.walk.go.Reads as go-reads
 
 enum-known-e : tie.Need-enum-known-e
 enum-known-e c = search needs
@@ -50,14 +44,8 @@ go-requires-3 c κs = search needs
 enum-known-e-4 : tie.Need-enum-known-e-4
 enum-known-e-4 c = search needs
 
-cast-if1 : tie.Need-cast-if1
-cast-if1 c = search needs
-
-returns : tie.Need-returns
-unfolding ofKind isNext carried carriedBy asEntry usedBy
-returns c =
-    let s = c .before .before .before .before .args in
-    enters-wrong (lent (s .next .now) (s .prev .now) (s .owner .now) (s .place .now) (s .members .now) (s .locations .now)) (s .run) (s .e) _ (c .before .before .e4 .given .1) (s .location) (s .at) (s .slots) false (lent (s .next .now) (s .prev .now) (s .owner .now) (s .place .now) (s .members .now) (s .locations .now)) (ne-eqb _ _ (c .if1 .taken))
+card-location-requires : tie.Need-card-location-requires
+card-location-requires c κs = search needs
 
 act-requires-4 : tie.Need-act-requires-4
 act-requires-4 c κs = search needs
@@ -98,58 +86,58 @@ commit-requires c κs = search needs
 go-requires-7 : tie.Need-go-requires-7
 go-requires-7 c κs = search needs
 
-returns-2 : tie.Need-returns-2
-unfolding ofKind isNext carried carriedBy asEntry usedBy
-returns-2 c =
+returns : tie.Need-returns
+unfolding ofKind carried carriedBy asEntry usedBy
+returns c =
     let s = c .before .before .before .before .before .before .before .before .before .args in
     let a = c .before .act in
-    enters-now (lent (s .next .now) (s .prev .now) (s .owner .now) (s .place .now) (s .members .now) (s .locations .now)) (s .run) (s .e) _ (c .before .before .before .before .before .before .before .e .given .1) (s .location) (s .at) (s .slots) (a .result) (tables (a .last .0) (a .last .1 .0) (a .last .1 .1 .0) (a .last .1 .1 .1 .0)) _ (s .slots) (c .go .ensures) refl (sym (add-zero (s .slots))) (λ z. omega arith)
+    enters-now (lent (s .next .now) (s .prev .now) (s .owner .now) (s .place .now) (s .members .now) (s .locations .now)) (s .run) (s .e) _ (c .before .before .before .before .before .before .before .e .given .1) (cardLocation (s .g) (s .slots)) (s .at) (s .slots) (a .result) (tables (a .last .0) (a .last .1 .0) (a .last .1 .1 .0) (a .last .1 .1 .1 .0)) _ (s .slots) (c .go .ensures) (sym (add-zero (s .slots))) (λ z. omega arith)
+    (a .ensures)
+
+returns-2 : tie.Need-returns-2
+unfolding ofKind carried carriedBy asEntry usedBy
+returns-2 c =
+    let s = c .before .before .before .before .before .before .before .before .before .args in
+    let a = c .before .act2 in
+    enters-now (lent (s .next .now) (s .prev .now) (s .owner .now) (s .place .now) (s .members .now) (s .locations .now)) (s .run) (s .e) _ (c .before .before .before .before .before .before .before .e2 .given .1) (cardLocation (s .g) (s .slots)) (s .at) (s .slots) (a .result) (tables (a .last .0) (a .last .1 .0) (a .last .1 .1 .0) (a .last .1 .1 .1 .0)) _ (s .slots) (c .go2 .ensures) (sym (add-zero (s .slots))) (λ z. omega arith)
     (a .ensures)
 
 returns-3 : tie.Need-returns-3
-unfolding ofKind isNext carried carriedBy asEntry usedBy
+unfolding ofKind carried carriedBy asEntry usedBy
 returns-3 c =
     let s = c .before .before .before .before .before .before .before .before .before .args in
-    let a = c .before .act2 in
-    enters-now (lent (s .next .now) (s .prev .now) (s .owner .now) (s .place .now) (s .members .now) (s .locations .now)) (s .run) (s .e) _ (c .before .before .before .before .before .before .before .e2 .given .1) (s .location) (s .at) (s .slots) (a .result) (tables (a .last .0) (a .last .1 .0) (a .last .1 .1 .0) (a .last .1 .1 .1 .0)) _ (s .slots) (c .go2 .ensures) refl (sym (add-zero (s .slots))) (λ z. omega arith)
+    let a = c .before .act3 in
+    enters-now (lent (s .next .now) (s .prev .now) (s .owner .now) (s .place .now) (s .members .now) (s .locations .now)) (s .run) (s .e) _ (c .before .before .before .before .before .before .before .e3 .given .1) (cardLocation (s .g) (s .slots)) (s .at) (s .slots) (a .result) (tables (a .last .0) (a .last .1 .0) (a .last .1 .1 .0) (a .last .1 .1 .1 .0)) _ (s .slots) (c .go3 .ensures) (sym (add-zero (s .slots))) (λ z. omega arith)
     (a .ensures)
 
 returns-4 : tie.Need-returns-4
-unfolding ofKind isNext carried carriedBy asEntry usedBy
+unfolding ofKind carried carriedBy asEntry usedBy
 returns-4 c =
-    let s = c .before .before .before .before .before .before .before .before .before .args in
-    let a = c .before .act3 in
-    enters-now (lent (s .next .now) (s .prev .now) (s .owner .now) (s .place .now) (s .members .now) (s .locations .now)) (s .run) (s .e) _ (c .before .before .before .before .before .before .before .e3 .given .1) (s .location) (s .at) (s .slots) (a .result) (tables (a .last .0) (a .last .1 .0) (a .last .1 .1 .0) (a .last .1 .1 .1 .0)) _ (s .slots) (c .go3 .ensures) refl (sym (add-zero (s .slots))) (λ z. omega arith)
-    (a .ensures)
-
-returns-5 : tie.Need-returns-5
-unfolding ofKind isNext carried carriedBy asEntry usedBy
-returns-5 c =
     let s = c .before .before .before .before .before .before .before .before .before .before .args in
     let a = c .before .act4 in
-    enters-now (lent (s .next .now) (s .prev .now) (s .owner .now) (s .place .now) (s .members .now) (s .locations .now)) (s .run) (s .e) _ (c .before .before .before .before .before .before .before .before .e4 .given .1) (s .location) (s .at) (s .slots) (a .result) (tables (a .last .0) (a .last .1 .0) (a .last .1 .1 .0) (a .last .1 .1 .1 .0)) _ (s .slots + 1) (c .go4 .ensures) (eq-eqb _ _ (c .before .before .before .before .before .before .if1 .left)) refl (λ z. omega arith)
+    enters-now (lent (s .next .now) (s .prev .now) (s .owner .now) (s .place .now) (s .members .now) (s .locations .now)) (s .run) (s .e) _ (c .before .before .before .before .before .before .before .before .e4 .given .1) (cardLocation (s .g) (s .slots)) (s .at) (s .slots) (a .result) (tables (a .last .0) (a .last .1 .0) (a .last .1 .1 .0) (a .last .1 .1 .1 .0)) _ (s .slots + 1) (c .go4 .ensures) refl (λ z. omega arith)
+    (rw (c .before .before .before .before .before .before .card-location .ensures) at (a .ensures))
+
+returns-5 : tie.Need-returns-5
+unfolding ofKind carried carriedBy asEntry usedBy
+returns-5 c =
+    let s = c .before .before .before .before .before .before .before .before .before .args in
+    let a = c .before .act5 in
+    enters-now (lent (s .next .now) (s .prev .now) (s .owner .now) (s .place .now) (s .members .now) (s .locations .now)) (s .run) (s .e) _ (c .before .before .before .before .before .before .before .e5 .given .1) (cardLocation (s .g) (s .slots)) (s .at) (s .slots) (a .result) (tables (a .last .0) (a .last .1 .0) (a .last .1 .1 .0) (a .last .1 .1 .1 .0)) _ (s .slots) (c .go5 .ensures) (sym (add-zero (s .slots))) (λ z. omega arith)
     (a .ensures)
 
 returns-6 : tie.Need-returns-6
-unfolding ofKind isNext carried carriedBy asEntry usedBy
+unfolding ofKind carried carriedBy asEntry usedBy
 returns-6 c =
     let s = c .before .before .before .before .before .before .before .before .before .args in
-    let a = c .before .act5 in
-    enters-now (lent (s .next .now) (s .prev .now) (s .owner .now) (s .place .now) (s .members .now) (s .locations .now)) (s .run) (s .e) _ (c .before .before .before .before .before .before .before .e5 .given .1) (s .location) (s .at) (s .slots) (a .result) (tables (a .last .0) (a .last .1 .0) (a .last .1 .1 .0) (a .last .1 .1 .1 .0)) _ (s .slots) (c .go5 .ensures) refl (sym (add-zero (s .slots))) (λ z. omega arith)
+    let a = c .before .act6 in
+    enters-now (lent (s .next .now) (s .prev .now) (s .owner .now) (s .place .now) (s .members .now) (s .locations .now)) (s .run) (s .e) _ (c .before .before .before .before .before .before .before .e6 .given .1) (cardLocation (s .g) (s .slots)) (s .at) (s .slots) (a .result) (tables (a .last .0) (a .last .1 .0) (a .last .1 .1 .0) (a .last .1 .1 .1 .0)) _ (s .slots) (c .go6 .ensures) (sym (add-zero (s .slots))) (λ z. omega arith)
     (a .ensures)
 
 returns-7 : tie.Need-returns-7
-unfolding ofKind isNext carried carriedBy asEntry usedBy
 returns-7 c =
     let s = c .before .before .before .before .before .before .before .before .before .args in
-    let a = c .before .act6 in
-    enters-now (lent (s .next .now) (s .prev .now) (s .owner .now) (s .place .now) (s .members .now) (s .locations .now)) (s .run) (s .e) _ (c .before .before .before .before .before .before .before .e6 .given .1) (s .location) (s .at) (s .slots) (a .result) (tables (a .last .0) (a .last .1 .0) (a .last .1 .1 .0) (a .last .1 .1 .1 .0)) _ (s .slots) (c .go6 .ensures) refl (sym (add-zero (s .slots))) (λ z. omega arith)
-    (a .ensures)
-
-returns-8 : tie.Need-returns-8
-returns-8 c =
-    let s = c .before .before .before .before .before .before .before .before .before .args in
-    enters-commit (lent (s .next .now) (s .prev .now) (s .owner .now) (s .place .now) (s .members .now) (s .locations .now)) (s .run) (s .e) _ (s .location) (s .at) (s .slots) (c .before .before .before .before .before .before .before .e7 .given .1) (c .before .commit .result) _ _ (c .go7 .ensures) (c .before .commit .ensures)
+    enters-commit (lent (s .next .now) (s .prev .now) (s .owner .now) (s .place .now) (s .members .now) (s .locations .now)) (s .run) (s .e) _ (cardLocation (s .g) (s .slots)) (s .at) (s .slots) (c .before .before .before .before .before .before .before .e7 .given .1) (c .before .commit .result) _ _ (c .go7 .ensures) (c .before .commit .ensures)
 
 pub plain-spec : {M : Type 1} → statement M
 plain-spec =
@@ -165,8 +153,7 @@ plain-spec =
     act-requires-3
     go-requires-3
     enum-known-e-4
-    cast-if1
-    returns
+    card-location-requires
     act-requires-4
     add-go
     go-requires-4
@@ -180,10 +167,10 @@ plain-spec =
     cast-n
     commit-requires
     go-requires-7
+    returns
     returns-2
     returns-3
     returns-4
     returns-5
     returns-6
-    returns-7
-    returns-8)
+    returns-7)
