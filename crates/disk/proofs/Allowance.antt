@@ -7,12 +7,12 @@ use lib.ListN.{length, length-drop}
 use Rattle.lists.proofs.Basic.{leb-true, le-true}
 use Rattle.log.specs.Card.{segmentsIn}
 use Rattle.log.specs.Flush.{Flow, Flushed, Next, stored, stopped, nextStore, flushFrom}
-use Rattle.log.proofs.Allowance.{stopped-flush, moved-flush, none-left, flush-add}
+use Rattle.log.proofs.Allowance.{stopped-flush, moved-flush, flush-add}
 use Rattle.disk.specs.Record.{withFlow}
 use Rattle.disk.specs.Disk.{Disk, queued}
 use Rattle.disk.specs.Call.{flush}
 use Rattle.disk.specs.Questions.{questions, firstNo, ask, refusal}
-use Rattle.disk.specs.Perform.{flowOf, flushed, afterFlush, accepted, perform}
+use Rattle.disk.specs.Perform.{flowOf, flushed, afterFlush, endingNumber, accepted, perform}
 use Rattle.disk.proofs.Queue.{queue-length}
 use Rattle.disk.proofs.Questions.{yes-all}
 use Rattle.disk.proofs.Clauses.{Right, right, right-lengths, right-sound}
@@ -24,18 +24,21 @@ use Rattle.disk.proofs.Sequence.{left-flow, left-segments}
 record Same (x y : Flushed) (j k : ℕ) : Type 0 where
   flow : x .flow ≡ y .flow
   stores : x .stores + k ≡ y .stores + j
+  ending : x .ending ≡ y .ending
 
 counted : (a n j k : ℕ) (f : Flow) → Same (flushFrom n a j f) (flushFrom n a k f) j k
-counted zero n j k f =
-    let (p, q) = none-left n j f in
-    let (x, y) = none-left n k f in
-    record { flow = p ∙ sym x; stores = omega arith }
+unfolding flushFrom
+counted zero n j k f = go (nextStore n f) refl
+  where
+    go : (x : Next) → nextStore n f ≡ x → Same (flushFrom n zero j f) (flushFrom n zero k f) j k
+    go (stored g) q = rw (q, flushFrom) (record { flow = refl; stores = omega arith; ending = refl })
+    go (stopped e) q = rw (q, flushFrom) (record { flow = refl; stores = omega arith; ending = refl })
 counted (suc a) n j k f = go (λ g. counted a n (suc j) (suc k) g) (nextStore n f) refl
   where
     go : ((g : Flow) → Same (flushFrom n a (suc j) g) (flushFrom n a (suc k) g) (suc j) (suc k)) → (x : Next) → nextStore n f ≡ x
         → Same (flushFrom n (suc a) j f) (flushFrom n (suc a) k f) j k
-    go ih (stored g) q = let h = ih g in rw (moved-flush n a j f g q, moved-flush n a k f g q) (record { flow = h .flow; stores = omega (arith, h .stores) })
-    go ih (stopped e) q = rw (stopped-flush n (suc a) j f e q, stopped-flush n (suc a) k f e q) (record { flow = refl; stores = omega arith })
+    go ih (stored g) q = let h = ih g in rw (moved-flush n a j f g q, moved-flush n a k f g q) (record { flow = h .flow; stores = omega (arith, h .stores); ending = h .ending })
+    go ih (stopped e) q = rw (stopped-flush n (suc a) j f e q, stopped-flush n (suc a) k f e q) (record { flow = refl; stores = omega arith; ending = refl })
 
 -- A flush of a flushed disk drains the queue's head by both.
 ring-sum : (h i j l : ℕ) → l ≤ j → j ≤ i → ((h + (i - j)) % 32 + (j - l)) % 32 ≡ (h + (i - l)) % 32
@@ -91,14 +94,14 @@ flush-accepted : (a : ℕ) (d : Disk) → Right d → a ≤ 65535 → refusal (f
 unfolding refusal questions firstNo ask
 flush-accepted a d k l = rw (right-lengths d k, right-sound d k, le-true a 65535 l)
 
--- what is left and what is reported
+-- what is left and what is reported: the stores add up, and the ending is the second's
 pub flush-sum : (m n : ℕ) (d : Disk) → refusal (flush (m + n)) d ≡ 0
     → let x = perform (flush m) d in let y = perform (flush n) (x .disk) in let z = perform (flush (m + n)) d in
-    (z .disk ≡ y .disk) × (z .answer .value ≡ x .answer .value + y .answer .value)
+    (z .disk ≡ y .disk) × (z .answer .value ≡ x .answer .value + y .answer .value) × (z .answer .second ≡ y .answer .second)
 unfolding questions accepted
 flush-sum m n d h =
     let q = yes-all (flush (m + n)) d h in
     let k = right d (q 0) (q 1) in
     let l = leb-true (m + n) 65535 (q 2) in
     rw (perform-accepted (flush (m + n)) d h, perform-accepted (flush m) d (flush-accepted m d k (omega arith)))
-    (rw (perform-accepted (flush n) (left m d) (flush-accepted n (left m d) (left-right m d k) (omega arith))) (left-sum m n d k, stores-sum m n d k))
+    (rw (perform-accepted (flush n) (left m d) (flush-accepted n (left m d) (left-right m d k) (omega arith))) (left-sum m n d k, stores-sum m n d k, ap endingNumber (both-same m n d k .ending)))
