@@ -9,6 +9,6 @@ fn main() {
     let size = io::read_full(STDIN_FILENO, &mut card);
     // The longest text, of 16 lists and 64 blocks, has fewer than 1,400 bytes.
     let mut lines = io::buffer();
-    let length = listing::listing(&card[..size], &mut lines);
+    let length = listing::listing(&card[..size], &mut lines, 0);
     io::write_all(STDOUT_FILENO, part(&lines, 0, length));
 }

@@ -2,6 +2,7 @@
 use lists::tables::is_placed;
 use lists::tables::location_of;
 use log::layout::SLOT;
+use log::location::QUEUE_AT;
 use text::decimal::put_decimal;
 use text::line::part;
 use text::put::put_byte;
@@ -15,9 +16,6 @@ ghost use Rattle.listing.specs.Listing.{total, blockPart, blockLines};
 ghost use Rattle.listing.specs.Shown.{OfContents, sumAt};
 
 const BLOCKS: u8 = 64;
-
-// The last location of a card.
-const LOCATIONS: u16 = 1024;
 
 // The blocks on some list, ascending.
 pub fn put_blocks(
@@ -71,7 +69,7 @@ fn sum_at(card: &[u8], location: u16) -> u64
     if location == 0 {
         return 0;
     }
-    if LOCATIONS < location {
+    if QUEUE_AT <= location {
         return 0;
     }
     let from = (location as usize - 1) * SLOT;

@@ -1,4 +1,4 @@
-// The text that the lister prints for a card, put into a lent buffer.
+// The text that the lister prints for a card, put into a lent buffer from a position on.
 mod block_lines;
 mod head_line;
 mod list_lines;
@@ -23,11 +23,11 @@ const LENGTH: u64 = 1;
 const LOG: u64 = 2;
 
 // The position after the text is returned; one past the buffer's end says that it did not fit.
-pub fn listing(card: &[u8], out: &mut [u8]) -> usize
-    ensures { λ r. ⌜ Puts (now (out .entry)) 0 (Listing·listing (now (card .entry))) (now (out .exit)) r ⌝ }
+pub fn listing(card: &[u8], out: &mut [u8], at: usize) -> usize
+    ensures { λ r. ⌜ Puts (now (out .entry)) at (Listing·listing (now (card .entry))) (now (out .exit)) r ⌝ }
 {
     if !is_listable(card) {
-        return put_refusal(out, LENGTH);
+        return put_refusal(out, at, LENGTH);
     }
     let mut next = [0u8; 256];
     let mut prev = [0u8; 256];
@@ -44,8 +44,8 @@ pub fn listing(card: &[u8], out: &mut [u8]) -> usize
         &mut members,
         &mut locations,
     ) {
-        Walked::Sound(_, _) => put_state(out, card, &next, &owner, &place),
-        Walked::Fault(_, _) => put_refusal(out, LOG),
+        Walked::Sound(_, _) => put_state(out, at, card, &next, &owner, &place),
+        Walked::Fault(_, _) => put_refusal(out, at, LOG),
     }
 }
 

@@ -15,10 +15,10 @@ ghost use Rattle.text.specs.Written.{Puts};
 ghost use Rattle.listing.specs.Listing.{refusal, headLine, listLines, blockLines};
 ghost use Rattle.listing.specs.Shown.{sumAt};
 
-pub fn put_refusal(out: &mut [u8], number: u64) -> usize
-    ensures { λ r. ⌜ Puts (now (out .entry)) 0 (refusal number) (now (out .exit)) r ⌝ }
+pub fn put_refusal(out: &mut [u8], at: usize, number: u64) -> usize
+    ensures { λ r. ⌜ Puts (now (out .entry)) at (refusal number) (now (out .exit)) r ⌝ }
 {
-    let mut position = put_bytes(out, 0, b"refused ");
+    let mut position = put_bytes(out, at, b"refused ");
     position = put_decimal(out, position, number);
     put_byte(out, position, b'\n')
 }
@@ -26,6 +26,7 @@ pub fn put_refusal(out: &mut [u8], number: u64) -> usize
 // The lines of a card whose log is acceptable; the tables show its state.
 pub fn put_state(
     out: &mut [u8],
+    at: usize,
     card: &[u8],
     next: &[u8; 256],
     owner: &[u8; 256],
@@ -33,9 +34,9 @@ pub fn put_state(
 ) -> usize
     ensures { λ r. ⌜ length (now (out .exit)) ≡ length (now (out .entry)) ⌝ }
     ensures { λ r. ⌜ ((pv : List ℕ) (rs : List (Row ℕ)) → Shows (tables (now (next .entry)) pv (now (owner .entry)) (now (place .entry))) rs
-        → Puts (now (out .entry)) 0 (headLine (now (card .entry)) ++ listLines rs ++ blockLines (sumAt (now (card .entry))) rs) (now (out .exit)) r) ⌝ }
+        → Puts (now (out .entry)) at (headLine (now (card .entry)) ++ listLines rs ++ blockLines (sumAt (now (card .entry))) rs) (now (out .exit)) r) ⌝ }
 {
-    let mut position = put_head(out, 0, card);
+    let mut position = put_head(out, at, card);
     position = put_lists(out, position, next, owner);
     put_blocks(out, position, card, owner, place)
 }

@@ -5,7 +5,7 @@ use Rattle.text.specs.Hex.{isHex, hexOnly, isNibble, between}
 use Rattle.text.specs.Line.{run, wordFrom, same}
 use Rattle.script.specs.declared.command.Command.the-variants as C
 use Rattle.script.specs.Arguments.{endedAt, oneFrom, twoFrom, threeFrom, partFrom}
-use Rattle.script.specs.Commands.{alone, writeFrom, inventoryFrom, pick, cutRows, cutNamed, cutFrom, firstRows, middleRows, lastRows, named, middleNamed, lastNamed, isQuiet, commandOf}
+use Rattle.script.specs.Commands.{writeFrom, pick, cutRows, cutNamed, cutFrom, firstRows, middleRows, lastRows, named, middleNamed, lastNamed, isQuiet, commandOf}
 use Rattle.script.specs.Spelling.{bytes}
 
 quiet : (commandOf (bytes "  ") ≡ C.Nothing) × (commandOf (bytes "# format") ≡ C.Nothing) × (commandOf (bytes " # format") ≡ C.Unknown)

@@ -5,7 +5,6 @@ use lib.Seq.{slice}
 use Rattle.text.specs.Decimal.{decimal}
 use Rattle.text.specs.Hex.{hexText}
 use Rattle.listing.specs.Listing.{numbers}
-use Rattle.disk.specs.Perform.{Answer}
 use Rattle.disk.specs.Answers.{number, replyAnswer, mountAnswer, numberAnswer, flushAnswer}
 use Rattle.disk.specs.declared.answer.Reply as R
 use Rattle.disk.specs.declared.answer.MountReply as M

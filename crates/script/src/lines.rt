@@ -4,7 +4,6 @@ use text::hex::put_hex;
 use text::put::put_byte;
 use text::put::put_bytes;
 ghost use mathlib.Core.Path.{_≡_};
-ghost use mathlib.Core.List.{[], _∷_};
 ghost use Rattle.text.specs.Written.{Puts};
 ghost use Rattle.listing.specs.Listing.{numbers, listLine};
 ghost use Rattle.script.specs.Lines.{numberLine, pairLine, tripleLine, cutLine, blockLine, spaced};
@@ -21,9 +20,9 @@ pub fn put_number(out: &mut [u8], at: usize, a: u64) -> usize
 pub fn put_pair(out: &mut [u8], at: usize, a: u64, b: u64) -> usize
     ensures { λ r. ⌜ Puts (now (out .entry)) at (pairLine a b) (now (out .exit)) r ⌝ }
 {
-    let mut position = put_decimal(out, at, a);
-    position = put_spaced(out, position, b);
-    put_byte(out, position, b'\n')
+    let first = put_decimal(out, at, a);
+    let second = put_spaced(out, first, b);
+    put_byte(out, second, b'\n')
 }
 
 // `A B C`

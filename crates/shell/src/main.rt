@@ -1,20 +1,17 @@
 // Runs a script of calls on a card: `shell PATH < SCRIPT`.
-mod call;
-mod cutting;
 mod feed;
-mod look;
-mod power;
-mod run;
 mod session;
-mod state;
 
-use crate::power::cut;
 use crate::session::Session;
 use crate::session::run_whole;
-use crate::state::LONGEST_CARD;
-use crate::state::with_card;
+use commands::power::cut;
+use commands::state::LONGEST_CARD;
+use commands::state::with_card;
 use libc::STDOUT_FILENO;
 use text::line::part;
+ghost use Prim.Native.Nat.{_≤_};
+ghost use lib.ListN.{length as Len};
+ghost use Rattle.commands.specs.Ran.{longestCard};
 
 fn main() {
     let mut path = io::buffer();
@@ -66,7 +63,9 @@ fn missing() -> Loaded {
 }
 
 // Runs the script on standard input; the length of the card that it leaves.
-fn play(card: &mut [u8], size: usize) -> usize {
+fn play(card: &mut [u8], size: usize) -> usize
+    requires { ⌜ (longestCard ≤ Len (now card)) × (size ≤ Len (now card)) ⌝ }
+{
     let mut queue = [0u8; 8192];
     let mut journal = [0u8; 15360];
     let rec = cut(&mut queue, &mut journal);

@@ -2,11 +2,12 @@
 use crate::feed::Fed;
 use crate::feed::LINE;
 use crate::feed::feed;
-use crate::run::run;
-use crate::state::State;
+use commands::run::run;
+use commands::state::State;
 use libc::STDIN_FILENO;
 use libc::STDOUT_FILENO;
 use text::line::part;
+ghost use Rattle.commands.specs.Ran.{Fits};
 
 // From here on what was printed is written before another line runs: no line prints more than 35,000 bytes.
 const FULL: usize = 30000;
@@ -27,7 +28,9 @@ pub fn run_whole(
     journal: &mut [u8],
     out: &mut [u8],
     start: Session,
-) -> usize {
+) -> usize
+    requires { ⌜ Fits (now card) (start .state) ⌝ }
+{
     let session = run_script(bytes, line, card, queue, journal, out, start);
     let last = run_last(line, card, queue, journal, out, session);
     let state = last.state;
@@ -50,7 +53,10 @@ fn run_script(
     journal: &mut [u8],
     out: &mut [u8],
     start: Session,
-) -> Session {
+) -> Session
+    requires { ⌜ Fits (now card) (start .state) ⌝ }
+    ensures { λ r. ⌜ Fits (now (card .exit)) (r .state) ⌝ }
+{
     let mut session = start;
     let mut turns = u64::MAX;
     while turns > 0 {
@@ -74,7 +80,10 @@ fn turn(
     journal: &mut [u8],
     out: &mut [u8],
     session: Session,
-) -> Turned {
+) -> Turned
+    requires { ⌜ Fits (now card) (session .state) ⌝ }
+    ensures { λ r. ⌜ Fits (now (card .exit)) (r .session .state) ⌝ }
+{
     let mut next = session;
     next.at = write(out, session.at);
     let got = libc::read(STDIN_FILENO, bytes);
@@ -94,7 +103,10 @@ fn run_bytes(
     journal: &mut [u8],
     out: &mut [u8],
     start: Session,
-) -> Session {
+) -> Session
+    requires { ⌜ Fits (now card) (start .state) ⌝ }
+    ensures { λ r. ⌜ Fits (now (card .exit)) (r .state) ⌝ }
+{
     let mut session = start;
     let mut i = 0;
     while i < bytes.len() {
@@ -113,7 +125,10 @@ fn run_fed(
     journal: &mut [u8],
     out: &mut [u8],
     session: Session,
-) -> Session {
+) -> Session
+    requires { ⌜ Fits (now card) (session .state) ⌝ }
+    ensures { λ r. ⌜ Fits (now (card .exit)) (r .state) ⌝ }
+{
     let mut next = session;
     next.length = fed.length;
     if fed.whole {
@@ -131,7 +146,9 @@ fn run_last(
     journal: &mut [u8],
     out: &mut [u8],
     session: Session,
-) -> Session {
+) -> Session
+    requires { ⌜ Fits (now card) (session .state) ⌝ }
+{
     let mut last = run_line(line, card, queue, journal, out, session);
     last.at = write(out, last.at);
     last
@@ -144,7 +161,10 @@ fn run_line(
     journal: &mut [u8],
     out: &mut [u8],
     session: Session,
-) -> Session {
+) -> Session
+    requires { ⌜ Fits (now card) (session .state) ⌝ }
+    ensures { λ r. ⌜ Fits (now (card .exit)) (r .state) ⌝ }
+{
     let state = session.state;
     let ran = run(
         part(line, 0, session.length),

@@ -28,14 +28,14 @@ drop-take (suc a) zero l = rw (zero-sub (suc a))
 drop-take (suc a) (suc e) [] = take-nil (suc e - suc a)
 drop-take (suc a) (suc e) (x ∷ l) = rw (suc-sub-suc e a) (drop-take a e l)
 
-take-least : (e : ℕ) (l : List ℕ) → take (min e (length l)) l ≡ take e l
+pub take-least : (e : ℕ) (l : List ℕ) → take (min e (length l)) l ≡ take e l
 take-least e l = go (decLe e (length l))
   where
     go : Dec (e ≤ length l) → take (min e (length l)) l ≡ take e l
     go (yes h) = rw (min-eq-left h)
     go (no h) = take-all (min e (length l)) l (omega arith) ∙ sym (take-all e l (omega arith))
 
-drop-least : (s n : ℕ) (l : List ℕ) → length l ≡ n → drop (min s n) l ≡ drop s l
+pub drop-least : (s n : ℕ) (l : List ℕ) → length l ≡ n → drop (min s n) l ≡ drop s l
 drop-least s n l e = go (decLe s n)
   where
     go : Dec (s ≤ n) → drop (min s n) l ≡ drop s l

@@ -1,13 +1,10 @@
 // Bytes as hex digits, put into a buffer and read from a line.
 use crate::line::is_same;
-use crate::line::part;
 use crate::put::put_byte;
 ghost use mathlib.Core.Path.{_≡_};
-ghost use mathlib.Core.Bool.{cond};
 ghost use mathlib.Core.List.{[], _∷_};
 ghost use Prim.Native.Nat.{_<_, _≤_};
 ghost use lib.ListN.{length, getD, take};
-ghost use lib.Seq.{slice};
 ghost use Rattle.text.specs.Hex.{glyph as Hex·glyph};
 ghost use Rattle.text.specs.Hex.{nibble as Hex·nibble};
 ghost use Rattle.text.specs.Hex.{between as Hex·between};
@@ -62,20 +59,6 @@ fn glyph(digit: u8) -> u8
     }
 }
 
-// The bytes that the hex digits from `start` up to `end` spell, with zeros behind them. Where they are no hex digits, nothing is stored.
-pub fn hex(line: &[u8], start: usize, end: usize, out: &mut [u8; 256]) -> bool
-    ensures { λ r. ⌜ r ≡ isHex (slice start end (now (line .entry))) ⌝ }
-    ensures { λ r. ⌜ now (out .exit) ≡ cond r (hexBytes (slice start end (now (line .entry)))) (now (out .entry)) ⌝ }
-{
-    let text = part(line, start, end);
-    if is_hex(text) {
-        fill(text, out);
-        true
-    } else {
-        false
-    }
-}
-
 // One or more pairs of digits, at most 256, or a dash.
 pub fn is_hex(text: &[u8]) -> bool
     ensures { λ r. ⌜ r ≡ isHex (now (text .entry)) ⌝ }
@@ -108,7 +91,8 @@ fn hex_only(text: &[u8]) -> bool
     true
 }
 
-fn fill(text: &[u8], out: &mut [u8])
+// The bytes that hex digits spell, with zeros behind them.
+pub fn hex(text: &[u8], out: &mut [u8])
     requires { ⌜ length (now out) ≡ 256 ⌝ }
     ensures { λ r. ⌜ now (out .exit) ≡ hexBytes (now (text .entry)) ⌝ }
 {

@@ -4,11 +4,12 @@ use Prim.Native.Nat.{_-_}
 use native.Mathlib.Omega.{arith}
 use borrow.Author.Needs.{needs}
 use lib.ListN.{length}
+use Rattle.commands.specs.Ran.{Fits}
 use Rattle.shell.proofs.session.run_bytes.Statement.{statement}
 use Rattle.shell.proofs.session.run_bytes.Tie as tie
 
 abbrev Inv-loop : tie.InvT-loop
-Inv-loop bytes line₀ card₀ queue₀ journal₀ out₀ session₀ i₀ line card queue journal out session i = (length card ≡ length card₀) × (length queue ≡ length queue₀) × (length journal ≡ length journal₀) × (length out ≡ length out₀)
+Inv-loop bytes line₀ card₀ queue₀ journal₀ out₀ session₀ i₀ line card queue journal out session i = (length card ≡ length card₀) × (length queue ≡ length queue₀) × (length journal ≡ length journal₀) × (length out ≡ length out₀) × Fits card (session .state)
 
 abbrev μ-loop : tie.MeasureT-loop
 μ-loop bytes line₀ card₀ queue₀ journal₀ out₀ session₀ i₀ line card queue journal out session i = length bytes - i
@@ -20,7 +21,7 @@ feed-requires : tie.Need-feed-requires Inv-loop μ-loop
 feed-requires c κs = tt
 
 run-fed-requires : tie.Need-run-fed-requires Inv-loop μ-loop
-run-fed-requires c κs = tt
+run-fed-requires c κs = search needs
 
 loop-less : tie.Need-loop-less Inv-loop μ-loop
 loop-less c = let n = c .before .before .before .before .before .before .before .before .before .before .before .before .before .before .feed .ensures (c .before .before .before .before .before .before .before .before .before .before .before .before .before .before .before .before .loop-test .taken) in omega arith
@@ -41,7 +42,7 @@ same-length-4 : tie.Need-same-length-4 Inv-loop μ-loop
 same-length-4 c = search needs
 
 returns : tie.Need-returns Inv-loop μ-loop
-returns c = tt
+returns c = search needs
 
 pub run-bytes-spec : {M : Type 1} → statement M
 run-bytes-spec =

@@ -3,11 +3,12 @@ use mathlib.Core.Path.{_≡_}
 use native.Mathlib.Omega.{arith}
 use borrow.Author.Needs.{needs}
 use lib.ListN.{length}
+use Rattle.commands.specs.Ran.{Fits}
 use Rattle.shell.proofs.session.run_script.Statement.{statement}
 use Rattle.shell.proofs.session.run_script.Tie as tie
 
 abbrev Inv-loop : tie.InvT-loop
-Inv-loop bytes₀ line₀ card₀ queue₀ journal₀ out₀ session₀ turns₀ bytes line card queue journal out session turns = (length bytes ≡ length bytes₀) × (length card ≡ length card₀) × (length queue ≡ length queue₀) × (length journal ≡ length journal₀) × (length out ≡ length out₀)
+Inv-loop bytes₀ line₀ card₀ queue₀ journal₀ out₀ session₀ turns₀ bytes line card queue journal out session turns = (length bytes ≡ length bytes₀) × (length card ≡ length card₀) × (length queue ≡ length queue₀) × (length journal ≡ length journal₀) × (length out ≡ length out₀) × Fits card (session .state)
 
 abbrev μ-loop : tie.MeasureT-loop
 μ-loop bytes₀ line₀ card₀ queue₀ journal₀ out₀ session₀ turns₀ bytes line card queue journal out session turns = turns
@@ -16,7 +17,7 @@ loop-holds : tie.Need-loop-holds Inv-loop μ-loop
 loop-holds c = search needs
 
 turn-requires : tie.Need-turn-requires Inv-loop μ-loop
-turn-requires c κs = tt
+turn-requires c κs = search needs
 
 same-length : tie.Need-same-length Inv-loop μ-loop
 same-length c = search needs
@@ -34,7 +35,7 @@ same-length-5 : tie.Need-same-length-5 Inv-loop μ-loop
 same-length-5 c = search needs
 
 returns : tie.Need-returns Inv-loop μ-loop
-returns c = tt
+returns c = search needs
 
 sub-turns : tie.Need-sub-turns Inv-loop μ-loop
 sub-turns c = omega arith
@@ -61,7 +62,7 @@ same-length-10 : tie.Need-same-length-10 Inv-loop μ-loop
 same-length-10 c = search needs
 
 returns-2 : tie.Need-returns-2 Inv-loop μ-loop
-returns-2 c = tt
+returns-2 c = search needs
 
 pub run-script-spec : {M : Type 1} → statement M
 run-script-spec =

@@ -26,9 +26,16 @@ abbrev put-decimal-below : ℕ → In 1 put-decimal-kinds.ps
 put-decimal-below t =
     and 1 put-decimal-kinds.ps (falls 1 put-decimal-kinds.ps _<_ μ-put-decimal t) put-decimal.Pre
 
--- in the order of the needs: one digit (what `glyph` and `put_byte` require, the length, the result), then more (what the three calls require, the length, the result)
-pub +put-decimal-spec : {M : Type 1} → statement M
-+put-decimal-spec = close μ-put-decimal λ t. put-decimal-lts.spec (
+-- the body at the measure t; in the order of the needs: one digit (what `glyph` and `put_byte` require, the length, the result), then more (what the three calls require, the length, the result)
+body : {M : Type 1} → (t : ℕ) → put-decimal-lts.Closed (
+  glyph-reads.Asked,
+  glyph-reads.Learnt,
+  put-byte-reads.Asked,
+  put-byte-reads.Learnt,
+  put-decimal-below t,
+  put-decimal.Post,
+) (put-decimal-at t) put-decimal.Post M
+body t = put-decimal-lts.spec (
   glyph-reads.Asked,
   glyph-reads.Learnt,
   put-byte-reads.Asked,
@@ -54,3 +61,6 @@ pub +put-decimal-spec : {M : Type 1} → statement M
     let a = c .before .before .before .before .before .before .before .before .before .before .before .args in
     rw (decimal-more (a .n) (omega arith), ← c .before .before .before .glyph2 .ensures)
     (puts-more (c .before .before .before .before .before .before .before .put-decimal .ensures) (c .before .before .put-byte2 .ensures)))
+
+pub +put-decimal-spec : {M : Type 1} → statement M
++put-decimal-spec = close μ-put-decimal body

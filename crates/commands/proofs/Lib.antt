@@ -1,0 +1,10 @@
+pub mod Accepted
+pub mod Breaking
+pub mod Calling
+pub mod Events
+pub mod Kept
+pub mod Lending
+pub mod Ranges
+pub mod Running
+pub mod Showing
+pub mod Tags

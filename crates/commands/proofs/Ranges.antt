@@ -1,0 +1,101 @@
+-- The block behind another on a list fits a byte: no change of a log puts a block above 64.
+use mathlib.Core.Path.{_≡_, refl, sym, ap, _∙_}
+use mathlib.Core.Logic.{_≢_}
+use mathlib.Core.Bool.{Bool, true, false, _&&_, _||_, not}
+use mathlib.Core.List.{List, [], _∷_, map}
+use Prim.Native.Nat.{ℕ, _≤_, _<_}
+use native.Mathlib.Omega.{arith}
+use native.Mathlib.Decide.{decLe}
+use lib.Dec.{leb, eqb}
+use lib.ListN.{getD}
+use Rattle.lists.specs.Basic.{any}
+use Rattle.lists.specs.Change.{Change, takeList, putFirst, putAfter, write, delBlock, delList, mapChange}
+use Rattle.lists.specs.State.{Block, Row, isBlockNum, onRow, placed}
+use Rattle.lists.specs.Lookup.{blocksOf, nextIn, nextAfter}
+use Rattle.lists.proofs.Basic.{and-true, or-both, not-false, not-true, leb-true, eqb-false, eqb-neq}
+use Rattle.lists.proofs.Count.{puts}
+use Rattle.lists.proofs.Placed.{placed-apply}
+use Rattle.log.specs.Entry.{legalChange, isBlock, isList}
+use Rattle.log.specs.Card.{Content, zeros}
+use Rattle.disk.specs.Disk.{Disk, view}
+use Rattle.disk.specs.Call.{blockAfter}
+use Rattle.disk.specs.Questions.{viewOpen, questions, refusal}
+use Rattle.disk.specs.Perform.{Result, perform, accepted}
+use Rattle.disk.specs.declared.answer.NumberReply as N
+use Rattle.disk.specs.Answers.{numberAnswer}
+use Rattle.calls.specs.Performs.{Performs}
+use Rattle.disk.proofs.Questions.{yes-all}
+use Rattle.disk.proofs.Clauses.{Right, right}
+use Rattle.disk.proofs.Performing.{perform-accepted}
+use Rattle.commands.proofs.Kept.{view-kept}
+use Rattle.commands.proofs.Accepted.{code-accepted}
+
+-- A block above 64 is on no list of an open view.
+module _ (b : ℕ) (far : 64 < b) where
+  other : (n : ℕ) → isBlock n ≡ true → not (eqb n b) ≡ true
+  other n h = not-true (eqb n b) (eqb-false n b (λ e. absurd (omega (arith, leb-true n 64 (and-true (leb 1 n) (leb n 64) h .1)))))
+
+  legal-spares : (k : ℕ) (c : Change Content) → legalChange (mapChange (λ x. k) c) ≡ true → not (puts c b) ≡ true
+  unfolding legalChange mapChange
+  legal-spares k (takeList l) h = refl
+  legal-spares k (putFirst n l) h = other n (and-true (isBlock n) (isList l) h .0)
+  legal-spares k (putAfter n l p) h = other n (and-true (isBlock n) (isList l) (and-true (isBlock n && isList l) (isBlock p) h .0) .0)
+  legal-spares k (write n x) h = refl
+  legal-spares k (delBlock n) h = refl
+  legal-spares k (delList l) h = refl
+
+  unplaced : (d : Disk) → Right d → (v : ℕ) → viewOpen d v ≡ true → placed b (view d v .lists) ≡ false
+  unfolding placed
+  unplaced d k v h =
+      view-kept (λ s. placed b (s .lists) ≡ false) (λ c. not (puts c b)) refl legal-spares
+      (λ c s t p e q. placed-apply zeros c s t b (not-false (puts c b) p) q e) d k v h
+
+  -- nor does it follow another there
+  following : (p : ℕ) (ns : List ℕ) → any (λ n. eqb n b) ns ≡ false → nextIn p ns ≢ b
+  unfolding nextIn
+  following p [] h = λ e. absurd (omega arith)
+  following p (n ∷ ns) h = let (x, y) = or-both (eqb n b) (any (λ m. eqb m b) ns) h in go y (following p ns y) (eqb n p) refl
+    where
+      first : (ms : List ℕ) → any (λ m. eqb m b) ms ≡ false → getD ms 0 0 ≢ b
+      first [] y e = absurd (omega arith)
+      first (m ∷ ms) y e = absurd (eqb-neq m b (or-both (eqb m b) (any (λ k. eqb k b) ms) y .0) e)
+
+      go : any (λ m. eqb m b) ns ≡ false → nextIn p ns ≢ b → (t : Bool) → eqb n p ≡ t → nextIn p (n ∷ ns) ≢ b
+      go y ih true f = rw (f, nextIn) (first ns y)
+      go y ih false f = rw (f, nextIn) ih
+
+  away : (l : ℕ) (rs : List (Row Content)) → placed b rs ≡ false → any (λ n. eqb n b) (blocksOf rs l) ≡ false
+  unfolding placed blocksOf
+  away l [] h = refl
+  away l (r ∷ rs) h =
+      let (x, y) = or-both (onRow b r) (placed b rs) h in
+      go x (away l rs y) (eqb (r .num) l) refl
+    where
+      on : (xs : List (Block Content)) → any (isBlockNum b) xs ≡ any (λ n. eqb n b) (map (λ x. x .num) xs)
+      on [] = refl
+      on (x ∷ xs) = ap (λ (t : Bool). eqb (x .num) b || t) (on xs)
+
+      go : onRow b r ≡ false → any (λ n. eqb n b) (blocksOf rs l) ≡ false → (t : Bool) → eqb (r .num) l ≡ t → any (λ n. eqb n b) (blocksOf (r ∷ rs) l) ≡ false
+      go x ih true f = rw (f, blocksOf) (sym (on (r .blocks)) ∙ x)
+      go x ih false f = rw (f, blocksOf) ih
+
+  next-other : (rs : List (Row Content)) (l p : ℕ) → placed b rs ≡ false → nextAfter rs l p ≢ b
+  unfolding nextAfter
+  next-other rs l p h = following p (0 ∷ blocksOf rs l) (rw (eqb-false 0 b (λ e. absurd (omega arith))) (away l rs h))
+
+module _ (d : Disk) (v l p : ℕ) where
+  next-most : refusal (blockAfter v l p) d ≡ 0 → perform (blockAfter v l p) d .answer .value ≤ 64
+  unfolding questions accepted
+  next-most h =
+      let y = yes-all (blockAfter v l p) d h in
+      let n = nextAfter (view d v .lists) l p in
+      rw (perform-accepted (blockAfter v l p) d h)
+      (go n (λ b f. next-other b f (view d v .lists) l p (unplaced b f d (right d (y 0) (y 1)) v (y 2))))
+    where
+      go : (n : ℕ) → ((b : ℕ) → 64 < b → n ≢ b) → n ≤ 64
+      go n f = elim (decLe n 64) [ yes q ↦ q | no q ↦ absurd (f n (omega arith) refl) ]
+
+  -- an answer that is a number is one of an accepted call
+  pub behind-most : (n : ℕ) → Performs (blockAfter v l p) d d (numberAnswer (N.the-variants.Number n)) [] → n ≤ 64
+  unfolding numberAnswer
+  behind-most n h = rw (← (ap (λ (x : Result). x .answer .value) h)) (next-most (code-accepted (blockAfter v l p) d (ap (λ (x : Result). x .answer .code) h)))

@@ -1,0 +1,56 @@
+-- The digits' bytes are written, and the answer put. Assumes nothing.
+use mathlib.Core.Path.{refl}
+use Rattle.disk.specs.Disk.{disk}
+use Rattle.disk.specs.Call.{writeBlock}
+use Rattle.script.specs.Arguments.{textOf}
+use Rattle.script.specs.Lines as L
+use Rattle.commands.specs.Replies.{lineOf}
+use Rattle.commands.specs.Called.{dataLent}
+use Rattle.commands.proofs.Calling.{calls}
+use borrow.Author.Needs.{needs}
+use Rattle.commands.proofs.call.write.Statement.{statement}
+use Rattle.commands.proofs.call.write.Tie as tie
+
+part-requires : tie.Need-part-requires
+part-requires c κs = search needs
+
+slice-aggregate-hex : tie.Need-slice-aggregate-hex
+slice-aggregate-hex c = search needs
+
+hex-requires : tie.Need-hex-requires
+hex-requires c κs = search needs
+
+write-part-requires : tie.Need-write-part-requires
+write-part-requires c κs = search needs
+
+answered-requires : tie.Need-answered-requires
+answered-requires c κs = search needs
+
+same-length : tie.Need-same-length
+same-length c = search needs
+
+same-length-2 : tie.Need-same-length-2
+same-length-2 c = search needs
+
+same-length-3 : tie.Need-same-length-3
+same-length-3 c = search needs
+
+returns : tie.Need-returns
+unfolding dataLent lineOf L.answerLine
+returns c =
+    let a = c .before .before .before .before .before .before .before .before .before .before .before .before .before .before .before .before .before .before .before .before .before .args in
+    calls (writeBlock (a .stream) (a .block) (dataLent (textOf (a .line .now) (a .digits)) (a .lent))) (disk (a .card .now) (a .queue .now) (a .journal .now) (a .rec)) (rw (c .before .before .before .before .before .before .before .before .before .before .before .before .before .hex .ensures, c .before .before .before .before .before .before .before .before .before .before .before .before .before .before .before .part .ensures) at (c .before .before .before .before .before .before .before .before .write-part .ensures)) refl (c .before .before .answered .ensures)
+
+pub write-spec : {M : Type 1} → statement M
+write-spec =
+    tie.close
+    (tie.spec
+    part-requires
+    slice-aggregate-hex
+    hex-requires
+    write-part-requires
+    answered-requires
+    same-length
+    same-length-2
+    same-length-3
+    returns)

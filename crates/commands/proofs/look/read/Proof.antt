@@ -1,0 +1,46 @@
+-- The call on the lent bytes, and its line. Assumes nothing.
+use mathlib.Core.Path.{refl}
+use Rattle.disk.specs.Disk.{disk}
+use Rattle.disk.specs.Call.{readBlock}
+use Rattle.commands.specs.Replies.{lineOf}
+use Rattle.commands.specs.Called.{bytesLent}
+use Rattle.commands.proofs.Calling.{read-line, calls}
+use borrow.Author.Needs.{needs}
+use Rattle.commands.proofs.look.read.Statement.{statement}
+use Rattle.commands.proofs.look.read.Tie as tie
+
+slice-aggregate-read-part : tie.Need-slice-aggregate-read-part
+slice-aggregate-read-part c = search needs
+
+read-part-requires : tie.Need-read-part-requires
+read-part-requires c κs = search needs
+
+slice-aggregate-part : tie.Need-slice-aggregate-part
+slice-aggregate-part c = search needs
+
+part-requires : tie.Need-part-requires
+part-requires c κs = search needs
+
+put-read-requires : tie.Need-put-read-requires
+put-read-requires c κs = search needs
+
+same-length : tie.Need-same-length
+same-length c = search needs
+
+returns : tie.Need-returns
+unfolding bytesLent lineOf
+returns c =
+    let a = c .before .before .before .before .before .before .before .before .before .before .before .before .before .args in
+    calls (readBlock (a .view) (a .block) (bytesLent (a .lent))) (disk (a .card .now) (a .queue .now) (a .journal .now) (a .rec)) (c .before .before .before .before .before .before .before .read-part .ensures) (read-line _ _) (refl, rw (c .before .before .before .part .ensures) at (c .before .before .put-read .ensures))
+
+pub read-spec : {M : Type 1} → statement M
+read-spec =
+    tie.close
+    (tie.spec
+    slice-aggregate-read-part
+    read-part-requires
+    slice-aggregate-part
+    part-requires
+    put-read-requires
+    same-length
+    returns)

@@ -1,0 +1,60 @@
+-- By the cases of the reply. Assumes nothing.
+use Rattle.log.specs.Card.{zeros}
+use Rattle.disk.specs.Disk.{disk}
+use Rattle.text.proofs.Writing.{puts-none}
+use Rattle.commands.proofs.Showing.{block-read, block-unread}
+use borrow.Author.Needs.{needs}
+use Rattle.commands.proofs.show.show_block.Statement.{statement}
+use Rattle.commands.proofs.show.show_block.Tie as tie
+
+slice-aggregate-read : tie.Need-slice-aggregate-read
+slice-aggregate-read c = search needs
+
+read-requires : tie.Need-read-requires
+read-requires c κs = search needs
+
+enum-told : tie.Need-enum-told
+enum-told c = search needs
+
+slice-aggregate-put-block : tie.Need-slice-aggregate-put-block
+slice-aggregate-put-block c = search needs
+
+put-block-requires : tie.Need-put-block-requires
+put-block-requires c κs = search needs
+
+enum-told-2 : tie.Need-enum-told-2
+enum-told-2 c = search needs
+
+same-length : tie.Need-same-length
+same-length c = search needs
+
+returns : tie.Need-returns
+unfolding zeros
+returns c =
+    let e = c .before .before .before .before .before in
+    let r = e .before .before .before in
+    let a = r .before .before .before .before .before .before .args in
+    let d = disk (a .card .now) (a .queue .now) (a .journal .now) (a .rec) in
+    rw (block-read d (a .view) (a .block) _ (rw (e .enum-told .given .1) at (r .read .ensures))) (c .before .before .put-block .ensures)
+
+returns-2 : tie.Need-returns-2
+unfolding zeros
+returns-2 c =
+    let r = c .before .before .before in
+    let a = r .before .before .before .before .before .before .args in
+    let d = disk (a .card .now) (a .queue .now) (a .journal .now) (a .rec) in
+    rw (block-unread d (a .view) (a .block) _ _ (rw (c .enum-told2 .given .1) at (r .read .ensures))) (puts-none (a .out .now) (a .at))
+
+pub show-block-spec : {M : Type 1} → statement M
+show-block-spec =
+    tie.close
+    (tie.spec
+    slice-aggregate-read
+    read-requires
+    enum-told
+    slice-aggregate-put-block
+    put-block-requires
+    enum-told-2
+    same-length
+    returns
+    returns-2)

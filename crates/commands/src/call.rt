@@ -1,0 +1,239 @@
+// The commands that are calls, on what is lent to them.
+use crate::look::look;
+use calls::replied::FlushReplied;
+use calls::replied::MountReplied;
+use calls::replied::NumberReplied;
+use calls::replied::Replied;
+use disk::record::Record;
+use script::command::Command;
+use script::replies::put_answer;
+use script::replies::put_flushed;
+use script::replies::put_mounted;
+use script::replies::put_numbered;
+use text::hex::hex;
+use text::line::part;
+use text::put::put_bytes;
+use text::word::Word;
+ghost use mathlib.Core.Path.{_≡_};
+ghost use mathlib.Core.List.{List, [], _++_};
+ghost use mathlib.Core.Option.{some};
+ghost use Prim.Native.Nat.{ℕ};
+ghost use lib.ListN.{take, replicate};
+ghost use Rattle.disk.specs.Disk.{disk};
+ghost use Rattle.disk.specs.Call.{writeBlock};
+ghost use Rattle.disk.specs.Answers.{replyAnswer};
+ghost use Rattle.calls.specs.Performs.{Performs};
+ghost use Rattle.script.specs.Arguments.{textOf};
+ghost use Rattle.script.specs.Lines.{answerLine, numberedLine, mountLine, flushLine};
+ghost use Rattle.text.specs.Written.{Puts};
+ghost use Rattle.commands.specs.Called.{callOf, dataLent, Calls};
+ghost use Rattle.commands.specs.Tags.{stores, Beyond};
+
+// The record that a call leaves, and the position behind its line.
+pub struct Called {
+    pub rec: Record,
+    pub at: usize,
+}
+
+pub fn call(
+    c: Command,
+    line: &[u8],
+    card: &mut [u8],
+    queue: &mut [u8],
+    journal: &mut [u8],
+    rec: Record,
+    out: &mut [u8],
+    at: usize,
+) -> Called
+    ensures { λ r. ⌜ Calls (callOf (now (line .entry)) c) (disk (now (card .entry)) (now (queue .entry)) (now (journal .entry)) rec) (disk (now (card .exit)) (now (queue .exit)) (now (journal .exit)) (r .rec)) (now (out .entry)) at (now (out .exit)) (r .at) ⌝ }
+{
+    match c {
+        Command::Format => answered(calls::format::format(card, queue, journal, rec), out, at),
+        Command::End { unit } => answered(
+            calls::end::end(card, queue, journal, rec, unit as usize),
+            out,
+            at,
+        ),
+        Command::Write {
+            stream,
+            block,
+            lent,
+            digits,
+        } => {
+            write(
+                line,
+                card,
+                queue,
+                journal,
+                rec,
+                stream as usize,
+                block as usize,
+                lent as usize,
+                digits,
+                out,
+                at,
+            )
+        }
+        Command::Flush { allowance } => flushed(
+            calls::flush::flush(card, queue, journal, rec, allowance as usize),
+            out,
+            at,
+        ),
+        _ => change(c, card, queue, journal, rec, out, at),
+    }
+}
+
+// The calls that store in no buffer that is lent.
+fn change(
+    c: Command,
+    card: &[u8],
+    queue: &[u8],
+    journal: &[u8],
+    rec: Record,
+    out: &mut [u8],
+    at: usize,
+) -> Called
+    requires { ⌜ Beyond stores c ⌝ }
+    ensures { λ r. ⌜ ((line : List ℕ) → Calls (callOf line c) (disk (now (card .entry)) (now (queue .entry)) (now (journal .entry)) rec) (disk (now (card .entry)) (now (queue .entry)) (now (journal .entry)) (r .rec)) (now (out .entry)) at (now (out .exit)) (r .at)) ⌝ }
+{
+    match c {
+        Command::Mount => mounted(calls::mount::mount(card, queue, journal, rec), out, at),
+        Command::Begin { unit } => answered(
+            calls::begin::begin(card, queue, journal, rec, unit as usize),
+            out,
+            at,
+        ),
+        Command::NewList { stream } => numbered(
+            calls::new_list::new_list(card, queue, journal, rec, stream as usize),
+            out,
+            at,
+        ),
+        Command::NewBlock {
+            stream,
+            list,
+            predecessor,
+        } => {
+            numbered(
+                calls::new_block::new_block(
+                    card,
+                    queue,
+                    journal,
+                    rec,
+                    stream as usize,
+                    list as usize,
+                    predecessor as usize,
+                ),
+                out,
+                at,
+            )
+        }
+        Command::DeleteBlock { stream, block } => answered(
+            calls::delete_block::delete_block(
+                card,
+                queue,
+                journal,
+                rec,
+                stream as usize,
+                block as usize,
+            ),
+            out,
+            at,
+        ),
+        Command::DeleteList { stream, list } => answered(
+            calls::delete_list::delete_list(
+                card,
+                queue,
+                journal,
+                rec,
+                stream as usize,
+                list as usize,
+            ),
+            out,
+            at,
+        ),
+        _ => look(c, card, queue, journal, rec, out, at),
+    }
+}
+
+fn write(
+    line: &[u8],
+    card: &[u8],
+    queue: &mut [u8],
+    journal: &mut [u8],
+    rec: Record,
+    stream: usize,
+    block: usize,
+    lent: usize,
+    digits: Word,
+    out: &mut [u8],
+    at: usize,
+) -> Called
+    ensures { λ r. ⌜ Calls (some (writeBlock stream block (dataLent (textOf (now (line .entry)) digits) lent))) (disk (now (card .entry)) (now (queue .entry)) (now (journal .entry)) rec) (disk (now (card .entry)) (now (queue .exit)) (now (journal .exit)) (r .rec)) (now (out .entry)) at (now (out .exit)) (r .at) ⌝ }
+{
+    let mut bytes = [0u8; 256];
+    hex(part(line, digits.start, digits.end), &mut bytes);
+    let done = write_part(&bytes, lent, card, queue, journal, rec, stream, block);
+    answered(done, out, at)
+}
+
+// The data lent are the first of these bytes, and zeros behind them.
+fn write_part(
+    bytes: &[u8; 256],
+    lent: usize,
+    card: &[u8],
+    queue: &mut [u8],
+    journal: &mut [u8],
+    rec: Record,
+    stream: usize,
+    block: usize,
+) -> Replied
+    ensures { λ r. ⌜ Performs (writeBlock stream block (take lent (now (bytes .entry) ++ replicate 44 0))) (disk (now (card .entry)) (now (queue .entry)) (now (journal .entry)) rec) (disk (now (card .entry)) (now (queue .exit)) (now (journal .exit)) (r .rec)) (replyAnswer (r .reply)) [] ⌝ }
+{
+    let mut content = [0u8; 300];
+    put_bytes(&mut content, 0, bytes);
+    calls::write::write(
+        card,
+        queue,
+        journal,
+        rec,
+        stream,
+        block,
+        part(&content, 0, lent),
+    )
+}
+
+fn answered(done: Replied, out: &mut [u8], at: usize) -> Called
+    ensures { λ r. ⌜ (r .rec ≡ done .rec) × Puts (now (out .entry)) at (answerLine (done .reply)) (now (out .exit)) (r .at) ⌝ }
+{
+    let rec = done.rec;
+    let reply = done.reply;
+    let next = put_answer(out, at, reply);
+    Called { rec, at: next }
+}
+
+fn mounted(done: MountReplied, out: &mut [u8], at: usize) -> Called
+    ensures { λ r. ⌜ (r .rec ≡ done .rec) × Puts (now (out .entry)) at (mountLine (done .reply)) (now (out .exit)) (r .at) ⌝ }
+{
+    let rec = done.rec;
+    let reply = done.reply;
+    let next = put_mounted(out, at, reply);
+    Called { rec, at: next }
+}
+
+fn numbered(done: NumberReplied, out: &mut [u8], at: usize) -> Called
+    ensures { λ r. ⌜ (r .rec ≡ done .rec) × Puts (now (out .entry)) at (numberedLine (done .reply)) (now (out .exit)) (r .at) ⌝ }
+{
+    let rec = done.rec;
+    let number = done.reply;
+    let next = put_numbered(out, at, number);
+    Called { rec, at: next }
+}
+
+fn flushed(done: FlushReplied, out: &mut [u8], at: usize) -> Called
+    ensures { λ r. ⌜ (r .rec ≡ done .rec) × Puts (now (out .entry)) at (flushLine (done .reply)) (now (out .exit)) (r .at) ⌝ }
+{
+    let rec = done.rec;
+    let reply = done.reply;
+    let next = put_flushed(out, at, reply);
+    Called { rec, at: next }
+}

@@ -1,0 +1,157 @@
+// The calls that change nothing; read and the inventory, on so many bytes as are lent to them.
+use crate::call::Called;
+use crate::state::within;
+use disk::answer::NumberReply;
+use disk::answer::Reply;
+use disk::record::Record;
+use script::command::Command;
+use script::replies::put_inventory;
+use script::replies::put_numbered;
+use script::replies::put_read;
+use text::line::part;
+ghost use mathlib.Core.List.{List};
+ghost use mathlib.Core.Option.{some};
+ghost use Prim.Native.Nat.{ℕ};
+ghost use lib.ListN.{take};
+ghost use Rattle.disk.specs.Disk.{disk};
+ghost use Rattle.disk.specs.Call as call;
+ghost use Rattle.disk.specs.Answers.{replyAnswer, numberAnswer};
+ghost use Rattle.calls.specs.Performs.{Performs};
+ghost use Rattle.commands.specs.Called.{callOf, bytesLent, Calls};
+ghost use Rattle.commands.specs.Tags.{stores, changes, Beyond};
+
+// The most bytes that are lent as a destination.
+const PART: usize = 300;
+
+pub fn look(
+    c: Command,
+    card: &[u8],
+    queue: &[u8],
+    journal: &[u8],
+    rec: Record,
+    out: &mut [u8],
+    at: usize,
+) -> Called
+    requires { ⌜ Beyond stores c × Beyond changes c ⌝ }
+    ensures { λ r. ⌜ ((line : List ℕ) → Calls (callOf line c) (disk (now (card .entry)) (now (queue .entry)) (now (journal .entry)) rec) (disk (now (card .entry)) (now (queue .entry)) (now (journal .entry)) (r .rec)) (now (out .entry)) at (now (out .exit)) (r .at)) ⌝ }
+{
+    match c {
+        Command::Read { view, block, lent } => {
+            let next = read(
+                card,
+                queue,
+                journal,
+                rec,
+                view as usize,
+                block as usize,
+                lent as usize,
+                out,
+                at,
+            );
+            Called { rec, at: next }
+        }
+        Command::Next {
+            view,
+            list,
+            predecessor,
+        } => {
+            let reply = calls::next::next(
+                card,
+                queue,
+                journal,
+                rec,
+                view as usize,
+                list as usize,
+                predecessor as usize,
+            );
+            let next = put_numbered(out, at, reply);
+            Called { rec, at: next }
+        }
+        Command::Conflicts => {
+            let reply = calls::conflicts::conflicts(card, queue, journal, rec);
+            let next = put_numbered(out, at, reply);
+            Called { rec, at: next }
+        }
+        Command::Inventory { view, lent } => {
+            let next = inventory(
+                card,
+                queue,
+                journal,
+                rec,
+                view as usize,
+                lent as usize,
+                out,
+                at,
+            );
+            Called { rec, at: next }
+        }
+        _ => Called { rec, at },
+    }
+}
+
+fn read(
+    card: &[u8],
+    queue: &[u8],
+    journal: &[u8],
+    rec: Record,
+    view: usize,
+    block: usize,
+    lent: usize,
+    out: &mut [u8],
+    at: usize,
+) -> usize
+    ensures { λ r. ⌜ Calls (some (call.readBlock view block (bytesLent lent))) (disk (now (card .entry)) (now (queue .entry)) (now (journal .entry)) rec) (disk (now (card .entry)) (now (queue .entry)) (now (journal .entry)) rec) (now (out .entry)) at (now (out .exit)) r ⌝ }
+{
+    let mut content = [0u8; PART];
+    let reply = read_part(card, queue, journal, rec, view, block, lent, &mut content);
+    put_read(out, at, reply, part(&content, 0, lent))
+}
+
+// The destination is the first so many bytes.
+fn read_part(
+    card: &[u8],
+    queue: &[u8],
+    journal: &[u8],
+    rec: Record,
+    view: usize,
+    block: usize,
+    lent: usize,
+    content: &mut [u8],
+) -> Reply
+    ensures { λ r. ⌜ Performs (call.readBlock view block (take lent (now (content .entry)))) (disk (now (card .entry)) (now (queue .entry)) (now (journal .entry)) rec) (disk (now (card .entry)) (now (queue .entry)) (now (journal .entry)) rec) (replyAnswer r) (take lent (now (content .exit))) ⌝ }
+{
+    let n = within(lent, content);
+    calls::read::read(card, queue, journal, rec, view, block, &mut content[..n])
+}
+
+fn inventory(
+    card: &[u8],
+    queue: &[u8],
+    journal: &[u8],
+    rec: Record,
+    view: usize,
+    lent: usize,
+    out: &mut [u8],
+    at: usize,
+) -> usize
+    ensures { λ r. ⌜ Calls (some (call.inventory view (bytesLent lent))) (disk (now (card .entry)) (now (queue .entry)) (now (journal .entry)) rec) (disk (now (card .entry)) (now (queue .entry)) (now (journal .entry)) rec) (now (out .entry)) at (now (out .exit)) r ⌝ }
+{
+    let mut lists = [0u8; PART];
+    let reply = inventory_part(card, queue, journal, rec, view, lent, &mut lists);
+    put_inventory(out, at, reply, part(&lists, 0, lent))
+}
+
+fn inventory_part(
+    card: &[u8],
+    queue: &[u8],
+    journal: &[u8],
+    rec: Record,
+    view: usize,
+    lent: usize,
+    lists: &mut [u8],
+) -> NumberReply
+    ensures { λ r. ⌜ Performs (call.inventory view (take lent (now (lists .entry)))) (disk (now (card .entry)) (now (queue .entry)) (now (journal .entry)) rec) (disk (now (card .entry)) (now (queue .entry)) (now (journal .entry)) rec) (numberAnswer r) (take lent (now (lists .exit))) ⌝ }
+{
+    let n = within(lent, lists);
+    calls::inventory::inventory(card, queue, journal, rec, view, &mut lists[..n])
+}

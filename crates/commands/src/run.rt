@@ -1,0 +1,272 @@
+// One line of a script, run.
+use crate::call::call;
+use crate::cutting::cut_flush;
+use crate::cutting::cut_format;
+use crate::power::cut;
+use crate::power::fill;
+use crate::show::show;
+use crate::state::JOURNAL_DATA;
+use crate::state::LONGEST_CARD;
+use crate::state::QUEUE_DATA;
+use crate::state::Ran;
+use crate::state::State;
+use crate::state::least;
+use crate::state::with_card;
+use crate::state::with_record;
+use crate::state::within;
+use script::command::Command;
+use script::lines::put_number;
+use script::parse::command;
+use text::adler::adler32;
+use text::line::part;
+use text::put::put_bytes;
+ghost use mathlib.Core.Path.{_≡_};
+ghost use mathlib.Core.List.{List, _++_};
+ghost use Prim.Native.Nat.{ℕ, min, _≤_};
+ghost use lib.ListN.{length as Len};
+ghost use lib.ListN.{drop, replicate};
+ghost use Rattle.text.specs.Written.{Puts};
+ghost use Rattle.script.specs.Commands.{commandOf};
+ghost use Rattle.commands.specs.Shell.{shellOf, lentDisk};
+ghost use Rattle.commands.specs.Called.{callOf, performed};
+ghost use Rattle.commands.specs.Cut.{cutBetween};
+ghost use Rattle.commands.specs.Shown.{shown};
+ghost use Rattle.commands.specs.Ran.{ok, inserted, poked, longestCard, ran, Fits, Runs};
+ghost use Rattle.commands.specs.Tags.{cards, lends, Beyond};
+
+pub fn run(
+    line: &[u8],
+    card: &mut [u8],
+    queue: &mut [u8],
+    journal: &mut [u8],
+    state: State,
+    out: &mut [u8],
+    at: usize,
+) -> Ran
+    requires { ⌜ Fits (now card) state ⌝ }
+    ensures { λ r. ⌜ Runs (ran (now (line .entry)) (commandOf (now (line .entry))) (shellOf (now (card .entry)) (now (queue .entry)) (now (journal .entry)) state)) (now (card .entry)) (now (out .entry)) at (now (card .exit)) (now (queue .exit)) (now (journal .exit)) (now (out .exit)) r ⌝ }
+{
+    run_command(command(line), line, card, queue, journal, state, out, at)
+}
+
+fn run_command(
+    c: Command,
+    line: &[u8],
+    card: &mut [u8],
+    queue: &mut [u8],
+    journal: &mut [u8],
+    state: State,
+    out: &mut [u8],
+    at: usize,
+) -> Ran
+    requires { ⌜ Fits (now card) state ⌝ }
+    ensures { λ r. ⌜ Runs (ran (now (line .entry)) c (shellOf (now (card .entry)) (now (queue .entry)) (now (journal .entry)) state)) (now (card .entry)) (now (out .entry)) at (now (card .exit)) (now (queue .exit)) (now (journal .exit)) (now (out .exit)) r ⌝ }
+{
+    match c {
+        Command::Nothing => Ran { state, at },
+        Command::Unknown => said(state, out, at, b"?\n"),
+        Command::Card { length, byte } => {
+            put_in(card, queue, journal, length as usize, byte, out, at)
+        }
+        Command::Cut => cut_between(queue, journal, state, out, at),
+        Command::CutFlush { allowance, stores } => cut_flush(
+            card,
+            queue,
+            journal,
+            state,
+            allowance as usize,
+            stores as usize,
+            out,
+            at,
+        ),
+        Command::CutFormat { stores } => {
+            cut_format(card, queue, journal, state, stores as usize, out, at)
+        }
+        Command::Poke { at: place, byte } => poke(card, state, place as usize, byte, out, at),
+        _ => run_lend(c, line, card, queue, journal, state, out, at),
+    }
+}
+
+// How much is lent from now on.
+fn run_lend(
+    c: Command,
+    line: &[u8],
+    card: &mut [u8],
+    queue: &mut [u8],
+    journal: &mut [u8],
+    state: State,
+    out: &mut [u8],
+    at: usize,
+) -> Ran
+    requires { ⌜ Fits (now card) state × Beyond cards c ⌝ }
+    ensures { λ r. ⌜ Runs (ran (now (line .entry)) c (shellOf (now (card .entry)) (now (queue .entry)) (now (journal .entry)) state)) (now (card .entry)) (now (out .entry)) at (now (card .exit)) (now (queue .exit)) (now (journal .exit)) (now (out .exit)) r ⌝ }
+{
+    match c {
+        Command::LendCard { most } => {
+            let mut next = state;
+            next.card = least(most as usize, state.size);
+            said(next, out, at, b"ok\n")
+        }
+        Command::LendQueue { most } => {
+            let mut next = state;
+            next.queue = least(most as usize, QUEUE_DATA);
+            said(next, out, at, b"ok\n")
+        }
+        Command::LendJournal { most } => {
+            let mut next = state;
+            next.journal = least(most as usize, JOURNAL_DATA);
+            said(next, out, at, b"ok\n")
+        }
+        Command::LendAll => {
+            let rec = state.rec;
+            said(with_card(rec, state.size), out, at, b"ok\n")
+        }
+        _ => run_print(c, line, card, queue, journal, state, out, at),
+    }
+}
+
+// What only prints; all else are calls.
+fn run_print(
+    c: Command,
+    line: &[u8],
+    card: &mut [u8],
+    queue: &mut [u8],
+    journal: &mut [u8],
+    state: State,
+    out: &mut [u8],
+    at: usize,
+) -> Ran
+    requires { ⌜ Fits (now card) state × Beyond cards c × Beyond lends c ⌝ }
+    ensures { λ r. ⌜ Runs (ran (now (line .entry)) c (shellOf (now (card .entry)) (now (queue .entry)) (now (journal .entry)) state)) (now (card .entry)) (now (out .entry)) at (now (card .exit)) (now (queue .exit)) (now (journal .exit)) (now (out .exit)) r ⌝ }
+{
+    match c {
+        Command::Sum => {
+            let sum = adler32(part(card, 0, state.size));
+            let next = put_number(out, at, sum as u64);
+            Ran { state, at: next }
+        }
+        Command::Listing => {
+            let next = listing::listing(part(card, 0, state.size), out, at);
+            Ran { state, at: next }
+        }
+        Command::Show { view } => {
+            let next = show_lent(card, queue, journal, state, view as usize, out, at);
+            Ran { state, at: next }
+        }
+        _ => lent(c, line, card, queue, journal, state, out, at),
+    }
+}
+
+// A call sees only what is lent.
+fn lent(
+    c: Command,
+    line: &[u8],
+    card: &mut [u8],
+    queue: &mut [u8],
+    journal: &mut [u8],
+    state: State,
+    out: &mut [u8],
+    at: usize,
+) -> Ran
+    requires { ⌜ Fits (now card) state ⌝ }
+    ensures { λ r. ⌜ Runs (performed (callOf (now (line .entry)) c) (shellOf (now (card .entry)) (now (queue .entry)) (now (journal .entry)) state)) (now (card .entry)) (now (out .entry)) at (now (card .exit)) (now (queue .exit)) (now (journal .exit)) (now (out .exit)) r ⌝ }
+{
+    let n = within(least(state.card, state.size), card);
+    let q = within(state.queue, queue);
+    let j = within(state.journal, journal);
+    let rec = state.rec;
+    let called = call(
+        c,
+        line,
+        &mut card[..n],
+        &mut queue[..q],
+        &mut journal[..j],
+        rec,
+        out,
+        at,
+    );
+    let after = called.rec;
+    Ran {
+        state: with_record(state, after),
+        at: called.at,
+    }
+}
+
+fn show_lent(
+    card: &[u8],
+    queue: &[u8],
+    journal: &[u8],
+    state: State,
+    view: usize,
+    out: &mut [u8],
+    at: usize,
+) -> usize
+    ensures { λ r. ⌜ Puts (now (out .entry)) at (shown view (lentDisk (shellOf (now (card .entry)) (now (queue .entry)) (now (journal .entry)) state))) (now (out .exit)) r ⌝ }
+{
+    let rec = state.rec;
+    show(
+        part(card, 0, least(state.card, state.size)),
+        part(queue, 0, state.queue),
+        part(journal, 0, state.journal),
+        rec,
+        view,
+        out,
+        at,
+    )
+}
+
+// Another card is put in.
+fn put_in(
+    card: &mut [u8],
+    queue: &mut [u8],
+    journal: &mut [u8],
+    length: usize,
+    byte: u64,
+    out: &mut [u8],
+    at: usize,
+) -> Ran
+    requires { ⌜ longestCard ≤ Len (now card) ⌝ }
+    ensures { λ r. ⌜ ((state : State) → Runs (ok (inserted length byte (shellOf (now (card .entry)) (now (queue .entry)) (now (journal .entry)) state))) (now (card .entry)) (now (out .entry)) at (now (card .exit)) (now (queue .exit)) (now (journal .exit)) (now (out .exit)) r) ⌝ }
+{
+    let n = refill(card, length, (byte % 256) as u8);
+    let rec = cut(queue, journal);
+    said(with_card(rec, n), out, at, b"ok\n")
+}
+
+// The length of what is filled.
+fn refill(card: &mut [u8], length: usize, byte: u8) -> usize
+    requires { ⌜ longestCard ≤ Len (now card) ⌝ }
+    ensures { λ r. ⌜ (r ≡ min length longestCard) × (now (card .exit) ≡ replicate r byte ++ drop r (now (card .entry))) ⌝ }
+{
+    let n = least(length, LONGEST_CARD);
+    fill(&mut card[..n], byte);
+    n
+}
+
+fn cut_between(queue: &mut [u8], journal: &mut [u8], state: State, out: &mut [u8], at: usize) -> Ran
+    ensures { λ r. ⌜ ((card : List ℕ) → Fits card state → Runs (cutBetween (shellOf card (now (queue .entry)) (now (journal .entry)) state)) card (now (out .entry)) at card (now (queue .exit)) (now (journal .exit)) (now (out .exit)) r) ⌝ }
+{
+    let rec = cut(queue, journal);
+    said(with_record(state, rec), out, at, b"cut\n")
+}
+
+// Someone else writes a byte of the card.
+fn poke(card: &mut [u8], state: State, place: usize, byte: u64, out: &mut [u8], at: usize) -> Ran
+    requires { ⌜ Fits (now card) state ⌝ }
+    ensures { λ r. ⌜ ((queue journal : List ℕ) → Runs (poked place byte (shellOf (now (card .entry)) queue journal state)) (now (card .entry)) (now (out .entry)) at (now (card .exit)) queue journal (now (out .exit)) r) ⌝ }
+{
+    let n = within(state.size, card);
+    if place < n {
+        card[place] = (byte % 256) as u8;
+        said(state, out, at, b"ok\n")
+    } else {
+        said(state, out, at, b"?\n")
+    }
+}
+
+fn said(state: State, out: &mut [u8], at: usize, words: &[u8]) -> Ran
+    ensures { λ r. ⌜ (r .state ≡ state) × Puts (now (out .entry)) at (now (words .entry)) (now (out .exit)) (r .at) ⌝ }
+{
+    let next = put_bytes(out, at, words);
+    Ran { state, at: next }
+}
