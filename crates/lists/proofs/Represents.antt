@@ -12,7 +12,7 @@ use lib.Seq.{getD-set-other, getD-set-same}
 use Rattle.lists.specs.Basic.{bind, keep, orElse}
 use Rattle.lists.specs.Change.{Change, takeList, putFirst, putAfter, write, delBlock, delList}
 use Rattle.lists.specs.State.{State, Block, Row, taken, placed, onList, insertAfter, at, put, onBlocks, otherBlock, otherRow, block, row, changed, applies, apply}
-use Rattle.lists.specs.Tables.{Tables, tables, nextOf, prevOf, ownerOf, insertNode, cutBetween, placeAt, noTables, freeFrom, cutList, putFits, putDone, fits, done, Did, Away, Apart, Linked, blockNodes, nodes, chain, IsBlock, IsList, HasBlock, HasBlocks, HasLists, Shows, Ranged, Represents}
+use Rattle.lists.specs.Tables.{Tables, tables, nextOf, prevOf, ownerOf, insertNode, cutBetween, placeAt, emptied, freeFrom, cutList, putFits, putDone, fits, done, Did, Away, Apart, Linked, blockNodes, nodes, chain, IsBlock, IsList, HasBlock, HasBlocks, HasLists, Sized, Shows, Ranged, Represents}
 use Rattle.lists.proofs.Basic.{either, or-both, and-true, not-false, eqb-true, eqb-neq, getD-same, and-swap, and-implied, not-not}
 use Rattle.lists.proofs.Chain.{Small, headOf, last, away-left, away-right, away-append, apart-left, apart-right, apart-insert, apart-cut, apart-middle, small-left, small-right, last-snoc, next-at, prev-at, linked-tail, linked-insert, linked-cut}
 use Rattle.lists.proofs.Nodes.{Grown, nodes-append, nodes-write, first-grown, after-grown, block-shrunk, row-at, onList-taken}
@@ -248,12 +248,12 @@ module _ (f : State ℕ → Option (State ℕ)) where
   represents-then (some s) q u v r h e k = k s (h .1)
 
 -- The state with no list.
-pub shows-none : Shows noTables []
-unfolding noTables
-shows-none = record {
-  sized = record { next = refl; prev = refl; owner = refl; place = refl };
+pub shows-emptied : (t : Tables) → Sized t → Shows (emptied t) []
+unfolding emptied
+shows-emptied t s = record {
+  sized = record { next = rw length-set (s .next); prev = rw length-set (s .prev); owner = refl; place = s .place };
   apart = (((λ e. omega arith), tt), (tt, tt));
-  linked = (refl, refl, tt);
+  linked = (getD-set-same (t .next) 0 255 0 (rw (s .next) (omega arith)), getD-set-same (t .prev) 255 0 0 (rw (s .prev) (omega arith)), tt);
   has = tt;
   free = λ m h. getD-same 256 m 0;
 }

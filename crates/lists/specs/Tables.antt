@@ -198,12 +198,12 @@ abbrev pub Represents : Option (State ℕ) → Bool → Tables → Type 0
 Represents none r u = r ≡ false
 Represents (some s) r u = (r ≡ true) × Shows u (s .lists)
 
--- the tables of the state with no list
-unfoldable pub noTables : Tables
-noTables = tables (set (replicate 256 0) 0 255) (set (replicate 256 0) 255 0) (replicate 256 0) (replicate 256 0)
+-- the tables of the state with no list: every node is free, and the end follows the start
+unfoldable pub emptied : Tables → Tables
+emptied t = tables (set (t .next) 0 255) (set (t .prev) 255 0) (replicate 256 0) (t .place)
 
-pub record Cleared (u : Tables) : Type 0 where
-  pub left : u ≡ noTables
+pub record Cleared (t u : Tables) : Type 0 where
+  pub left : u ≡ emptied t
   pub shows : Shows u []
 
 -- Looking up.
