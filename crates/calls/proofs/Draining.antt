@@ -1,5 +1,5 @@
 -- A flush, entry by entry: where it stands when some entries have left the queue (`Going`), and what it leaves at each ending.
-use mathlib.Core.Path.{_≡_, refl, sym, ap, _∙_}
+use mathlib.Core.Path.{_≡_, refl, sym, ap, _∙_, subst}
 use mathlib.Core.Bool.{true}
 use mathlib.Core.Option.{Option, none, some}
 use mathlib.Core.List.{List, [], _∷_}
@@ -16,8 +16,9 @@ use Rattle.log.specs.Flush.{Flushed, Ending, drained, full, spent, nextStore, f
 use Rattle.log.specs.Within.{Within}
 use Rattle.log.proofs.Allowance.{stopped-flush}
 use Rattle.log.proofs.EntryStores.{entry-stores-length}
-use Rattle.log.proofs.Places.{raw-length}
-use Rattle.log.proofs.Segment.{carries-walk}
+use Rattle.log.proofs.Places.{raw-length, addTo}
+use Rattle.log.proofs.Flows.{endOf, tail-end, end-add, head-at, Flows}
+use Rattle.log.proofs.Segment.{carries-walk, carries-segments}
 use Rattle.log.proofs.Sequence.{ReadyHead}
 use Rattle.log.proofs.LogStores.{going}
 use Rattle.disk.specs.declared.record.Record.{Record}
@@ -35,6 +36,7 @@ use Rattle.disk.proofs.Sequence.{flow-ready}
 use Rattle.inspect.proofs.Behind.{tail-within}
 use Rattle.calls.specs.Flushing.{flow, HeadReady, HeadDrained, Heads, Flushable, Flushes}
 use Rattle.calls.specs.declared.drain.Headed.the-variants as headed
+use Rattle.calls.proofs.Turns.{all-in-turn, flows-last}
 
 -- the data of the queue's place i, as it is lent
 abbrev pub dataAt : List ℕ → ℕ → Content
@@ -72,7 +74,8 @@ module _ (c q : List ℕ) (r : Record) where
     unfoldable pub whole : Flushed
     whole = flushFrom (segmentsIn c) a 0 (flow c p (rest 0) (r .done))
 
-    -- `gone` entries have left the queue, `left` of the allowance is not used, and k stores of the next entry are done
+    -- `gone` entries have left the queue, `left` of the allowance is not used, and k stores of the next entry are done; the card carries the
+    -- segments `segs`, behind which the log goes on
     pub record Going (c′ : List ℕ) (p′ : Place) (k left gone : ℕ) : Type 0 where
       pub among : gone ≤ r .len
       pub few : left ≤ a
@@ -80,12 +83,17 @@ module _ (c q : List ℕ) (r : Record) where
       pub within : Within p′
       pub inside : p′ .segment < segmentsIn c
       pub begun : gone < r .len → k < length (entryStores p′ (entryHere q r gone))
+      pub segs : List (List (Entry Content))
+      pub flows : Flows c′ segs (rest gone) k
+      pub place : p′ ≡ endOf segs
       pub onward : flushFrom (segmentsIn c) left (a - left) (flow c′ p′ (rest gone) k) ≡ whole
 
     pub going-start : Flushable c q r p → Going c p (r .done) a 0
     unfolding whole
     going-start f =
         let i : a - a ≡ 0 = omega arith in
+        let k = right (disk c q (f .journalData) r) (f .lengths) (f .sound) in
+        let o = open-log (disk c q (f .journalData) r) (k .reader) (k .log) in
         record {
           among = omega arith;
           few = omega arith;
@@ -93,6 +101,9 @@ module _ (c q : List ℕ) (r : Record) where
           within = f .within;
           inside = f .inside;
           begun = λ l. rw (entry-here 0) at (f .begun l);
+          segs = o .segs;
+          flows = subst (λ (es : List (Entry Content)). Flows c (o .segs) es (r .done)) (queue-whole (f .journalData)) (o .flows);
+          place = f .place ∙ tail-end c (o .segs) (o .flows .carries);
           onward = rw i;
         }
 
@@ -101,12 +112,20 @@ module _ (c q : List ℕ) (r : Record) where
       segments-same = ap (λ (n : ℕ). n / 4096) (g .size)
 
       module _ (l : gone < r .len) where
+        flows-here : Flows c′ (g .segs) (entryHere q r gone ∷ rest (gone + 1)) k
+        flows-here = subst (λ (es : List (Entry Content)). Flows c′ (g .segs) es k) (rest-step gone l) (g .flows)
+
+        home-here : (h : Place) → home (segmentsIn c′) p′ (entryHere q r gone) ≡ some h → home (length (g .segs)) (endOf (g .segs)) (entryHere q r gone) ≡ some h
+        home-here h v = (λ i. home (sym (carries-segments c′ (g .segs) (g .flows .carries)) i) (sym (g .place) i) (entryHere q r gone)) ∙ v
+
         pub going-head : HeadReady c′ p′ (entryHere q r gone) k
-        going-head = record { within = g .within; inside = rw segments-same (g .inside); left = g .begun l }
+        going-head = record { within = g .within; inside = rw segments-same (g .inside); left = g .begun l; turns = λ h v. all-in-turn (g .segs) (entryHere q r gone) (rest (gone + 1)) h (home-here h v) k c′ flows-here }
 
         pub going-on : (p″ : Place) (n : ℕ) (c″ : List ℕ) → length c″ ≡ length c′ → HeadDrained c′ p′ (entryHere q r gone) k left p″ n c″ → Going c″ p″ 0 (left - n) (gone + 1)
         going-on p″ n c″ s h =
             let i : a - left + n ≡ a - (left - n) = omega (arith, h .few, g .few) in
+            let e = entryHere q r gone in
+            let v = home-here (h .place) (h .found) in
             record {
               among = omega arith;
               few = omega (arith, g .few);
@@ -114,6 +133,9 @@ module _ (c q : List ℕ) (r : Record) where
               within = h .within;
               inside = rw (← segments-same) (h .inside);
               begun = λ l. omega (arith, entry-stores-length p″ (entryHere q r (gone + 1)));
+              segs = addTo (h .place .segment) e (g .segs);
+              flows = rw (h .card) (flows-last (g .segs) e (rest (gone + 1)) (h .place) v k c′ flows-here);
+              place = h .behind ∙ sym (end-add (head-at c′ (g .segs) e (rest (gone + 1)) k flows-here (h .place) v) (g .flows .carries .packed));
               onward = sym (rw (segments-same, i) at (h .onward (rest (gone + 1)) (a - left)))
                   ∙ ap (λ (es : List (Entry Content)). flushFrom (segmentsIn c) left (a - left) (flow c′ p′ es k)) (sym (rest-step gone l)) ∙ g .onward;
             }
@@ -181,4 +203,7 @@ flushable d p h s t =
       head = k .log .head;
       queueData = k .log .queueData;
       begun = λ l. rw (entry-here c q r 0) (ready-begun (home (segmentsIn c) (tail c) (entryHere q r 0)) (entryHere q r 0) (r .done) p (rw (queue-whole c q r (d .journalData), rest-step c q r 0 l) at (flow-ready d k)));
+      journalData = d .journalData;
+      lengths = h;
+      sound = s;
     }

@@ -29,7 +29,8 @@ use Rattle.disk.specs.Disk.{Disk, disk, unitOf, journalPlace, journalAt, journa
 use Rattle.disk.specs.Call.{end, ends}
 use Rattle.disk.specs.Sound.{lengthsRight, recordSound, isOpenUnit}
 use Rattle.disk.specs.Questions.{endApplies, queueRoom, questions, ask, firstNo, refusal}
-use Rattle.disk.specs.Perform.{splice, spliceSome, queuedEntry, enqueue, enqueueAll, unitEntries, closing, conflicted, reply, accepted, refused}
+use Rattle.log.specs.Location.{splice}
+use Rattle.disk.specs.Perform.{spliceSome, queuedEntry, enqueue, enqueueAll, unitEntries, closing, conflicted, reply, accepted, refused}
 use Rattle.disk.specs.Answers.{number, refusedAnswer, replyAnswer}
 use Rattle.disk.proofs.Journal.{journal-size}
 use Rattle.disk.proofs.Questions.{unit-range}

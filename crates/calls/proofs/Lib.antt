@@ -4,11 +4,11 @@ pub mod Checking
 pub mod Taken
 pub mod Lookups
 pub mod Writing
-pub mod Copying
 pub mod Reading
 pub mod Entering
 pub mod Giving
 pub mod Putting
 pub mod Storing
+pub mod Turns
 pub mod Draining
 pub mod Ending

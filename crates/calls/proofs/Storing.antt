@@ -6,8 +6,8 @@ use mathlib.Core.List.{List, _∷_}
 use Prim.Native.Nat.{ℕ, zero, suc, _+_, _-_, _≤_, _<_}
 use native.Mathlib.Omega.{arith}
 use native.Mathlib.Nat.{add-zero, add-suc, suc-add, zero-add}
-use lib.ListN.{length, take, drop, getD, set}
-use lib.Seq.{drop-cons}
+use lib.ListN.{length, take, drop, getD, set, length-drop}
+use lib.Seq.{drop-cons, take-all}
 use Rattle.lists.proofs.Basic.{eq-true, eqb-false}
 use Rattle.log.specs.declared.entry.LogEntry.{LogEntry}
 use Rattle.log.specs.declared.place.Place.{Place}
@@ -18,6 +18,7 @@ use Rattle.log.specs.Card.{Content, segmentsIn}
 use Rattle.log.specs.Store.{Store, doStores, after, home, entryStores}
 use Rattle.log.specs.Flush.{full, spent, stored, storeNext, nextStore, flushFrom}
 use Rattle.log.specs.Within.{Storable, asPlace}
+use Rattle.log.specs.Turns.{AllInTurn}
 use Rattle.log.proofs.Allowance.{stopped-flush, moved-flush}
 use Rattle.log.proofs.LogStores.{going, stores-many}
 use Rattle.log.proofs.Within.{within-home, within-after, home-of-entry, after-of-entry}
@@ -131,6 +132,9 @@ module _ (d : Content) (z : length d ≡ 256) (t : Bool) (e : LogEntry) (c : Lis
         let (w, n, f) = within-home (segmentsIn c) p h (going d t e) (r .within) (r .inside) placed in
         record { within = w; room = f; inside = n; left = omega (arith, r .left, stores-many d z t e h, stores-many d z t e p) }
 
+    pub in-turns : (u : ℕ) → u ≤ length (entryStores h (going d t e)) → AllInTurn c h (going d t e) k u
+    in-turns u l n a b = r .turns h placed n a (omega arith)
+
     pub heads-spent : (a : ℕ) (c′ : List ℕ) → k + a < length (entryStores h (going d t e))
         → c′ ≡ doStores (several k (k + a - k) (entryStores h (going d t e))) c → Heads c p (going d t e) k a (headed.Spent (k + a)) c′
     heads-spent a c′ l y q s =
@@ -145,5 +149,9 @@ module _ (d : Content) (z : length d ≡ 256) (t : Bool) (e : LogEntry) (c : Lis
           within = rw v (within-after h (going d t e) (storable .within) (storable .room));
           inside = rw (v, after-segment h (going d t e)) (storable .inside);
           few = l;
+          place = h;
+          found = placed;
+          behind = v;
+          card = y ∙ ap (λ (xs : List Store). doStores xs c) (take-all (n - k) (drop k (entryStores h (going d t e))) (omega (arith, m, length-drop k (entryStores h (going d t e)))));
           onward = λ q s. rw (y, v, m) (flush-drained (segmentsIn c) p h (going d t e) q placed a s k c (storable .left) (rw (← m) l));
         }

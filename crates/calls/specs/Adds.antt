@@ -12,7 +12,7 @@ use Rattle.disk.specs.declared.answer.Reply.{Reply}
 use Rattle.disk.specs.declared.answer.Reply.the-variants.{Accepted, Refused}
 use Rattle.disk.specs.Record.{ringPlace, unitAt, withQueue, withUnits, journaled}
 use Rattle.disk.specs.Disk.{Disk, journalPlace}
-use Rattle.disk.specs.Perform.{splice}
+use Rattle.log.specs.Location.{splice}
 use Rattle.disk.specs.Questions.{journalRoom, streamRoom, firstNo}
 use Rattle.disk.specs.Answers.{number}
 

@@ -3,20 +3,21 @@ use crate::replied::FlushReplied;
 use disk::answer::FlushReply;
 use disk::record::Record;
 use log::entry::LogEntry;
-use log::flush::store_step;
-use log::flush::stores_of;
 use log::layout::SEGMENT;
 use log::layout::SLOT;
 use log::place::Home;
 use log::place::Place;
 use log::place::after;
 use log::place::home_of;
+use log::store::store_step;
+use log::store::stores_of;
 ghost use mathlib.Core.Path.{_≡_};
 ghost use Prim.Native.Nat.{_+_, _-_, _%_, _≤_, _<_};
 ghost use lib.ListN.{length, take, drop};
 ghost use Rattle.log.specs.Entry.{mapEntry, asEntry};
 ghost use Rattle.log.specs.Store.{doStores, entryStores};
 ghost use Rattle.log.specs.Within.{Storable};
+ghost use Rattle.log.specs.Turns.{AllInTurn};
 ghost use Rattle.disk.specs.Record.{withFlow};
 ghost use Rattle.calls.specs.Flushing.{HeadReady, Heads, Flushable, Flushes};
 
@@ -28,7 +29,7 @@ pub enum Headed {
     Drained(Place, usize),
 }
 
-// The stores of an entry at its place from number `done` up to number `upto`.
+// The stores of an entry at its place from number `done` up to number `upto`, each in turn.
 fn advance(
     card: &mut [u8],
     content: &[u8],
@@ -38,7 +39,7 @@ fn advance(
     done: usize,
     upto: usize,
 )
-    requires { ⌜ Storable (now card) place (mapEntry (λ s. now content) (asEntry member e)) done × (upto ≤ length (entryStores place (mapEntry (λ s. now content) (asEntry member e)))) × (length (now content) ≡ 256) ⌝ }
+    requires { ⌜ Storable (now card) place (mapEntry (λ s. now content) (asEntry member e)) done × (upto ≤ length (entryStores place (mapEntry (λ s. now content) (asEntry member e)))) × (length (now content) ≡ 256) × AllInTurn (now card) place (mapEntry (λ s. now content) (asEntry member e)) done upto ⌝ }
     ensures { λ r. ⌜ now (card .exit) ≡ doStores (take (upto - done) (drop done (entryStores place (mapEntry (λ s. now (content .entry)) (asEntry member e))))) (now (card .entry)) ⌝ }
 {
     let mut k = done;

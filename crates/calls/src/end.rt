@@ -7,12 +7,13 @@ use disk::change::append;
 use disk::change::count_conflict;
 use disk::change::empty;
 use disk::change::release;
-use disk::copy::copy_in;
 use disk::record::Record;
 use disk::record::Unit;
 use inspect::journal::enter_journal;
 use inspect::look::Looked;
+use log::copy::copy_in;
 use log::entry::LogEntry;
+use log::layout::SLOT;
 ghost use mathlib.Core.Path.{_≡_};
 ghost use mathlib.Core.Bool.{true};
 ghost use mathlib.Core.List.{[]};
@@ -26,8 +27,6 @@ ghost use Rattle.disk.specs.Call.{end};
 ghost use Rattle.disk.specs.Answers.{replyAnswer};
 ghost use Rattle.calls.specs.Ending.{closed, QueuesMember, Ready, QueuesUnit, Ends};
 ghost use Rattle.calls.specs.Performs.{Performs};
-
-const SLOT: usize = 256;
 
 // Unit u closed, its journal gone, its numbers released.
 fn close(rec: Record, u: usize) -> Record

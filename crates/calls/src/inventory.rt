@@ -5,6 +5,7 @@ use disk::record::Record;
 use inspect::look::Looked;
 use inspect::look::look;
 use lists::tables::list_after;
+use log::entry::LogEntry;
 ghost use mathlib.Core.Path.{_≡_};
 ghost use mathlib.Core.List.{_++_};
 ghost use lib.ListN.{length, drop};
@@ -15,7 +16,7 @@ ghost use Rattle.disk.specs.Call as call;
 ghost use Rattle.disk.specs.Answers.{numberAnswer};
 ghost use Rattle.calls.specs.Performs.{Performs};
 
-const LISTS: usize = 16;
+const LISTS: usize = LogEntry::LISTS as usize;
 
 // The lists taken in view v go to dest, in the order of their taking; their number is returned.
 // Questions: 1 lengths, 3 record, 4 view, 5 destination.

@@ -1,5 +1,6 @@
 // Question 5 of the numbers that callers give, and question 9 of a predecessor.
 use lists::tables::is_on;
+use log::entry::LogEntry;
 use log::legal::both;
 ghost use mathlib.Core.Path.{_≡_};
 ghost use mathlib.Core.Bool.{_&&_, _||_};
@@ -9,9 +10,9 @@ ghost use Rattle.lists.specs.State.{onList};
 ghost use Rattle.lists.specs.Tables.{OfOwners, IsList};
 ghost use Rattle.log.specs.Entry.{isBlock, isList};
 
-const BLOCKS: usize = 64;
+const BLOCKS: usize = LogEntry::BLOCKS as usize;
 
-const LISTS: usize = 16;
+const LISTS: usize = LogEntry::LISTS as usize;
 
 pub fn is_block(b: usize) -> bool
     ensures { λ r. ⌜ r ≡ isBlock b ⌝ }

@@ -5,12 +5,13 @@ use crate::ranges::is_block;
 use crate::replied::Replied;
 use disk::answer::Refusal;
 use disk::answer::Reply;
-use disk::copy::copy_in;
 use disk::record::Record;
 use disk::record::Unit;
 use inspect::look::Looked;
 use lists::tables::is_placed;
+use log::copy::copy_in;
 use log::entry::LogEntry;
+use log::layout::SLOT;
 use log::legal::both;
 ghost use mathlib.Core.Path.{_≡_};
 ghost use mathlib.Core.Bool.{_&&_};
@@ -28,8 +29,6 @@ ghost use Rattle.disk.specs.Call.{writeBlock};
 ghost use Rattle.disk.specs.Answers.{replyAnswer};
 ghost use Rattle.calls.specs.Adds.{AddsAfter, Copies, Fits};
 ghost use Rattle.calls.specs.Performs.{Performs};
-
-const SLOT: usize = 256;
 
 // The content goes to the place of the entry that the stream takes next.
 fn copy_content(

@@ -20,7 +20,8 @@ use Rattle.disk.proofs.Questions.{yes-all}
 use Rattle.disk.proofs.Clauses.{Right, right}
 use Rattle.disk.proofs.Performing.{perform-accepted}
 use Rattle.disk.proofs.Draining.{left}
-use Rattle.disk.proofs.Sequence.{todo, flush-stored}
+use Rattle.disk.specs.Statements.{todo}
+use Rattle.disk.proofs.Sequence.{flush-stored}
 use Rattle.crash.specs.Event.{World, step, leaves, partOf, putBack, lend}
 use Rattle.crash.specs.Event as E
 use Rattle.commands.specs.Shell.{Shell, withDisk, firstBytes, partsLent, lentDisk, afterCall}

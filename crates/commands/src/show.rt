@@ -2,6 +2,7 @@
 use disk::answer::NumberReply;
 use disk::answer::Reply;
 use disk::record::Record;
+use log::entry::LogEntry;
 use script::lines::put_block;
 use script::lines::put_list;
 use script::lines::put_number;
@@ -15,7 +16,7 @@ ghost use Rattle.disk.specs.Disk.{disk};
 ghost use Rattle.commands.specs.Shown.{blockBehind, blocksOn, listShown, listsShown, blockShown, blocksShown, contentsOn, contentsShown, viewShown, shown};
 
 // No list has more blocks.
-const BLOCKS: usize = 64;
+const BLOCKS: usize = LogEntry::BLOCKS as usize;
 
 // The lists of a view with their blocks, then the blocks with their contents.
 pub fn show(

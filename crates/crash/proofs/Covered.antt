@@ -24,6 +24,7 @@ use Rattle.disk.proofs.Performing.{perform-accepted, perform-refused, refusal-c
 use Rattle.crash.specs.Event.{Event, called, Parts, lend, lentWhole, isAccepted, answered, mayHappen}
 use Rattle.crash.specs.Book.{Book, Waiting, entriesOf, longest, closingOnCard, onCard, bookFlush, bookAccepted, bookCalled, bookStep}
 use Rattle.crash.specs.Demand3.{Scene, sceneStep, play, valid, begun}
+use Rattle.crash.specs.Covered.{DrainedCovers}
 use Rattle.crash.proofs.History.{tell, on-card}
 use Rattle.crash.proofs.Told.{Told}
 use Rattle.crash.proofs.Lending.{lend-whole}
@@ -113,10 +114,7 @@ scene-covered s a n p i m h =
     let up : s .world .down ≡ false = not-false (s .world .down) (rw (or-false (not (s .world .down))) at o) in
     rw h (book-covered a d (s .book) (subst (λ (x : Bool). Inv (record { disk = d; down = x }) (s .book)) up i) (flush-ending a n d (rw e at h)))
 
-pub drained-covers : (d : Disk) → refusal format d ≡ 0 → (es : List Event) → valid (begun d) es ≡ true → (a n : ℕ) (p : Parts)
-    → let s = play (begun d) es in
-    mayHappen (s .world) (called (flush a) p) ≡ true → answered (s .world) (called (flush a) p) ≡ some (flushAnswer (Drained n))
-    → onCard (sceneStep s (called (flush a) p) .book) ≡ s .book .history
+pub drained-covers : DrainedCovers
 unfolding answered
 drained-covers d h es v a n p m q =
     scene-covered (play (begun d) es) a n p (play-inv (begun d) es v (begun-inv d h)) m (Option·some-injective _ _ q)

@@ -1,3 +1,4 @@
 pub mod Event
 pub mod Book
 pub mod Demand3
+pub mod Covered

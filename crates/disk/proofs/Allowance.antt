@@ -13,6 +13,7 @@ use Rattle.disk.specs.Disk.{Disk, queued}
 use Rattle.disk.specs.Call.{flush}
 use Rattle.disk.specs.Questions.{questions, firstNo, ask, refusal}
 use Rattle.disk.specs.Perform.{flowOf, flushed, afterFlush, endingNumber, accepted, perform}
+use Rattle.disk.specs.Statements.{FlushSum}
 use Rattle.disk.proofs.Queue.{queue-length}
 use Rattle.disk.proofs.Questions.{yes-all}
 use Rattle.disk.proofs.Clauses.{Right, right, right-lengths, right-sound}
@@ -90,14 +91,11 @@ module _ (m n : ℕ) (d : Disk) (k : Right d) where
       ap (afterFlush d) (both-same .flow)
       ∙ sym (after-twice d (first .flow) (later .flow) (omega (arith, shorter n (left m d) k′, left-len m d)) (shorter m d k))
 
-flush-accepted : (a : ℕ) (d : Disk) → Right d → a ≤ 65535 → refusal (flush a) d ≡ 0
+pub flush-accepted : (a : ℕ) (d : Disk) → Right d → a ≤ 65535 → refusal (flush a) d ≡ 0
 unfolding refusal questions firstNo ask
 flush-accepted a d k l = rw (right-lengths d k, right-sound d k, le-true a 65535 l)
 
--- what is left and what is reported: the stores add up, and the ending is the second's
-pub flush-sum : (m n : ℕ) (d : Disk) → refusal (flush (m + n)) d ≡ 0
-    → let x = perform (flush m) d in let y = perform (flush n) (x .disk) in let z = perform (flush (m + n)) d in
-    (z .disk ≡ y .disk) × (z .answer .value ≡ x .answer .value + y .answer .value) × (z .answer .second ≡ y .answer .second)
+pub flush-sum : FlushSum
 unfolding questions accepted
 flush-sum m n d h =
     let q = yes-all (flush (m + n)) d h in

@@ -11,7 +11,8 @@ use lib.Seq.{getD-take, getD-drop, getD-append-add, length-take-le}
 use Rattle.log.specs.Card.{Content, slot}
 use Rattle.log.proofs.Segment.{Sized}
 use Rattle.log.proofs.Slot.{Stands, same-getD, length-slot, getD-slot, slot-stands}
-use Rattle.disk.specs.Perform.{splice, spliceSome}
+use Rattle.log.specs.Location.{splice}
+use Rattle.disk.specs.Perform.{spliceSome}
 
 -- Bytes put into a buffer.
 pub length-splice : (l : List ℕ) (i : ℕ) (v : List ℕ) → i + length v ≤ length l → length (splice l i v) ≡ length l

@@ -5,6 +5,7 @@ use mathlib.Core.List.{[]}
 use Prim.Native.Nat.{ℕ, _-_, _≤_, _<_}
 use native.Mathlib.Omega.{arith}
 use lib.ListN.{length, drop, take}
+use Rattle.lists.proofs.Basic.{leb-true}
 use Rattle.log.specs.Card.{segmentsIn}
 use Rattle.log.specs.Store.{doStores}
 use Rattle.log.specs.Flush.{Ending, drained, full, spent}
@@ -14,11 +15,13 @@ use Rattle.disk.specs.Disk.{Disk, queued, persistent, committed, view}
 use Rattle.disk.specs.Call.{flush}
 use Rattle.disk.specs.Questions.{questions, refusal}
 use Rattle.disk.specs.Perform.{Result, flowOf, flushed, accepted, perform, endingNumber}
+use Rattle.disk.specs.Statements.{todo, ReportedStores, CutAfter}
 use Rattle.disk.proofs.Questions.{yes-all}
 use Rattle.disk.proofs.Clauses.{Right, right}
 use Rattle.disk.proofs.Performing.{perform-accepted}
 use Rattle.disk.proofs.Views.{committed-stays, view-stays, drained-queue, drained-persistent}
-use Rattle.disk.proofs.Sequence.{todo, flow-ready, flush-stored, reported, todo-in}
+use Rattle.disk.proofs.Sequence.{flow-ready, flush-stored, reported, cut-left, todo-in}
+use Rattle.disk.proofs.Allowance.{flush-accepted}
 
 -- The result r of a flush with allowance a on the disk d. The stores to do form one sequence, `todo`: the flush did the next ones up to its
 -- allowance, the rest is still to do, and it reports the difference. It is spent just where stores are left. It changes neither the committed state
@@ -81,3 +84,15 @@ flushes a d h =
       view-same = λ v n. view-stays a d k v n;
       inside = todo-in d k;
     })
+
+pub reported-stores : ReportedStores
+reported-stores a d h = flushes a d h .stores
+
+pub cut-after : CutAfter
+unfolding accepted questions
+cut-after a k d h l =
+    let r = sound-disk a d h in
+    let m : k ≤ flushed a d .stores = rw (perform-accepted (flush a) d h) at l in
+    let n = leb-true a 65535 (yes-all (flush a) d h 2) in
+    let s = flush-stored a d r in
+    cut-left a k d r m ∙ sym (ap (λ (x : Result). x .disk .card) (perform-accepted (flush k) d (flush-accepted k d r (omega (arith, s .stores)))))

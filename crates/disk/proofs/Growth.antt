@@ -11,14 +11,14 @@ use Rattle.lists.proofs.Basic.{bind-some, lt-true, eqb-true, all-append}
 use Rattle.log.specs.Entry.{Entry, legal, raw}
 use Rattle.log.specs.Reader.{Reader, read, replay}
 use Rattle.log.specs.Card.{Content, zeros, segmentsIn, mounted}
-use Rattle.log.specs.Store.{home, tail, entryStores}
+use Rattle.log.specs.Store.{standing, home, tail, entryStores, headAt}
 use Rattle.log.specs.declared.place.Place.{Place}
 use Rattle.log.proofs.Replay.{replay-append}
 use Rattle.log.proofs.EntryStores.{entry-stores-length}
 use Rattle.log.proofs.Places.{Good}
 use Rattle.log.proofs.Flows.{AllGood}
 use Rattle.disk.specs.Disk.{Disk, queued, readerOf, committedReader}
-use Rattle.disk.specs.Sound.{standing, headAt, headStanding}
+use Rattle.disk.specs.Sound.{headStanding}
 use Rattle.disk.specs.Perform.{enqueue, enqueueAll}
 use Rattle.disk.proofs.Queue.{enqueue-length, enqueue-places, enqueue-data, queued-add, beside-one, queued-same, reader-same}
 use Rattle.disk.proofs.Clauses.{LogRight}

@@ -12,7 +12,9 @@ pub mod Growth
 pub mod Units
 pub mod KeepsSound
 pub mod Standing
+pub mod Turns
 pub mod Draining
+pub mod Steps
 pub mod Soundness
 pub mod Performing
 pub mod Views

@@ -1,5 +1,5 @@
 -- The stores that a disk has still to do (`todo`): an accepted flush does the next ones, as many as it may, and reports how many (`flush-stored`,
--- `reported`). A cut after k of them leaves the card that allowance k leaves (`cut-after`). Each lies on the card and stores a byte (`todo-in`).
+-- `reported`). A cut after k of them leaves the card that allowance k leaves (`cut-left`). Each lies on the card and stores a byte (`todo-in`).
 use mathlib.Core.Path.{_≡_, sym, ap, _∙_}
 use mathlib.Core.Bool.{true}
 use mathlib.Core.Option.{Option, none, some}
@@ -15,19 +15,18 @@ use Rattle.lists.proofs.Basic.{and-true, eqb-true, ltb-true}
 use Rattle.log.specs.declared.place.Place.{Place}
 use Rattle.log.specs.Entry.{Entry, plain, member, commit, mapEntry, carried}
 use Rattle.log.specs.Card.{Content, segmentsIn}
-use Rattle.log.specs.Store.{Store, doStores, home, tail, entryStores}
+use Rattle.log.specs.Store.{Store, doStores, standing, home, tail, entryStores, headAt}
 use Rattle.log.proofs.Flows.{flowFor}
-use Rattle.log.proofs.Sequence.{ahead, rest, ReadyHead, Ready, Along, along}
+use Rattle.log.specs.Flush.{ahead, rest}
+use Rattle.log.proofs.Sequence.{ReadyHead, Ready, Along, along}
 use Rattle.log.proofs.Stores.{AllBytes, AllIn, AllDataBytes, DataBytes, in-drop, bytes-slot, ahead-in, sane-tail}
 use Rattle.disk.specs.Record.{ringPlace}
 use Rattle.disk.specs.Disk.{Disk, queuedAt, queued}
-use Rattle.disk.specs.Sound.{standing, headAt, headStanding}
+use Rattle.disk.specs.Sound.{headStanding}
 use Rattle.disk.specs.Perform.{flowOf, flushed, afterFlush}
+use Rattle.disk.specs.Statements.{todo}
 use Rattle.disk.proofs.Clauses.{Right}
 use Rattle.disk.proofs.Draining.{left, open-log, flow-of, flush-size, turn}
-
-unfoldable pub todo : Disk → List Store
-todo d = rest (segmentsIn (d .card)) (flowOf d)
 
 head-ready : (c : List ℕ) (k : ℕ) (o : Option Place) (e : Entry Content) → headAt c k o e ≡ true → ReadyHead o e k
 unfolding headAt
@@ -68,13 +67,11 @@ flush-stored a d k =
       onward = (λ i. rest (left-segments a d k i) (left-flow a d k i)) ∙ h .todo;
     }
 
--- "The reported stores are the difference in place along this sequence."
 pub reported : (a : ℕ) (d : Disk) → Right d → flushed a d .stores ≡ length (todo d) - length (todo (left a d))
 reported a d k = let h = flush-stored a d k in h .stores ∙ omega (arith, ap length (h .onward) ∙ length-drop a (todo d))
 
--- "A cut after k stores of a flush leaves the card that allowance k leaves"
-pub cut-after : (a k : ℕ) (d : Disk) → Right d → k ≤ flushed a d .stores → doStores (take k (take a (todo d))) (d .card) ≡ left k d .card
-cut-after a k d r l =
+pub cut-left : (a k : ℕ) (d : Disk) → Right d → k ≤ flushed a d .stores → doStores (take k (take a (todo d))) (d .card) ≡ left k d .card
+cut-left a k d r l =
     let h = flush-stored a d r in
     ap (λ (ss : List Store). doStores ss (d .card)) (take-take k a (todo d) (omega (arith, h .stores))) ∙ sym (flush-stored k d r .card)
 

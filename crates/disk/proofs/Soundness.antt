@@ -17,6 +17,7 @@ use Rattle.disk.specs.Sound.{lengthsRight, recordSound}
 use Rattle.disk.specs.Call.{Call, format, mount, conflictCount, newList, newBlock, writeBlock, readBlock, deleteBlock, deleteList, begin, end, flush, blockAfter, inventory, ends}
 use Rattle.disk.specs.Questions.{mountable, questions, ask, firstNo, refusal}
 use Rattle.disk.specs.Perform.{accepted, refused, perform, performAll}
+use Rattle.disk.specs.Statements.{LeavesSound}
 use Rattle.disk.proofs.Questions.{test, yes-all, twelve-end}
 use Rattle.disk.proofs.Clauses.{Right, right, right-sound, right-lengths}
 use Rattle.disk.proofs.KeepsSound.{begin-right, conflict-right, newList-right, newBlock-right, write-right, deleteBlock-right, deleteList-right, end-right, mount-right, format-right}
@@ -115,8 +116,7 @@ mounts d k =
     is-some (readerOf (mounted (d .card))) r p
 
 -- What is claimed. Every accepted call, and refusal 12, leaves a sound record, from any disk.
-pub leaves-sound : (c : Call) (d : Disk) → (refusal c d ≡ 0) ⊎ (refusal c d ≡ 12)
-    → (lengthsRight (perform c d .disk) ≡ true) × (recordSound (perform c d .disk) ≡ true)
+pub leaves-sound : LeavesSound
 leaves-sound c d h = let k = leaves-right c d h in (right-lengths (perform c d .disk) k, right-sound (perform c d .disk) k)
 
 -- A sound disk stays sound whatever is called.

@@ -7,16 +7,16 @@ use Prim.Native.Nat.{ℕ, zero, suc, _≤_, _<_}
 use native.Mathlib.Omega.{arith}
 use lib.Dec.{eqb, ltb}
 use lib.ListN.{length, take, getD}
-use Rattle.lists.proofs.Basic.{and-true, eqb-true, ltb-true, eq-true, lt-true}
+use Rattle.lists.proofs.Basic.{and-true, eqb-true, ltb-true, eq-true, lt-true, any-default}
 use Rattle.log.specs.declared.place.Place.{Place}
 use Rattle.log.specs.Entry.{Entry}
 use Rattle.log.specs.Card.{Content, segmentsIn}
-use Rattle.log.specs.Store.{Store, home, tail, entryStores}
+use Rattle.log.specs.Store.{Store, standing, home, tail, entryStores, headAt}
 use Rattle.log.proofs.Segment.{Carries, carries-segments}
 use Rattle.log.proofs.EntryStores.{which, storeOf}
 use Rattle.log.proofs.Places.{Good, store-inside}
 use Rattle.log.proofs.Flows.{endOf, tail-end, home-at, AllGood, Head}
-use Rattle.disk.specs.Sound.{standing, headAt, headStanding}
+use Rattle.disk.specs.Sound.{headStanding}
 
 standing-at : (ss : List Store) (k : ℕ) (c : List ℕ) (j : ℕ) → standing (take k ss) c ≡ true → j < k → k ≤ length ss
     → getD c (getD ss j (0, 0) .0) 256 ≡ getD ss j (0, 0) .1
@@ -36,14 +36,8 @@ standing-all (x ∷ ss) zero c m f = refl
 standing-all (x ∷ ss) (suc k) c m f =
     rw (eq-true (getD c (x .0) 256) (x .1) (f 0 (omega arith))) (standing-all ss k c (omega arith) (λ j l. f (suc j) (omega arith)))
 
--- an element of a list does not go by the default
-pub any-default : (l : List ℕ) (i a b : ℕ) → i < length l → getD l i a ≡ getD l i b
-any-default [] i a b h = absurd (omega arith)
-any-default (x ∷ l) zero a b h = refl
-any-default (x ∷ l) (suc i) a b h = any-default l i a b (omega arith)
-
 module _ (c : List ℕ) (ess : List (List (Entry Content))) (h : Carries c ess) where
-  home-same : (e : Entry Content) → home (segmentsIn c) (tail c) e ≡ home (length ess) (endOf ess) e
+  pub home-same : (e : Entry Content) → home (segmentsIn c) (tail c) e ≡ home (length ess) (endOf ess) e
   home-same e i = home (carries-segments c ess h i) (tail-end c ess h i) e
 
   store-on : (p : Place) (e : Entry Content) (j : ℕ) → home (length ess) (endOf ess) e ≡ some p → Good e → j < length (entryStores p e) → storeOf p e j .0 < length c

@@ -6,7 +6,7 @@ use Prim.Native.Nat.{ℕ}
 use lib.ListN.{length, take, drop, replicate}
 use Rattle.lists.specs.Basic.{from, joined}
 use Rattle.log.specs.Entry.{Entry, encode, raw}
-use Rattle.log.specs.Card.{Content, zeros, countOffset}
+use Rattle.log.specs.Card.{Content, countOffset}
 use Rattle.log.specs.Flush.{Ending, drained, spent}
 use Rattle.disk.specs.Record.{freshRecord, withFlow}
 use Rattle.disk.specs.Disk.{Disk, queued}
@@ -112,7 +112,7 @@ runs =
     -- P "the flush takes 3+4+260 = 267 stores; the summary begins 3, 2 1, 3 1 1, 9 1 0"
     ∷ run written (flushes 65535 267 drained ∷ summary (3 ∷ 2 ∷ 1 ∷ 3 ∷ 1 ∷ 1 ∷ 9 ∷ 1 ∷ 0 ∷ []) ∷ [])
     -- P "allowance 266: mounting has block 1 holding zeros"
-    ∷ run written (flushes 266 266 spent ∷ accepts mount ∷ holds 1 zeros ∷ [])
+    ∷ run written (flushes 266 266 spent ∷ accepts mount ∷ holds 1 (replicate 256 0) ∷ [])
     -- P "267: holding the 7"
     ∷ run written (flushes 267 267 drained ∷ accepts mount ∷ holds 1 seven ∷ [])
     -- P "entries 135 2 1 1, 137 2 1, 16 2"

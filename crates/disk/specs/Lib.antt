@@ -7,3 +7,4 @@ pub mod Perform
 pub mod Answers
 pub mod KnownRuns
 pub mod Inventory
+pub mod Statements

@@ -12,6 +12,7 @@ use Rattle.log.specs.declared.entry.LogEntry.the-variants.{Commit}
 use Rattle.log.specs.Entry.{Entry, plain, member, commit, carried, logChange}
 use Rattle.log.specs.Card.{Content, zeros, slotBytes, segmentsIn, Outcome, sound, fault, mounted}
 use Rattle.log.specs.Store.{doStores, formatStores, tail}
+use Rattle.log.specs.Location.{splice}
 use Rattle.log.specs.Flush.{Flow, Flushed, Ending, drained, full, spent, flushFrom}
 use Rattle.disk.specs.declared.record.Queued.{Queued}
 use Rattle.disk.specs.declared.record.Record.{Record}
@@ -31,10 +32,7 @@ pub record Result : Type 0 where
   pub answer : Answer
   pub lent : List ℕ
 
--- bytes v put into a buffer from i on: "Only the 256 bytes of a write being added change there; other entries change none."
-unfoldable pub splice : List ℕ → ℕ → List ℕ → List ℕ
-splice d i v = take i d ++ v ++ drop (i + length v) d
-
+-- "Only the 256 bytes of a write being added change there; other entries change none."
 unfoldable pub spliceSome : List ℕ → ℕ → Option (List ℕ) → List ℕ
 spliceSome d i none = d
 spliceSome d i (some v) = splice d i v

@@ -1,17 +1,15 @@
 -- Questions 1 and 3: the lent lengths, and the record's soundness, clause by clause.
 use mathlib.Core.Bool.{Bool, true, false, _&&_, _||_, not}
-use mathlib.Core.Option.{Option, none, some}
 use mathlib.Core.List.{List, [], _∷_}
 use Prim.Native.Nat.{ℕ, _/_}
 use lib.Dec.{leb, eqb, ltb}
-use lib.ListN.{length, take, getD}
+use lib.ListN.{length}
 use Rattle.lists.specs.Basic.{isSome, all, each, from}
 use Rattle.lists.specs.Change.{Change, takeList, putFirst, putAfter, write, delBlock, delList}
 use Rattle.lists.specs.State.{placed}
 use Rattle.log.specs.Entry.{Entry, member, raw, legal, isBlock, isList}
 use Rattle.log.specs.Card.{Content, cardLength, segmentsIn}
-use Rattle.log.specs.Store.{Store, home, tail, entryStores}
-use Rattle.log.specs.declared.place.Place.{Place}
+use Rattle.log.specs.Store.{home, tail, headAt}
 use Rattle.disk.specs.declared.record.Record.{Record}
 use Rattle.disk.specs.Record.{shaped, holderOf, queuePlaces, journalPlaces, unitCount}
 use Rattle.disk.specs.Disk.{Disk, unitOf, queued, journalOf, committed, committedReader}
@@ -49,16 +47,7 @@ unitSound d u =
 unfoldable pub holderSound : Disk → ℕ → Bool
 holderSound d b = eqb (holderOf (d .rec) b) 0 || isOpenUnit d (holderOf (d .rec) b) && not (placed b (committed d .lists))
 
--- do these stores stand on the card? 256 is no byte, so a store outside it does not
-unfoldable pub standing : List Store → List ℕ → Bool
-standing [] c = true
-standing (x ∷ xs) c = eqb (getD c (x .0) 256) (x .1) && standing xs c
-
 -- "stores already done of the head (none if it has no place) standing on the card": k of them are done
-unfoldable pub headAt : List ℕ → ℕ → Option Place → Entry Content → Bool
-headAt c k none e = eqb k 0
-headAt c k (some p) e = let ss = entryStores p e in ltb k (length ss) && standing (take k ss) c
-
 unfoldable pub headStanding : List ℕ → ℕ → List (Entry Content) → Bool
 headStanding c k [] = eqb k 0
 headStanding c k (e ∷ q) = headAt c k (home (segmentsIn c) (tail c) e) e

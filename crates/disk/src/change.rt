@@ -11,6 +11,8 @@ ghost use Prim.Native.Nat.{ℕ, _+_, _-_, _<_, _≤_, min};
 ghost use lib.ListN.{length, getD, set};
 ghost use Rattle.disk.specs.Record.{ringPlace, unitAt, withQueue, withUnits, withConflicts, journaled, emptied, released};
 
+const BLOCKS: usize = LogEntry::BLOCKS as usize;
+
 // An entry more at the end of the queue.
 pub fn append(rec: Record, member: bool, entry: LogEntry) -> Record
     requires { ⌜ (rec .len < 32) × (rec .head < 32) ⌝ }
@@ -88,7 +90,7 @@ pub fn release(holder: [u8; 64], u: u8) -> [u8; 64]
 {
     let mut left = holder;
     let mut i = 0;
-    while i < 64 {
+    while i < BLOCKS {
         left[i] = freed(holder[i], u);
         i += 1;
     }

@@ -74,8 +74,8 @@ impl Record {
             done: 0,
             units,
             holder,
-            last_block: 64,
-            last_list: 16,
+            last_block: LogEntry::BLOCKS,
+            last_list: LogEntry::LISTS,
             conflicts: 0,
         }
     }

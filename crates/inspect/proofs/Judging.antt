@@ -64,15 +64,6 @@ no-tag t a b c d e (inr (inr (inl k))) = c k
 no-tag t a b c d e (inr (inr (inr (inl k)))) = d k
 no-tag t a b c d e (inr (inr (inr (inr k)))) = e k
 
-pub put-first-block : (b l : ℕ) → legal (raw {D = ℕ} 0 (member (putFirst b l))) ≡ true → b ≤ 64
-unfolding legal raw mapEntry mapChange legalChange hasMember
-put-first-block b l h = leb-true b 64 (and-true (leb 1 b) (leb b 64) (and-true (isBlock b) (isList l) h .0) .1)
-
-pub put-after-block : (b l p : ℕ) → legal (raw {D = ℕ} 0 (member (putAfter b l p))) ≡ true → b ≤ 64
-unfolding legal raw mapEntry mapChange legalChange hasMember
-put-after-block b l p h =
-    leb-true b 64 (and-true (leb 1 b) (leb b 64) (and-true (isBlock b) (isList l) (and-true (isBlock b && isList l) (isBlock p) h .0) .0) .1)
-
 -- A change in unit u's journal.
 module _ (hs : List ℕ) (u : ℕ) where
   pub change-wrong : (c : Change ℕ) → legal (raw 0 (member c)) ≡ false → false ≡ changeRight hs u c

@@ -1,4 +1,3 @@
 pub mod Located
 pub mod Clauses
 pub mod Inspect
-pub mod Begun

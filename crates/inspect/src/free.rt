@@ -2,6 +2,7 @@
 use super::units::holder_of;
 use lists::tables::is_placed;
 use lists::tables::is_taken;
+use log::entry::LogEntry;
 ghost use mathlib.Core.Path.{_≡_};
 ghost use mathlib.Core.Bool.{_||_, not};
 ghost use Prim.Native.Nat.{_-_};
@@ -12,14 +13,18 @@ ghost use Rattle.lists.specs.State.{placed, taken};
 ghost use Rattle.lists.specs.Tables.{OfOwners};
 ghost use Rattle.disk.specs.Questions.{freeFrom};
 
+const BLOCKS: u8 = LogEntry::BLOCKS;
+
+const LISTS: u8 = LogEntry::LISTS;
+
 // The first free block after the one given last, 0 if none is free.
 pub fn free_block(owner: &[u8; 256], holder: &[u8; 64], last: u8) -> u8
     ensures { λ r. ⌜ OfOwners (now (owner .entry)) (λ rs. r ≡ orElse 0 (freeFrom (λ b. placed b rs || not (eqb (getD (now (holder .entry)) (b - 1) 0) 0)) 64 64 last)) ⌝ }
 {
     let mut b = last;
-    let mut i = 0usize;
-    while i < 64 {
-        b = b % 64 + 1;
+    let mut i = 0u8;
+    while i < BLOCKS {
+        b = b % BLOCKS + 1;
         if !is_placed(owner, b) {
             if holder_of(holder, b) == 0 {
                 return b;
@@ -35,9 +40,9 @@ pub fn free_list(owner: &[u8; 256], last: u8) -> u8
     ensures { λ r. ⌜ OfOwners (now (owner .entry)) (λ rs. r ≡ orElse 0 (freeFrom (λ l. taken l rs) 16 16 last)) ⌝ }
 {
     let mut l = last;
-    let mut i = 0usize;
-    while i < 16 {
-        l = l % 16 + 1;
+    let mut i = 0u8;
+    while i < LISTS {
+        l = l % LISTS + 1;
         if !is_taken(owner, l) {
             return l;
         }

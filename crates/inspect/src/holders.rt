@@ -1,16 +1,19 @@
 // The holders of blocks, over the committed state.
 use disk::record::Record;
 use lists::tables::is_placed;
+use log::entry::LogEntry;
 ghost use mathlib.Core.Path.{_≡_};
 ghost use Rattle.lists.specs.Tables.{OfOwners};
 ghost use Rattle.inspect.specs.Clauses.{holdersRight};
+
+const BLOCKS: usize = LogEntry::BLOCKS as usize;
 
 // Is each block held by no unit, or by an open one while it is on no list?
 pub fn holders_right(rec: Record, owner: &[u8; 256]) -> bool
     ensures { λ r. ⌜ OfOwners (now (owner .entry)) (λ rs. r ≡ holdersRight rec rs) ⌝ }
 {
     let mut i = 0;
-    while i < 64 {
+    while i < BLOCKS {
         let h = rec.holder[i] as usize;
         if h != 0 {
             if Record::UNITS < h {

@@ -4,17 +4,31 @@ use disk::record::Unit;
 use log::entry::LogEntry;
 use log::legal::is_member;
 ghost use mathlib.Core.Path.{_≡_};
-ghost use Prim.Native.Nat.{_-_, _≤_};
-ghost use lib.ListN.{getD};
+ghost use Prim.Native.Nat.{_-_};
+ghost use lib.ListN.{length, getD};
 ghost use Rattle.log.specs.Entry.{asChange};
 ghost use Rattle.inspect.specs.Clauses.{changeRight, unitRight, unitsRight, openUnit};
 
+// The holder of a block that no unit holds.
+const NOBODY: u8 = 0;
+
+const BLOCKS: usize = LogEntry::BLOCKS as usize;
+
+// Nothing is done, and the compiler drops the copy: how many holders there are the proof learns of a value, not of a reference.
+fn counted(holder: [u8; 64])
+    ensures { λ r. ⌜ length holder ≡ 64 ⌝ }
+{}
+
 // The unit that holds a block, by the holders; 0 for a number past them.
 pub fn holder_of(holder: &[u8; 64], block: u8) -> u8
-    ensures { λ r. ⌜ (block ≤ 64 → r ≡ getD (now (holder .entry)) (block - 1) 0) ⌝ }
+    ensures { λ r. ⌜ r ≡ getD (now (holder .entry)) (block - 1) 0 ⌝ }
 {
     let i = if block == 0 { 0 } else { block as usize - 1 };
-    if i < 64 { holder[i] } else { 0 }
+    if i < BLOCKS {
+        return holder[i];
+    }
+    counted(*holder);
+    NOBODY
 }
 
 // May the entry stand in unit u's journal?

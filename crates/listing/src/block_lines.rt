@@ -1,6 +1,7 @@
 // The blocks' lines, from the linked tables of a state whose contents stand at locations of a card.
 use lists::tables::is_placed;
 use lists::tables::location_of;
+use log::entry::LogEntry;
 use log::layout::SLOT;
 use log::location::QUEUE_AT;
 use text::decimal::put_decimal;
@@ -15,7 +16,7 @@ ghost use Rattle.text.specs.Written.{Puts};
 ghost use Rattle.listing.specs.Listing.{total, blockPart, blockLines};
 ghost use Rattle.listing.specs.Shown.{OfContents, sumAt};
 
-const BLOCKS: u8 = 64;
+const BLOCKS: u8 = LogEntry::BLOCKS;
 
 // The blocks on some list, ascending.
 pub fn put_blocks(

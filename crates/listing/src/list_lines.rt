@@ -1,6 +1,7 @@
 // The lists' lines, from the linked tables of a state.
 use lists::tables::block_after;
 use lists::tables::is_taken;
+use log::entry::LogEntry;
 use text::decimal::put_decimal;
 use text::put::put_byte;
 use text::put::put_bytes;
@@ -15,10 +16,10 @@ ghost use Rattle.text.specs.Written.{Puts};
 ghost use Rattle.listing.specs.Listing.{numbers, listPart, listLines};
 ghost use Rattle.listing.specs.Shown.{OfLinks};
 
-const LISTS: u8 = 16;
+const LISTS: u8 = LogEntry::LISTS;
 
 // No list has more blocks.
-const BLOCKS: usize = 64;
+const BLOCKS: usize = LogEntry::BLOCKS as usize;
 
 // The lists taken, ascending.
 pub fn put_lists(out: &mut [u8], at: usize, next: &[u8; 256], owner: &[u8; 256]) -> usize

@@ -278,6 +278,12 @@ module _ {A : Type 0} where
   getD-same (suc n) zero x = refl
   getD-same (suc n) (suc i) x = getD-same n i x
 
+  -- an element of a list does not go by the default
+  pub any-default : (l : List A) (i : ℕ) (a b : A) → i < length l → getD l i a ≡ getD l i b
+  any-default [] i a b h = absurd (omega arith)
+  any-default (x ∷ l) zero a b h = refl
+  any-default (x ∷ l) (suc i) a b h = any-default l i a b (omega arith)
+
   pub getD-set-default : (l : List A) (i : ℕ) (x : A) → getD (set l i x) i x ≡ x
   getD-set-default [] i x = refl
   getD-set-default (y ∷ l) zero x = refl

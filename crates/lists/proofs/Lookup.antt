@@ -2,7 +2,7 @@
 -- another, and the list after another.
 use mathlib.Core.Path.{_≡_, refl, sym, ap, _∙_, subst}
 use mathlib.Core.Logic.{_≢_, ⊎-elim}
-use mathlib.Core.Bool.{true, false, _||_, not, cond, true≢false, false≢true}
+use mathlib.Core.Bool.{Bool, true, false, _||_, not, cond, true≢false, false≢true}
 use mathlib.Core.Option.{none, some}
 use mathlib.Core.List.{List, [], _∷_, _++_, map, append-assoc}
 use Prim.Native.Nat.{ℕ, zero, suc, _+_, _-_, _≤_, _<_}
@@ -11,8 +11,8 @@ use lib.Dec.{eqb}
 use lib.ListN.{length, getD}
 use Rattle.lists.specs.State.{Block, Row, onBlocksOf, onRow, taken, placed, onList}
 use Rattle.lists.specs.Lookup.{contentIn, contentOf, blocksOf, nextIn, nextAfter, listNums, takenAfter}
-use Rattle.lists.specs.Tables.{Tables, Shows, Apart, Linked, HasBlocks, HasLists, IsBlock, IsList, blockNodes, nodes, chain, ownerOf, nextOf, listNode, blockOr0, listWithin}
-use Rattle.lists.proofs.Basic.{either, or-both, or-cases, eqb-true, eqb-false, eqb-neq, eq-true, le-true, lt-true, gt-false, ge-false}
+use Rattle.lists.specs.Tables.{Tables, Shows, Apart, Linked, HasBlocks, HasLists, IsBlock, IsList, blockNodes, nodes, chain, ownerOf, nextOf, listNode, blockOr0, listWithin, behindNode, behindList, SaysTaken, SaysPlaced, SaysOn, SaysLocation, SaysBlockAfter, SaysListAfter, OfNext, OfOwners, OfPlaces}
+use Rattle.lists.proofs.Basic.{not-not, either, or-both, or-cases, eqb-true, eqb-false, eqb-neq, eq-true, le-true, lt-true, gt-false, ge-false}
 use Rattle.lists.proofs.Chain.{away-right, apart-left, apart-right, last, linked-tail}
 use Rattle.lists.proofs.Nodes.{away-taken, onList-taken}
 use Rattle.lists.proofs.Owners.{taken-owner, taken-range, untaken-away, unplaced-away, onList-owner, placed-owner}
@@ -124,10 +124,6 @@ module _ (nx pv o p : List ℕ) where
       (λ (e : eqb (r .num) l ≡ false). rw (e, blocksOf) (after-of l b _ rs (k .2) (linked-lists a r rs w) (apart-right (blockNodes (r .blocks)) (nodes rs) (d .1)) (rw e at h)))
       (either (eqb (r .num) l))
 
--- the node behind which the block after b is looked for
-abbrev pub behindNode : ℕ → ℕ → ℕ
-behindNode l b = cond (eqb b 0) (listNode l) b
-
 pub block-after : (t : Tables) (rs : List (Row ℕ)) → Shows t rs → (l b : ℕ) → taken l rs ≡ true → eqb b 0 || onList l b rs ≡ true
     → blockOr0 (nextOf t (behindNode l b)) ≡ nextAfter rs l b
 unfolding nextAfter nextIn
@@ -182,10 +178,6 @@ module _ (nx pv o p : List ℕ) where
       (λ (e : eqb (r .num) l ≡ false). rw (e, nextIn) (list-of c l _ rs (k .2) (linked-lists nx pv o p a r rs w) (apart-right (blockNodes (r .blocks)) (nodes rs) (d .1)) (rw e at h)))
       (either (eqb (r .num) l))
 
--- the node behind which the list after l is looked for
-abbrev pub behindList : ℕ → ℕ
-behindList l = cond (eqb l 0) 0 (listNode l)
-
 pub list-after : (t : Tables) (rs : List (Row ℕ)) → Shows t rs → (l : ℕ) → eqb l 0 || taken l rs ≡ true → listWithin 256 (t .next) (behindList l) ≡ takenAfter rs l
 unfolding takenAfter nextIn
 list-after t rs s l h = ⊎-elim
@@ -197,3 +189,23 @@ list-after t rs s l h = ⊎-elim
     rw (e, node-of l (taken-range (t .owner) (t .place) l rs (s .has) g .1), eqb-false 0 l (λ z. eqb-neq l 0 e (sym z)), nextIn)
     (list-of (t .next) (t .prev) (t .owner) (t .place) (s .sized .owner) l 0 rs (s .has) (s .linked) (apart-left (nodes rs) (255 ∷ []) (s .apart .1)) g))
     (either (eqb l 0))
+
+-- The look-ups' answers, of the lists that tables show.
+pub taken-said : {ow : List ℕ} {l : ℕ} {r : Bool} → SaysTaken ow l r → OfOwners ow (λ rs. IsList l → r ≡ taken l rs)
+taken-said {ow} {l} {r} w nx pv pl rs s g = w .answer ∙ ap not (taken-free _ rs s l g) ∙ not-not (taken l rs)
+
+pub placed-said : {ow : List ℕ} {b : ℕ} {r : Bool} → SaysPlaced ow b r → OfOwners ow (λ rs. IsBlock b → r ≡ placed b rs)
+placed-said {ow} {b} {r} w nx pv pl rs s g = w .answer ∙ ap not (placed-free _ rs s b g) ∙ not-not (placed b rs)
+
+pub on-said : {ow : List ℕ} {l b : ℕ} {r : Bool} → SaysOn ow l b r → OfOwners ow (λ rs. IsList l → IsBlock b → r ≡ onList l b rs)
+on-said {ow} {l} {b} {r} w nx pv pl rs s g h = w .answer ∙ on-own _ rs s l b g h
+
+pub location-said : {pl : List ℕ} {b r : ℕ} → SaysLocation pl b r → OfPlaces pl (λ rs. placed b rs ≡ true → contentOf rs b ≡ some r)
+location-said {pl} {b} {r} w nx pv ow rs s h = content-place ow pl b rs (s .has) h ∙ ap some (sym (w .answer))
+
+pub block-said : {nx : List ℕ} {l p r : ℕ} → SaysBlockAfter nx l p r
+    → OfNext nx (λ rs. taken l rs ≡ true → eqb p 0 || onList l p rs ≡ true → r ≡ nextAfter rs l p)
+block-said {nx} {l} {p} {r} w pv ow pl rs s h k = w .answer ∙ block-after _ rs s l p h k
+
+pub list-said : {nx : List ℕ} {l r : ℕ} → SaysListAfter nx l r → OfNext nx (λ rs. eqb l 0 || taken l rs ≡ true → r ≡ takenAfter rs l)
+list-said {nx} {l} {r} w pv ow pl rs s h = w .answer ∙ list-after _ rs s l h

@@ -219,6 +219,32 @@ listWithin (suc k) nx n =
     let m = getD nx n 0 in
     elim (eqb m 255) [ true ↦ 0 | false ↦ elim (ltb 64 m) [ true ↦ m - 64 | false ↦ listWithin k nx m ] ]
 
+-- the node behind which the block after p on list l stands, and the one behind which the list after l does; 0 is before the first
+abbrev pub behindNode : ℕ → ℕ → ℕ
+behindNode l p = cond (eqb p 0) (listNode l) p
+
+abbrev pub behindList : ℕ → ℕ
+behindList l = cond (eqb l 0) 0 (listNode l)
+
+-- What the look-ups answer, whatever stands in the tables; what that says of the lists that tables show are laws (`Lookup` in proofs).
+pub record SaysTaken (ow : List ℕ) (l : ℕ) (r : Bool) : Type 0 where
+  pub answer : r ≡ not (eqb (getD ow (listNode l) 0) 0)
+
+pub record SaysPlaced (ow : List ℕ) (b : ℕ) (r : Bool) : Type 0 where
+  pub answer : r ≡ not (eqb (getD ow b 0) 0)
+
+pub record SaysOn (ow : List ℕ) (l b : ℕ) (r : Bool) : Type 0 where
+  pub answer : r ≡ eqb (getD ow b 0) l
+
+pub record SaysLocation (pl : List ℕ) (b r : ℕ) : Type 0 where
+  pub answer : r ≡ getD pl b 0
+
+pub record SaysBlockAfter (nx : List ℕ) (l p r : ℕ) : Type 0 where
+  pub answer : r ≡ blockOr0 (getD nx (behindNode l p) 0)
+
+pub record SaysListAfter (nx : List ℕ) (l r : ℕ) : Type 0 where
+  pub answer : r ≡ listWithin 256 nx (behindList l)
+
 -- Of one table alone: what holds of all lists that tables with it show.
 abbrev pub OfNext : List ℕ → (List (Row ℕ) → Type 0) → Type 0
 OfNext nx P = (pv ow pl : List ℕ) (rs : List (Row ℕ)) → Shows (tables nx pv ow pl) rs → P rs

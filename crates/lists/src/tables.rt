@@ -6,24 +6,20 @@
 //
 // Every byte is a node of the tables, so no function asks anything of its numbers. What is promised of a state asks that they are in range.
 use crate::kind;
+use crate::limits::BLOCKS;
 ghost use mathlib.Core.Path.{_≡_};
-ghost use mathlib.Core.Bool.{true, _||_};
-ghost use mathlib.Core.Option.{some};
 ghost use mathlib.Core.List.{List};
 ghost use Prim.Native.Nat.{ℕ, _<_, _≤_};
-ghost use lib.Dec.{eqb};
 ghost use lib.ListN.{getD, set};
 ghost use Rattle.lists.specs.Change.{takeList, putAfter, write, delBlock, delList};
-ghost use Rattle.lists.specs.State.{taken, placed, onList};
-ghost use Rattle.lists.specs.Lookup.{contentOf, nextAfter, takenAfter};
-ghost use Rattle.lists.specs.Tables.{tables, listNode, insertNode, freeFrom, blockOr0, listWithin, Sized, Cleared, Did, DidSome, ofKind, IsBlock, IsList, OfNext, OfOwners, OfPlaces};
+ghost use Rattle.lists.specs.Tables.{tables, listNode, insertNode, freeFrom, blockOr0, listWithin, Sized, Cleared, Did, DidSome, ofKind, SaysTaken, SaysPlaced, SaysOn, SaysLocation, SaysBlockAfter, SaysListAfter};
 
 const START: u8 = 0;
 
 const END: u8 = 255;
 
-// The last block's node. The lists' nodes are above it.
-const BLOCKS: u8 = 64;
+// The lists' nodes stand above the blocks', the last of which is BLOCKS.
+const LIST_NODES: u8 = 64;
 
 // The location of a fresh block's content.
 const BLANK: u16 = 0;
@@ -39,7 +35,7 @@ fn wide(x: u8) -> usize
 fn list_node(list: u8) -> u8
     ensures { λ r. ⌜ r ≡ listNode list ⌝ }
 {
-    BLOCKS + list % 64
+    BLOCKS + list % LIST_NODES
 }
 
 // Node y follows node x.
@@ -224,28 +220,28 @@ pub fn act(
 
 // Is the list taken?
 pub fn is_taken(owner: &[u8; 256], list: u8) -> bool
-    ensures { λ r. ⌜ OfOwners (now (owner .entry)) (λ rs. IsList list → r ≡ taken list rs) ⌝ }
+    ensures { λ r. ⌜ SaysTaken (now (owner .entry)) list r ⌝ }
 {
     owner[list_node(list) as usize] != 0
 }
 
 // Is the block on some list?
 pub fn is_placed(owner: &[u8; 256], block: u8) -> bool
-    ensures { λ r. ⌜ OfOwners (now (owner .entry)) (λ rs. IsBlock block → r ≡ placed block rs) ⌝ }
+    ensures { λ r. ⌜ SaysPlaced (now (owner .entry)) block r ⌝ }
 {
     owner[block as usize] != 0
 }
 
 // Is the block on this list?
 pub fn is_on(owner: &[u8; 256], list: u8, block: u8) -> bool
-    ensures { λ r. ⌜ OfOwners (now (owner .entry)) (λ rs. IsList list → IsBlock block → r ≡ onList list block rs) ⌝ }
+    ensures { λ r. ⌜ SaysOn (now (owner .entry)) list block r ⌝ }
 {
     owner[block as usize] == list
 }
 
 // The location of the content of a block that is on some list.
 pub fn location_of(place: &[u16; 256], block: u8) -> u16
-    ensures { λ r. ⌜ OfPlaces (now (place .entry)) (λ rs. placed block rs ≡ true → contentOf rs block ≡ some r) ⌝ }
+    ensures { λ r. ⌜ SaysLocation (now (place .entry)) block r ⌝ }
 {
     place[block as usize]
 }
@@ -260,8 +256,7 @@ fn block_behind(next: &[u8; 256], x: u8) -> u8
 
 // The block after another on a list that is taken: 0 stands for the first, and is returned at the end.
 pub fn block_after(next: &[u8; 256], list: u8, predecessor: u8) -> u8
-    ensures { λ r. ⌜ OfNext (now (next .entry)) (λ rs.
-        taken list rs ≡ true → eqb predecessor 0 || onList list predecessor rs ≡ true → r ≡ nextAfter rs list predecessor) ⌝ }
+    ensures { λ r. ⌜ SaysBlockAfter (now (next .entry)) list predecessor r ⌝ }
 {
     if predecessor == 0 {
         block_behind(next, list_node(list))
@@ -291,7 +286,7 @@ fn list_behind(next: &[u8; 256], x: u8) -> u8
 
 // The list taken next after another: 0 stands for the first, and is returned at the end.
 pub fn list_after(next: &[u8; 256], list: u8) -> u8
-    ensures { λ r. ⌜ OfNext (now (next .entry)) (λ rs. eqb list 0 || taken list rs ≡ true → r ≡ takenAfter rs list) ⌝ }
+    ensures { λ r. ⌜ SaysListAfter (now (next .entry)) list r ⌝ }
 {
     if list == 0 {
         list_behind(next, START)

@@ -1,15 +1,19 @@
 -- Small logs and places, computed. Each comes out otherwise under a wrong definition that lies near at hand; tests/wrong-definitions tries those.
-use mathlib.Core.Path.{_≡_, refl}
-use mathlib.Core.Option.{some}
+use mathlib.Core.Path.{_≡_, refl, sym, ap}
+use mathlib.Core.Bool.{true≢false}
+use mathlib.Core.Option.{some, Option·some-injective}
 use mathlib.Core.List.{List, [], _∷_, _++_}
 use Prim.Native.Nat.{ℕ}
+use native.Mathlib.Omega.{arith}
 use lib.ListN.{replicate}
 use Rattle.lists.specs.Change.{takeList, putFirst, mapChange, carriedBy}
 use Rattle.lists.specs.State.{state, row, block, taken, placed, applies, changed, apply, applyAll}
 use Rattle.log.specs.Entry.{plain, member, commit, mapEntry, carried, changeBytes, encode, raw, entryLength, legalChange, hasMember, legal, changeOf, checked, entryOf, decode}
 use Rattle.log.specs.Reader.{start, settled, lastOf, read, replay}
 use Rattle.log.specs.Card.{good, sound, slot, cardSlot, count, segmentEntries, usedBy, isNext, entryAt, itemsOf, segmentItems, afterEmpty, items, walk}
-use Rattle.log.specs.Store.{formatStores, opened, after, behind, behindAll, tail, storesFrom, dataOf, entryStores}
+use Rattle.log.specs.declared.place.Place.{Place}
+use Rattle.log.specs.Store.{standing, formatStores, opened, after, fits, home, behind, behindAll, tail, storesFrom, dataOf, entryStores}
+use Rattle.log.specs.Turns.{InTurn, Clearable}
 
 -- "then the entry, lowest byte first; then the raised count byte"
 pub count-comes-last : entryStores (opened 0) (plain (takeList 1)) ≡ (3585, 2) ∷ (3586, 1) ∷ (3584, 1) ∷ []
@@ -20,6 +24,20 @@ count-comes-last = refl
 pub front-formatted-last : formatStores 2 ≡ (7680, 0) ∷ (3584, 0) ∷ []
 unfolding formatStores
 front-formatted-last = refl
+
+-- On an empty card the count of the first entry is not in turn, nor is a second entry; and with an entry in segment 1 the count of segment 0 is not
+-- to be cleared.
+pub count-not-first : InTurn (replicate 4096 0) (opened 0) (plain (takeList 1)) 2 → ⊥
+unfolding mapChange carriedBy mapEntry carried changeBytes encode raw standing opened storesFrom dataOf entryStores
+count-not-first t = true≢false (sym (t .stand))
+
+pub second-not-first : InTurn (replicate 4096 0) (after {D = ℕ} (opened 0) (plain (takeList 1))) (plain (takeList 2)) 0 → ⊥
+unfolding mapChange carriedBy mapEntry carried changeBytes encode raw entryLength count usedBy afterEmpty items opened after fits home behindAll tail
+second-not-first t = let q : _≡_ {A = ℕ} 0 2 = ap (λ (p : Place). p .bytes) (Option·some-injective _ _ (t .behind)) in omega arith
+
+pub front-not-first : Clearable (replicate 7680 0 ++ 1 ∷ replicate 511 0) 0 → ⊥
+unfolding count
+front-not-first t = let q : _≡_ {A = ℕ} 1 0 = t .behind 1 (omega arith) (omega arith) in omega arith
 
 -- "a commit, which takes the last so many members standing directly before it, [..]; earlier members of that run are dead"
 pub dead-members-stay-dead :

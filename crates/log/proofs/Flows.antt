@@ -45,7 +45,7 @@ home-at ess e p h l q = home-behind ess (used ess - 1) e p h (omega (arith, used
     edge zero e = inl (omega arith)
     edge (suc u) e = inr (omega arith)
 
-end-add : {ess : List (List (Entry Content))} {p : Place} {e : Entry Content} → At ess p e → Packed ess → endOf (addTo (p .segment) e ess) ≡ after p e
+pub end-add : {ess : List (List (Entry Content))} {p : Place} {e : Entry Content} → At ess p e → Packed ess → endOf (addTo (p .segment) e ess) ≡ after p e
 unfolding endOf
 end-add {ess} {p} {e} at h =
     ap (λ (g : ℕ). afterAll (opened g) (getD (addTo (p .segment) e ess) g []))

@@ -26,3 +26,5 @@ pub mod Numbers
 pub mod Entering
 pub mod Walking
 pub mod Locations
+pub mod Copying
+pub mod Begun

@@ -15,18 +15,9 @@ use Rattle.log.specs.declared.place.Place.{Place}
 use Rattle.log.specs.Entry.{Entry}
 use Rattle.log.specs.Card.{Content}
 use Rattle.log.specs.Store.{Store, doStores, home, after, entryStores}
-use Rattle.log.specs.Flush.{Flow, Flushed, Ending, drained, full, spent, Next, stored, stopped, storeNext, nextStore, flushFrom}
+use Rattle.log.specs.Flush.{Flow, Flushed, Ending, drained, full, spent, Next, stored, stopped, storeNext, nextStore, flushFrom, ahead, rest}
 use Rattle.log.proofs.EntryStores.{entry-stores-length}
 use Rattle.log.proofs.Allowance.{none-left, stopped-flush, moved-flush}
-
--- the stores of the entries from a place on, up to the first that has no place on a card of n segments
-unfoldable pub ahead : ℕ → Place → List (Entry Content) → List Store
-ahead n p [] = []
-ahead n p (e ∷ q) = elim (home n p e) [ none ↦ [] | some h ↦ entryStores h e ++ ahead n (after h e) q ]
-
--- those that are still to do
-unfoldable pub rest : ℕ → Flow → List Store
-rest n f = drop (f .done) (ahead n (f .place) (f .queue))
 
 -- k stores of the head are done, fewer than it has; none if it has no place, or the queue is empty
 abbrev pub ReadyHead : Option Place → Entry Content → ℕ → Type 0

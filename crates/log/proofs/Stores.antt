@@ -13,10 +13,10 @@ use Rattle.log.specs.declared.place.Place.{Place}
 use Rattle.log.specs.Entry.{Entry, plain, member, commit, mapEntry, carried, changeBytes, encode, raw, entryLength, legal, legalChange, hasMember, isBlock, isList, isSlot}
 use Rattle.log.specs.Card.{Content, slot, segmentsIn, usedBy}
 use Rattle.log.specs.Store.{Store, opened, after, afterAll, fits, home, tail, storesFrom, dataOf, entryStores}
+use Rattle.log.specs.Flush.{ahead}
 use Rattle.log.proofs.Segment.{codes, data-length, Carries, carries-segments}
 use Rattle.log.proofs.Places.{Good, raw-length, legal-raw, after-segment, after-entries, after-bytes, used, used-le, fits-opened, fits-both}
 use Rattle.log.proofs.Flows.{endOf, tail-end, AllGood}
-use Rattle.log.proofs.Sequence.{ahead}
 
 abbrev pub AllBytes : List ℕ → Type 0
 AllBytes [] = Unit {0}

@@ -1,13 +1,13 @@
 -- A flush: the queue's head goes to the card store by store, until an ending.
 use mathlib.Core.Bool.{Bool, true, false}
 use mathlib.Core.Option.{Option, none, some}
-use mathlib.Core.List.{List, [], _∷_}
+use mathlib.Core.List.{List, [], _∷_, _++_}
 use Prim.Native.Nat.{ℕ, zero, suc}
 use lib.Dec.{eqb}
-use lib.ListN.{length, getD, set}
+use lib.ListN.{length, drop, getD, set}
 use Rattle.log.specs.Entry.{Entry}
 use Rattle.log.specs.Card.{Content}
-use Rattle.log.specs.Store.{home, after, entryStores}
+use Rattle.log.specs.Store.{Store, home, after, entryStores}
 use Rattle.log.specs.declared.place.Place.{Place}
 
 -- between two stores: the card, the place behind the entries whose count stands, the queue, and the stores of its head that are done
@@ -54,3 +54,12 @@ flushFrom n zero k f = elim (nextStore n f)
     [ stored f′ ↦ record { flow = f; stores = k; ending = spent } | stopped e ↦ record { flow = f; stores = k; ending = e } ]
 flushFrom n (suc a) k f = elim (nextStore n f)
     [ stored f′ ↦ flushFrom n a (suc k) f′ | stopped e ↦ record { flow = f; stores = k; ending = e } ]
+
+-- "along this sequence": the stores of the entries from a place on, up to the first that has no place on a card of n segments
+unfoldable pub ahead : ℕ → Place → List (Entry Content) → List Store
+ahead n p [] = []
+ahead n p (e ∷ q) = elim (home n p e) [ none ↦ [] | some h ↦ entryStores h e ++ ahead n (after h e) q ]
+
+-- those that are still to do
+unfoldable pub rest : ℕ → Flow → List Store
+rest n f = drop (f .done) (ahead n (f .place) (f .queue))

@@ -5,6 +5,8 @@ pub mod Store
 pub mod Flush
 pub mod Parse
 pub mod Within
+pub mod Turns
+pub mod Begun
 pub mod Location
 pub mod Found
 pub mod Feed

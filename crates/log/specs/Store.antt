@@ -4,7 +4,7 @@ use mathlib.Core.Option.{Option, none, some}
 use mathlib.Core.List.{List, [], _∷_, _++_}
 use Prim.Native.Nat.{ℕ, zero, suc, _+_, _*_}
 use lib.Dec.{leb, eqb, ltb}
-use lib.ListN.{set}
+use lib.ListN.{length, take, getD, set}
 use Rattle.log.specs.declared.place.Place.{Place}
 use Rattle.log.specs.Entry.{Entry, carried, encode, raw, entryLength}
 use Rattle.log.specs.Card.{Content, Item, good, bad, items, cardSlot, segmentsIn, usedBy, segmentBytes, slotBytes, slotCount, countOffset, entriesOffset, entryBytes}
@@ -16,6 +16,11 @@ Store = ℕ × ℕ
 unfoldable pub doStores : List Store → List ℕ → List ℕ
 doStores [] c = c
 doStores (x ∷ xs) c = doStores xs (set c (x .0) (x .1))
+
+-- do these stores stand on the card? 256 is no byte, so a store outside it does not
+unfoldable pub standing : List Store → List ℕ → Bool
+standing [] c = true
+standing (x ∷ xs) c = eqb (getD c (x .0) 256) (x .1) && standing xs c
 
 -- "Formatting stores 0 in each count byte, the last segment's first and segment 0's last, and in no other byte."
 unfoldable pub formatStores : ℕ → List Store
@@ -73,3 +78,8 @@ entryStores p e =
     storesFrom (segmentBytes * p .segment + slotBytes * p .slots) (dataOf (carried e))
     ++ storesFrom (segmentBytes * p .segment + entriesOffset + p .bytes) (encode (raw (p .slots) e))
     ++ (segmentBytes * p .segment + countOffset, suc (p .entries)) ∷ []
+
+-- do the first k stores of entry e, whose place is p if it has one, stand on the card? The closing one is none of them.
+unfoldable pub headAt : List ℕ → ℕ → Option Place → Entry Content → Bool
+headAt c k none e = eqb k 0
+headAt c k (some p) e = let ss = entryStores p e in ltb k (length ss) && standing (take k ss) c

@@ -1,4 +1,5 @@
 // A log entry, as the working record holds it and as the card's bytes say it.
+use lists::limits;
 
 // The seven kinds of entry. Whether a change is plain or a member of a unit stands beside it.
 pub enum LogEntry {
@@ -31,9 +32,9 @@ pub enum LogEntry {
 
 impl LogEntry {
     // Blocks are 1 to BLOCKS, lists 1 to LISTS, slots 0 to SLOTS - 1, a commit's count 0 to MEMBERS.
-    pub const BLOCKS: u8 = 64;
+    pub const BLOCKS: u8 = limits::BLOCKS;
 
-    pub const LISTS: u8 = 16;
+    pub const LISTS: u8 = limits::LISTS;
 
     pub const SLOTS: u8 = 14;
 

@@ -1,9 +1,10 @@
 // The log on the card: entries and their bytes, the layout of segments, the reader's walk, formatting and the stores of a flush.
+pub mod content;
+pub mod copy;
 pub mod encode;
 pub mod entry;
 pub mod feed;
-pub mod flush;
-pub mod format;
+pub mod head;
 pub mod layout;
 pub mod legal;
 pub mod location;

@@ -8,6 +8,7 @@ use crate::arguments::triple;
 use crate::arguments::two_numbers;
 use crate::command::Command;
 use crate::numbered;
+use lists::limits;
 use text::decimal::number;
 use text::hex::is_hex;
 use text::line::is_word;
@@ -22,7 +23,7 @@ const LONGEST_LINE: usize = 1023;
 
 const BLOCK: u64 = 256;
 
-const LISTS: u64 = 16;
+const LISTS: u64 = limits::LISTS as u64;
 
 pub fn command(line: &[u8]) -> Command
     ensures { λ r. ⌜ r ≡ commandOf (now (line .entry)) ⌝ }

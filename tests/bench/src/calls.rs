@@ -6,7 +6,7 @@ use second::limits::{ALLOWANCE, BLOCK_BYTES, JOURNAL_BYTES, QUEUE_BYTES};
 use second::record::Record;
 use std::time::Instant;
 
-// `crates/bench`; a slice is passed as its pointer and its length. Each returns how many of `times` calls were accepted.
+// `tests/bench/crate`; a slice is passed as its pointer and its length. Each returns how many of `times` calls were accepted.
 extern "C" {
     fn bench_mount(
         card: *const u8,

@@ -14,7 +14,7 @@ use std::hint::black_box;
 use std::time::Instant;
 
 extern "C" {
-    // `crates/bench`; a slice is passed as its pointer and its length.
+    // `tests/bench/crate`; a slice is passed as its pointer and its length.
     fn bench_walk(card: *const u8, length: usize) -> u64;
 }
 

@@ -2,6 +2,7 @@
 use mathlib.Core.Path.{refl, sym, _∙_}
 use native.Mathlib.Omega.{arith}
 use borrow.Author.Tests.{not-true, not-false}
+use Rattle.lists.proofs.Lookup.{placed-said}
 use borrow.Author.Needs.{needs}
 use Rattle.calls.proofs.delete_block.delete_placed.Statement.{statement}
 use Rattle.lists.specs.State.{placed}
@@ -36,7 +37,7 @@ returns-2 c = λ nx pv pl rs h.
     let a = c .before .before .before .before .args in
     let w = sym (c .before .before .before .is-block .ensures) ∙ not-false (c .before .before .before .is-block .result) (c .before .before .if1 .left) in
     second-no 5 8 (isBlock (a .b)) (placed (a .b) rs) (a .s) (DeleteBlock (a .b)) (a .rec) BlockNotPlaced refl w
-    (sym (c .before .is-placed .ensures nx pv pl rs h (inside 64 (a .b) w)) ∙ not-true (c .before .is-placed .result) (c .if2 .taken))
+    (sym (placed-said (c .before .is-placed .ensures) nx pv pl rs h (inside 64 (a .b) w)) ∙ not-true (c .before .is-placed .result) (c .if2 .taken))
 
 add-requires : tie.Need-add-requires
 add-requires c κs = search needs
@@ -46,7 +47,7 @@ returns-3 c = λ nx pv pl rs h.
     let a = c .before .before .before .before .before .args in
     let w = sym (c .before .before .before .before .is-block .ensures) ∙ not-false (c .before .before .before .before .is-block .result) (c .before .before .before .if1 .left) in
     both-yes 5 8 (isBlock (a .b)) (placed (a .b) rs) (a .s) (DeleteBlock (a .b)) (a .rec) (c .add .result .reply) (c .add .result .rec) w
-    (sym (c .before .before .is-placed .ensures nx pv pl rs h (inside 64 (a .b) w)) ∙ not-false (c .before .before .is-placed .result) (c .before .if2 .left))
+    (sym (placed-said (c .before .before .is-placed .ensures) nx pv pl rs h (inside 64 (a .b) w)) ∙ not-false (c .before .before .is-placed .result) (c .before .if2 .left))
     (c .add .ensures)
 
 pub delete-placed-spec : {M : Type 1} → statement M

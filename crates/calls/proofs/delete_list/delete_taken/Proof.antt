@@ -2,6 +2,7 @@
 use mathlib.Core.Path.{refl, sym, _∙_}
 use native.Mathlib.Omega.{arith}
 use borrow.Author.Tests.{not-true, not-false}
+use Rattle.lists.proofs.Lookup.{taken-said}
 use borrow.Author.Needs.{needs}
 use Rattle.calls.proofs.delete_list.delete_taken.Statement.{statement}
 use Rattle.lists.specs.State.{taken}
@@ -36,7 +37,7 @@ returns-2 c = λ nx pv pl rs h.
     let a = c .before .before .before .before .args in
     let w = sym (c .before .before .before .is-list .ensures) ∙ not-false (c .before .before .before .is-list .result) (c .before .before .if1 .left) in
     second-no 5 7 (isList (a .l)) (taken (a .l) rs) (a .s) (DeleteList (a .l)) (a .rec) ListNotTaken refl w
-    (sym (c .before .is-taken .ensures nx pv pl rs h (inside 16 (a .l) w)) ∙ not-true (c .before .is-taken .result) (c .if2 .taken))
+    (sym (taken-said (c .before .is-taken .ensures) nx pv pl rs h (inside 16 (a .l) w)) ∙ not-true (c .before .is-taken .result) (c .if2 .taken))
 
 add-requires : tie.Need-add-requires
 add-requires c κs = search needs
@@ -46,7 +47,7 @@ returns-3 c = λ nx pv pl rs h.
     let a = c .before .before .before .before .before .args in
     let w = sym (c .before .before .before .before .is-list .ensures) ∙ not-false (c .before .before .before .before .is-list .result) (c .before .before .before .if1 .left) in
     both-yes 5 7 (isList (a .l)) (taken (a .l) rs) (a .s) (DeleteList (a .l)) (a .rec) (c .add .result .reply) (c .add .result .rec) w
-    (sym (c .before .before .is-taken .ensures nx pv pl rs h (inside 16 (a .l) w)) ∙ not-false (c .before .before .is-taken .result) (c .before .if2 .left))
+    (sym (taken-said (c .before .before .is-taken .ensures) nx pv pl rs h (inside 16 (a .l) w)) ∙ not-false (c .before .before .is-taken .result) (c .before .if2 .left))
     (c .add .ensures)
 
 pub delete-taken-spec : {M : Type 1} → statement M

@@ -1,6 +1,6 @@
 -- What a flush makes of its head by the stores that are left of it, or by those that the allowance allows. Assumes nothing.
 use native.Mathlib.Omega.{arith}
-use Rattle.calls.proofs.Storing.{storable, heads-full, heads-spent, heads-drained}
+use Rattle.calls.proofs.Storing.{storable, in-turns, heads-full, heads-spent, heads-drained}
 use borrow.Author.Needs.{needs}
 use Rattle.calls.proofs.drain.store_head.Statement.{statement}
 use Rattle.calls.proofs.drain.store_head.Tie as tie
@@ -41,7 +41,7 @@ advance-requires c κs =
     let s = f .before .before .before in
     let a = s .args in
     let t = storable (a .content .now) (s .pre .1) (a .member) (a .e) (a .card .now) (a .place) (a .done) (s .pre .0) (f .home-of .result) (f .home-of .ensures) _ (c .before .before .before .before .home .given .1) in
-    (t, omega (arith, c .before .if1 .taken, c .before .before .stores-of .ensures (c .before .before .before .before .home .given .0 .0) (a .member) (a .content .now) (s .pre .1)), s .pre .1)
+    (t, omega (arith, c .before .if1 .taken, c .before .before .stores-of .ensures (c .before .before .before .before .home .given .0 .0) (a .member) (a .content .now) (s .pre .1)), s .pre .1, in-turns (a .content .now) (s .pre .1) (a .member) (a .e) (a .card .now) (a .place) (a .done) (s .pre .0) (f .home-of .result) (f .home-of .ensures) _ (c .before .before .before .before .home .given .1) _ (omega (arith, c .before .if1 .taken, c .before .before .stores-of .ensures (c .before .before .before .before .home .given .0 .0) (a .member) (a .content .now) (s .pre .1))))
 
 same-length : tie.Need-same-length
 same-length c = search needs
@@ -59,7 +59,7 @@ advance-requires-2 c κs =
     let s = f .before .before .before in
     let a = s .args in
     let t = storable (a .content .now) (s .pre .1) (a .member) (a .e) (a .card .now) (a .place) (a .done) (s .pre .0) (f .home-of .result) (f .home-of .ensures) _ (c .before .before .before .before .home .given .1) in
-    (t, omega (arith, c .before .before .stores-of .ensures (c .before .before .before .before .home .given .0 .0) (a .member) (a .content .now) (s .pre .1)), s .pre .1)
+    (t, omega (arith, c .before .before .stores-of .ensures (c .before .before .before .before .home .given .0 .0) (a .member) (a .content .now) (s .pre .1)), s .pre .1, in-turns (a .content .now) (s .pre .1) (a .member) (a .e) (a .card .now) (a .place) (a .done) (s .pre .0) (f .home-of .result) (f .home-of .ensures) _ (c .before .before .before .before .home .given .1) _ (omega (arith, c .before .before .stores-of .ensures (c .before .before .before .before .home .given .0 .0) (a .member) (a .content .now) (s .pre .1))))
 
 after-requires : tie.Need-after-requires
 after-requires c κs =

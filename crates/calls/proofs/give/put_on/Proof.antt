@@ -2,6 +2,7 @@
 use mathlib.Core.Path.{sym, _∙_}
 use borrow.Author.Tests.{not-true, not-false}
 use Rattle.calls.proofs.Giving.{put-not-taken, put-elsewhere, put-none, put-some}
+use Rattle.lists.proofs.Lookup.{taken-said}
 use borrow.Author.Needs.{needs}
 use Rattle.calls.proofs.give.put_on.Statement.{statement}
 use Rattle.calls.proofs.give.put_on.Tie as tie
@@ -13,7 +14,7 @@ returns : tie.Need-returns
 returns c nx pv pl rs sh =
     let k = c .before in
     let x = k .before .args in
-    put-not-taken (x .s) (x .l) (x .p) (x .b) (x .rec) rs (sym (k .is-taken .ensures nx pv pl rs sh (search needs)) ∙ not-true (k .is-taken .result) (c .if1 .taken))
+    put-not-taken (x .s) (x .l) (x .p) (x .b) (x .rec) rs (sym (taken-said (k .is-taken .ensures) nx pv pl rs sh (search needs)) ∙ not-true (k .is-taken .result) (c .if1 .taken))
 
 follows-requires : tie.Need-follows-requires
 follows-requires c κs = search needs
@@ -23,7 +24,7 @@ returns-2 c nx pv pl rs sh =
     let k = c .before .before .before in
     let x = k .before .args in
     put-elsewhere (x .s) (x .l) (x .p) (x .b) (x .rec) rs
-    (sym (k .is-taken .ensures nx pv pl rs sh (search needs)) ∙ not-false (k .is-taken .result) (c .before .before .if1 .left))
+    (sym (taken-said (k .is-taken .ensures) nx pv pl rs sh (search needs)) ∙ not-false (k .is-taken .result) (c .before .before .if1 .left))
     (sym (c .before .follows .ensures nx pv pl rs sh) ∙ not-true (c .before .follows .result) (c .if2 .taken))
 
 returns-3 : tie.Need-returns-3
@@ -32,7 +33,7 @@ returns-3 c nx pv pl rs sh =
     let k = j .before .before in
     let x = k .before .args in
     put-none (x .s) (x .l) (x .p) (x .b) (x .rec) rs
-    (sym (k .is-taken .ensures nx pv pl rs sh (search needs)) ∙ not-false (k .is-taken .result) (j .before .if1 .left))
+    (sym (taken-said (k .is-taken .ensures) nx pv pl rs sh (search needs)) ∙ not-false (k .is-taken .result) (j .before .if1 .left))
     (sym (j .follows .ensures nx pv pl rs sh) ∙ not-false (j .follows .result) (c .before .if2 .left))
     (c .if3 .taken)
 
@@ -45,7 +46,7 @@ returns-4 c nx pv pl rs sh =
     let k = j .before .before in
     let x = k .before .args in
     put-some (x .s) (x .l) (x .p) (x .b) (x .rec) rs
-    (sym (k .is-taken .ensures nx pv pl rs sh (search needs)) ∙ not-false (k .is-taken .result) (j .before .if1 .left))
+    (sym (taken-said (k .is-taken .ensures) nx pv pl rs sh (search needs)) ∙ not-false (k .is-taken .result) (j .before .if1 .left))
     (sym (j .follows .ensures nx pv pl rs sh) ∙ not-false (j .follows .result) (c .before .before .if2 .left))
     (c .put-block .result .reply) (c .put-block .result .rec) (c .before .if3 .left) (c .put-block .ensures)
 

@@ -3,6 +3,7 @@ use mathlib.Core.Path.{_≡_, refl, _∙_}
 use Prim.Native.Nat.{_-_, _≤_}
 use native.Mathlib.Omega.{arith}
 use lib.ListN.{length, length-set}
+use Rattle.lists.proofs.Lookup.{list-said}
 use Rattle.lists.specs.Tables.{tables, OfNext}
 use Rattle.calls.proofs.Taken.{Storing, storing-none, storing-more, storing-end, storing-full}
 use Rattle.calls.proofs.inventory.put_lists.Statement.{statement}
@@ -20,7 +21,7 @@ list-after-requires c κs = tt
 loop-holds : tie.Need-loop-holds Inv-loop μ-loop
 loop-holds c =
     let a = c .before .before .args in
-    (omega arith, refl, λ pv ow pl rs w. storing-none (a .dest .now) rs (c .list-after .result) (c .list-after .ensures pv ow pl rs w refl))
+    (omega arith, refl, λ pv ow pl rs w. storing-none (a .dest .now) rs (c .list-after .result) (list-said (c .list-after .ensures) pv ow pl rs w refl))
 
 same-length : tie.Need-same-length Inv-loop μ-loop
 same-length c = c .before .before .loop .inv .1
@@ -49,7 +50,7 @@ loop-again c =
     let a = c .before .before .before .before .before .before .args in (
       omega arith,
       length-set (s .dest) (s .i) (s .list) ∙ s .inv .1,
-      λ pv ow pl rs w. storing-more (tables (a .next .now) pv ow pl) rs w (s .inv .2 pv ow pl rs w) (omega arith) (c .before .if1 .left) (c .list-after2 .ensures pv ow pl rs w),
+      λ pv ow pl rs w. storing-more (tables (a .next .now) pv ow pl) rs w (s .inv .2 pv ow pl rs w) (omega arith) (c .before .if1 .left) (list-said (c .list-after2 .ensures) pv ow pl rs w),
     )
 
 same-length-2 : tie.Need-same-length-2 Inv-loop μ-loop

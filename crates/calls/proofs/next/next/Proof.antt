@@ -1,6 +1,7 @@
 -- `look` answers the questions 1, 3 and 4; behind them the tables show the view, and what they answer is what the view says. Assumes nothing.
 use mathlib.Core.Path.{sym, _∙_}
 use native.Mathlib.Omega.{arith}
+use Rattle.lists.proofs.Lookup.{block-said, taken-said}
 use borrow.Author.Needs.{needs}
 use borrow.Author.Tests.{not-true, not-false}
 use Rattle.calls.proofs.Refusing.{position-range}
@@ -48,7 +49,7 @@ returns-3 c =
     let e = q .before .before in
     let w = sym (q .before .is-position .ensures) ∙ not-false (q .before .is-position .result) (q .if1 .left) in
     let s = rw (e .enum-told .given .1) at (e .before .before .look .ensures) in
-    next-untaken _ _ _ _ _ s w _ (c .before .is-taken .ensures) (not-true (c .before .is-taken .result) (c .if2 .taken))
+    next-untaken _ _ _ _ _ s w _ (taken-said (c .before .is-taken .ensures)) (not-true (c .before .is-taken .result) (c .if2 .taken))
 
 follows-requires : tie.Need-follows-requires
 follows-requires c κs =
@@ -63,7 +64,7 @@ returns-4 c =
     let e = q .before .before in
     let w = sym (q .before .is-position .ensures) ∙ not-false (q .before .is-position .result) (q .if1 .left) in
     let s = rw (e .enum-told .given .1) at (e .before .before .look .ensures) in
-    next-elsewhere _ _ _ _ _ s w _ (m .before .is-taken .ensures) (not-false (m .before .is-taken .result) (m .if2 .left))
+    next-elsewhere _ _ _ _ _ s w _ (taken-said (m .before .is-taken .ensures)) (not-false (m .before .is-taken .result) (m .if2 .left))
     _ (c .before .follows .ensures) (not-true (c .before .follows .result) (c .if3 .taken))
 
 block-after-requires : tie.Need-block-after-requires
@@ -80,8 +81,8 @@ returns-5 c =
     let e = q .before .before in
     let w = sym (q .before .is-position .ensures) ∙ not-false (q .before .is-position .result) (q .if1 .left) in
     let s = rw (e .enum-told .given .1) at (e .before .before .look .ensures) in
-    next-found _ _ _ _ _ s w _ (m .before .is-taken .ensures) (not-false (m .before .is-taken .result) (m .if2 .left))
-    _ (f .before .follows .ensures) (not-false (f .before .follows .result) (f .if3 .left)) (c .block-after .result) (c .block-after .ensures)
+    next-found _ _ _ _ _ s w _ (taken-said (m .before .is-taken .ensures)) (not-false (m .before .is-taken .result) (m .if2 .left))
+    _ (f .before .follows .ensures) (not-false (f .before .follows .result) (f .if3 .left)) (c .block-after .result) (block-said (c .block-after .ensures))
 
 pub next-spec : {M : Type 1} → statement M
 next-spec =

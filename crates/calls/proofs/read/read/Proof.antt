@@ -3,6 +3,7 @@ use mathlib.Core.Path.{sym, _∙_}
 use native.Mathlib.Omega.{arith}
 use lib.ListN.{length}
 use Rattle.disk.specs.Disk.{disk}
+use Rattle.lists.proofs.Lookup.{location-said, placed-said}
 use borrow.Author.Needs.{needs}
 use borrow.Author.Tests.{not-true, not-false}
 use Rattle.calls.proofs.Reading.{read-range, read-unseen, read-out, read-unplaced, read-sized, read-given}
@@ -49,7 +50,7 @@ returns-3 c =
     let r = rw (q .before .before .is-block .ensures) at (q .before .both .ensures) in
     let w = sym r ∙ not-false (q .before .both .result) (q .if1 .left) in
     let s = rw (e .enum-told .given .1) at (e .before .before .look .ensures) in
-    read-unplaced _ _ _ _ _ s w _ (c .before .is-placed .ensures) (not-true (c .before .is-placed .result) (c .if2 .taken))
+    read-unplaced _ _ _ _ _ s w _ (placed-said (c .before .is-placed .ensures)) (not-true (c .before .is-placed .result) (c .if2 .taken))
 
 location-of-requires : tie.Need-location-of-requires
 location-of-requires c κs = search needs
@@ -64,7 +65,7 @@ copy-content-requires c κs =
     let w = sym r ∙ not-false (q .before .both .result) (q .if1 .left) in
     let s = rw (e .enum-told .given .1) at (e .before .before .look .ensures) in (
       read-sized (disk (a .card .now) (a .queue-data .now) (a .journal-data .now) (a .rec)) (a .v) (a .b) (a .dest .now) _ s w
-          _ (m .before .is-placed .ensures) (not-false (m .before .is-placed .result) (m .if2 .left)) (c .before .location-of .result) (c .before .location-of .ensures),
+          _ (placed-said (m .before .is-placed .ensures)) (not-false (m .before .is-placed .result) (m .if2 .left)) (c .before .location-of .result) (location-said (c .before .location-of .ensures)),
       read-range (a .b) (length (a .dest .now)) w .1,
     )
 
@@ -80,8 +81,8 @@ returns-4 c =
     let r = rw (q .before .before .is-block .ensures) at (q .before .both .ensures) in
     let w = sym r ∙ not-false (q .before .both .result) (q .if1 .left) in
     let s = rw (e .enum-told .given .1) at (e .before .before .look .ensures) in
-    read-given _ _ _ _ _ s w _ (m .before .is-placed .ensures) (not-false (m .before .is-placed .result) (m .if2 .left))
-    (l .location-of .result) (l .location-of .ensures) _ (c .before .before .copy-content .ensures)
+    read-given _ _ _ _ _ s w _ (placed-said (m .before .is-placed .ensures)) (not-false (m .before .is-placed .result) (m .if2 .left))
+    (l .location-of .result) (location-said (l .location-of .ensures)) _ (c .before .before .copy-content .ensures)
 
 pub read-spec : {M : Type 1} → statement M
 read-spec =

@@ -4,6 +4,7 @@ use mathlib.Core.Bool.{_&&_}
 use native.Mathlib.Omega.{arith}
 use lib.Dec.{eqb}
 use borrow.Author.Tests.{not-true, not-false}
+use Rattle.lists.proofs.Lookup.{placed-said}
 use borrow.Author.Needs.{needs}
 use Rattle.calls.proofs.write.write_placed.Statement.{statement}
 use Rattle.lists.proofs.Basic.{and-true}
@@ -42,7 +43,7 @@ returns-2 c = λ nx pv pl rs h.
     let a = c .before .before .before .before .before .args in
     let w = sym (rw (c .before .before .before .before .is-block .ensures) at (c .before .before .before .both .ensures)) ∙ not-false (c .before .before .before .both .result) (c .before .before .if1 .left) in
     second-no 5 8 (isBlock (a .b) && eqb (a .n) 256) (placed (a .b) rs) (a .s) (Write (a .b) 0) (a .rec) BlockNotPlaced refl w
-    (sym (c .before .is-placed .ensures nx pv pl rs h (inside 64 (a .b) (and-true (isBlock (a .b)) (eqb (a .n) 256) w .0))) ∙ not-true (c .before .is-placed .result) (c .if2 .taken))
+    (sym (placed-said (c .before .is-placed .ensures) nx pv pl rs h (inside 64 (a .b) (and-true (isBlock (a .b)) (eqb (a .n) 256) w .0))) ∙ not-true (c .before .is-placed .result) (c .if2 .taken))
 
 add-requires : tie.Need-add-requires
 add-requires c κs = search needs
@@ -52,7 +53,7 @@ returns-3 c = λ nx pv pl rs h.
     let a = c .before .before .before .before .before .before .args in
     let w = sym (rw (c .before .before .before .before .before .is-block .ensures) at (c .before .before .before .before .both .ensures)) ∙ not-false (c .before .before .before .before .both .result) (c .before .before .before .if1 .left) in
     both-yes 5 8 (isBlock (a .b) && eqb (a .n) 256) (placed (a .b) rs) (a .s) (Write (a .b) 0) (a .rec) (c .add .result .reply) (c .add .result .rec) w
-    (sym (c .before .before .is-placed .ensures nx pv pl rs h (inside 64 (a .b) (and-true (isBlock (a .b)) (eqb (a .n) 256) w .0))) ∙ not-false (c .before .before .is-placed .result) (c .before .if2 .left))
+    (sym (placed-said (c .before .before .is-placed .ensures) nx pv pl rs h (inside 64 (a .b) (and-true (isBlock (a .b)) (eqb (a .n) 256) w .0))) ∙ not-false (c .before .before .is-placed .result) (c .before .if2 .left))
     (c .add .ensures)
 
 pub write-placed-spec : {M : Type 1} → statement M

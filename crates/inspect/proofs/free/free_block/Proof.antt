@@ -11,6 +11,7 @@ use borrow.Author.Tests.{not-true, not-false}
 use Rattle.lists.specs.State.{Row, placed}
 use Rattle.lists.specs.Tables.{OfOwners}
 use Rattle.lists.proofs.Basic.{eqb-false}
+use Rattle.lists.proofs.Lookup.{placed-said}
 use Rattle.inspect.proofs.Searching.{Left, none-tried, found, passed, nowhere}
 use borrow.Author.Needs.{needs}
 use Rattle.inspect.proofs.free.free_block.Statement.{statement}
@@ -45,8 +46,8 @@ returns c =
     λ nx pv pl rs h.
     let o = c .before .before .before .before .before in
     let t = c .before .before .before .is-placed in
-    let a = sym (t .ensures nx pv pl rs h (omega arith)) ∙ not-true (t .result) (c .before .before .if1 .taken) in
-    let z = sym (c .before .holder-of .ensures (omega arith)) ∙ c .if2 .taken in
+    let a = sym (placed-said (t .ensures) nx pv pl rs h (omega arith)) ∙ not-true (t .result) (c .before .before .if1 .taken) in
+    let z = sym (c .before .holder-of .ensures) ∙ c .if2 .taken in
     found (used (o .before .args .holder .now) rs) 64 _ (o .loop .i) (o .loop .b) (o .loop .inv .1 nx pv pl rs h) (omega arith) (rw (a, z))
 
 add-i : tie.Need-add-i Inv-loop μ-loop
@@ -63,8 +64,8 @@ loop-again c =
       λ nx pv pl rs h.
           passed (used (o .before .args .holder .now) rs) 64 _ (o .loop .i) (o .loop .b) (o .loop .inv .1 nx pv pl rs h) (omega arith)
           (⊎-elim
-          (λ w. held (o .before .args .holder .now) rs (o .loop .b % 64 + 1) (λ e. w .2 .left (w .1 .ensures (omega arith) ∙ e)))
-          (λ w. rw (sym (t .ensures nx pv pl rs h (omega arith)) ∙ not-false (t .result) (w .left)))
+          (λ w. held (o .before .args .holder .now) rs (o .loop .b % 64 + 1) (λ e. w .2 .left (w .1 .ensures ∙ e)))
+          (λ w. rw (sym (placed-said (t .ensures) nx pv pl rs h (omega arith)) ∙ not-false (t .result) (w .left)))
           (c .if1 .came)),
     )
 

@@ -5,6 +5,7 @@ use native.Mathlib.Omega.{arith}
 use borrow.Author.Tests.{not-true, not-false}
 use Rattle.lists.specs.State.{taken}
 use Rattle.lists.specs.Tables.{OfOwners}
+use Rattle.lists.proofs.Lookup.{taken-said}
 use Rattle.inspect.proofs.Searching.{Left, none-tried, found, passed, nowhere}
 use borrow.Author.Needs.{needs}
 use Rattle.inspect.proofs.free.free_list.Statement.{statement}
@@ -30,7 +31,7 @@ returns c =
     λ nx pv pl rs h.
     let o = c .before .before .before .loop in
     let t = c .before .is-taken in
-    found (λ x. taken x rs) 16 _ (o .i) (o .l) (o .inv .1 nx pv pl rs h) (omega arith) (sym (t .ensures nx pv pl rs h (omega arith)) ∙ not-true (t .result) (c .if1 .taken))
+    found (λ x. taken x rs) 16 _ (o .i) (o .l) (o .inv .1 nx pv pl rs h) (omega arith) (sym (taken-said (t .ensures) nx pv pl rs h (omega arith)) ∙ not-true (t .result) (c .if1 .taken))
 
 add-i : tie.Need-add-i Inv-loop μ-loop
 add-i c = search needs
@@ -45,7 +46,7 @@ loop-again c =
       omega arith,
       λ nx pv pl rs h.
           passed (λ x. taken x rs) 16 _ (o .i) (o .l) (o .inv .1 nx pv pl rs h) (omega arith)
-          (sym (t .ensures nx pv pl rs h (omega arith)) ∙ not-false (t .result) (c .if1 .left)),
+          (sym (taken-said (t .ensures) nx pv pl rs h (omega arith)) ∙ not-false (t .result) (c .if1 .left)),
     )
 
 returns-2 : tie.Need-returns-2 Inv-loop μ-loop

@@ -6,12 +6,13 @@ use native.Mathlib.Omega.{arith}
 use lib.ListN.{length, getD}
 use Rattle.log.specs.Entry.{asEntry}
 use Rattle.log.specs.Card.{segmentsIn}
+use Rattle.log.specs.Store.{headAt}
 use Rattle.log.specs.Within.{asPlace}
 use Rattle.log.proofs.Slot.{length-slot}
+use Rattle.log.proofs.Copying.{slot-part}
 use Rattle.log.proofs.Within.{within-home}
 use Rattle.disk.specs.Record.{noQueued}
-use Rattle.disk.specs.Sound.{headAt}
-use Rattle.inspect.proofs.Begun.{head-none, head-some, part-slot}
+use Rattle.inspect.proofs.Begun.{head-none, head-some}
 use borrow.Author.Needs.{needs}
 use Rattle.inspect.proofs.head.head_stands.Statement.{statement}
 use Rattle.inspect.proofs.head.head_stands.Tie as tie
@@ -58,7 +59,7 @@ is-begun-requires c κs =
     let e = asEntry false (getD (a .t3 .queue) h noQueued .entry) in
     let (w, i, f) =
     within-home (segmentsIn (a .card .now)) (a .place) (c .before .before .p .given .0 .0) e (s .pre .5) (s .pre .6) (sym (rw (c .before .before .p .given .1) at (o .home-of .ensures))) in
-    (s .pre .0, ap length (part-slot (a .queue-data .now) h) ∙ length-slot (a .queue-data .now) h (omega (arith, s .pre .1, s .pre .3)), w, i, f)
+    (s .pre .0, ap length (slot-part (a .queue-data .now) h) ∙ length-slot (a .queue-data .now) h (omega (arith, s .pre .1, s .pre .3)), w, i, f)
 
 enum-told : tie.Need-enum-told
 enum-told c = search needs
@@ -72,7 +73,7 @@ returns-2 c =
     λ j.
     c .is-begun .ensures
     ∙ sym (head-some (a .card .now) (a .queue-data .now) j (a .t3) (a .t3 .done) _ (a .place) (some (c .before .before .before .p .given .0 .0)) (s .pre .3)
-    (o .before .before .if1 .left) (part-slot (a .queue-data .now) (a .t3 .head)) (s .pre .4) (sym (rw (c .before .before .before .p .given .1) at (o .home-of .ensures))))
+    (o .before .before .if1 .left) (slot-part (a .queue-data .now) (a .t3 .head)) (s .pre .4) (sym (rw (c .before .before .before .p .given .1) at (o .home-of .ensures))))
 
 returns-3 : tie.Need-returns-3
 unfolding asPlace headAt

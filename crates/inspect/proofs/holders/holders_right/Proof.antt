@@ -4,6 +4,7 @@ use mathlib.Core.Logic.{⊎-elim}
 use Prim.Native.Nat.{_+_, _-_, _≤_}
 use native.Mathlib.Omega.{arith}
 use lib.ListN.{getD}
+use Rattle.lists.proofs.Lookup.{placed-said}
 use borrow.Author.Needs.{needs}
 use borrow.Author.Tests.{not-true, not-false}
 use Rattle.lists.specs.Tables.{OfOwners}
@@ -76,7 +77,7 @@ returns-3 c =
     let h = getD (a .t1 .holder) (l .i) 0 in
     λ nx pv pl rs s.
     left-fails (holderRight (a .t1) rs) (λ k. k + 1) 64 (l .i) (l .inv .1 nx pv pl rs s) (omega arith)
-    (held-placed (a .t1) rs (l .i + 1) h (rw e) (c .before .before .before .before .if1 .taken) (sym (c .before .is-placed .ensures nx pv pl rs s (omega arith, omega arith)) ∙ c .if4 .taken))
+    (held-placed (a .t1) rs (l .i + 1) h (rw e) (c .before .before .before .before .if1 .taken) (sym (placed-said (c .before .is-placed .ensures) nx pv pl rs s (omega arith, omega arith)) ∙ c .if4 .taken))
     ∙ holders-all (a .t1) rs
 
 add-i : tie.Need-add-i Inv-loop μ-loop
@@ -98,7 +99,7 @@ loop-again c =
           (⊎-elim
           (λ w.
           held-well (a .t1) rs (l .i + 1) h k (w .0 .taken) (sym (open-unit (a .t1) h (omega arith) (omega arith)) ∙ not-false _ (w .2 .left))
-          (sym (w .3 .ensures nx pv pl rs s (omega arith, omega arith)) ∙ w .4 .left))
+          (sym (placed-said (w .3 .ensures) nx pv pl rs s (omega arith, omega arith)) ∙ w .4 .left))
           (λ w. held-none (a .t1) rs (l .i + 1) h k (w .left))
           (c .if1 .came)),
     )

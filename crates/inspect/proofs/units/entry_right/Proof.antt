@@ -3,7 +3,7 @@ use mathlib.Core.Path.{sym, _∙_}
 use borrow.Author.Tests.{not-true, not-false}
 use Rattle.log.specs.Entry.{asChange}
 use Rattle.disk.specs.Sound.{putBy}
-use Rattle.inspect.proofs.Judging.{change-wrong, change-puts, change-no-put, put-first-block, put-after-block}
+use Rattle.inspect.proofs.Judging.{change-wrong, change-puts, change-no-put}
 use borrow.Author.Needs.{needs}
 use Rattle.inspect.proofs.units.entry_right.Statement.{statement}
 use Rattle.inspect.proofs.units.entry_right.Tie as tie
@@ -34,7 +34,7 @@ returns-2 c =
     let s = c .before .before .before .before .before .before .args in
     let g = c .before .before .e .given in
     let m = sym (c .before .before .before .before .before .is-member .ensures) ∙ not-false _ (c .before .before .before .before .if1 .left) in
-    rw (c .holder-of .ensures (put-first-block (g .0 .0) (g .0 .1 .0) (rw (g .1) at m))) (change-puts (s .holder .now) (s .u) (asChange (s .e)) (g .0 .0) m (rw (g .1)))
+    rw (c .holder-of .ensures) (change-puts (s .holder .now) (s .u) (asChange (s .e)) (g .0 .0) m (rw (g .1)))
 
 returns-3 : tie.Need-returns-3
 unfolding putBy asChange
@@ -42,7 +42,7 @@ returns-3 c =
     let s = c .before .before .before .before .before .before .args in
     let g = c .before .before .e2 .given in
     let m = sym (c .before .before .before .before .before .is-member .ensures) ∙ not-false _ (c .before .before .before .before .if1 .left) in
-    rw (c .holder-of2 .ensures (put-after-block (g .0 .0) (g .0 .1 .0) (g .0 .1 .1 .0) (rw (g .1) at m))) (change-puts (s .holder .now) (s .u) (asChange (s .e)) (g .0 .0) m (rw (g .1)))
+    rw (c .holder-of2 .ensures) (change-puts (s .holder .now) (s .u) (asChange (s .e)) (g .0 .0) m (rw (g .1)))
 
 returns-4 : tie.Need-returns-4
 returns-4 c =

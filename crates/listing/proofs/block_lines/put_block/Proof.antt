@@ -1,6 +1,7 @@
 -- Nothing where the block is on no list; else the parts of its line, one after the other. Assumes nothing.
 use mathlib.Core.Path.{_≡_, refl, sym, _∙_}
 use mathlib.Core.Bool.{true, false}
+use Rattle.lists.proofs.Lookup.{placed-said, location-said}
 use borrow.Author.Needs.{needs}
 use borrow.Author.Tests.{not-true, not-false}
 use Rattle.lists.specs.State.{placed}
@@ -21,7 +22,7 @@ returns c =
     let a = c .before .before .before .before .args in (
       refl,
       λ nx pv rs w g.
-          let u : placed (a .block) rs ≡ false = sym (t .ensures nx pv (a .place .now) rs w g) ∙ not-true (t .result) (c .if1 .taken) in
+          let u : placed (a .block) rs ≡ false = sym (placed-said (t .ensures) nx pv (a .place .now) rs w g) ∙ not-true (t .result) (c .if1 .taken) in
           rw (block-none rs (sumAt (a .card .now)) (a .block) (content-none (a .block) rs u)) (puts-none (a .out .now) (a .at)),
     )
 
@@ -67,8 +68,8 @@ returns-2 c =
       puts-length (e .put-byte .ensures) ∙ puts-length (d .put-decimal2 .ensures) ∙ puts-length (d .before .before .before .before .put-bytes2 .ensures)
           ∙ puts-length (d .before .before .before .before .before .before .before .before .before .put-decimal .ensures) ∙ puts-length (d .before .before .before .before .before .before .before .before .before .before .before .before .before .put-bytes .ensures),
       λ nx pv rs w g.
-          let t : placed (a .block) rs ≡ true = sym (i .before .is-placed .ensures nx pv (a .place .now) rs w g) ∙ not-false (i .before .is-placed .result) (i .if1 .left) in
-          rw (block-some rs (sumAt (a .card .now)) (a .block) (l .result) (l .ensures nx pv (a .owner .now) rs w t), ← m .ensures)
+          let t : placed (a .block) rs ≡ true = sym (placed-said (i .before .is-placed .ensures) nx pv (a .place .now) rs w g) ∙ not-false (i .before .is-placed .result) (i .if1 .left) in
+          rw (block-some rs (sumAt (a .card .now)) (a .block) (l .result) (location-said (l .ensures) nx pv (a .owner .now) rs w t), ← m .ensures)
           (puts-more
           (puts-more
           (puts-more

@@ -1,6 +1,7 @@
 -- Nothing where the list is not taken; else the parts of its line, one after the other. Assumes nothing.
 use mathlib.Core.Path.{_≡_, refl, sym, _∙_}
 use mathlib.Core.Bool.{true, false}
+use Rattle.lists.proofs.Lookup.{taken-said}
 use borrow.Author.Needs.{needs}
 use borrow.Author.Tests.{not-true, not-false}
 use Rattle.lists.specs.State.{taken}
@@ -17,7 +18,7 @@ returns : tie.Need-returns
 returns c =
     let t = c .before .is-taken in
     let a = c .before .before .before .args in
-    (refl, λ pv pl rs w g. rw (list-none rs (a .list) (sym (t .ensures (a .next .now) pv pl rs w g) ∙ not-true (t .result) (c .if1 .taken))) (puts-none (a .out .now) (a .at)))
+    (refl, λ pv pl rs w g. rw (list-none rs (a .list) (sym (taken-said (t .ensures) (a .next .now) pv pl rs w g) ∙ not-true (t .result) (c .if1 .taken))) (puts-none (a .out .now) (a .at)))
 
 slice-aggregate-put-bytes : tie.Need-slice-aggregate-put-bytes
 slice-aggregate-put-bytes c = search needs
@@ -50,7 +51,7 @@ returns-2 c =
       puts-length (e .put-byte2 .ensures) ∙ d .put-numbers .ensures .0 ∙ puts-length (d .before .before .before .before .put-byte .ensures)
           ∙ puts-length (d .before .before .before .before .before .before .before .before .put-decimal .ensures) ∙ puts-length (d .before .before .before .before .before .before .before .before .before .before .before .before .put-bytes .ensures),
       λ pv pl rs w g.
-          let t : taken (a .list) rs ≡ true = sym (i .before .is-taken .ensures (a .next .now) pv pl rs w g) ∙ not-false (i .before .is-taken .result) (i .if1 .left) in
+          let t : taken (a .list) rs ≡ true = sym (taken-said (i .before .is-taken .ensures) (a .next .now) pv pl rs w g) ∙ not-false (i .before .is-taken .result) (i .if1 .left) in
           rw (list-some rs (a .list) t)
           (puts-more
           (puts-more

@@ -4,6 +4,7 @@ use mathlib.Core.Bool.{true}
 use Prim.Native.Nat.{_-_, _≤_}
 use native.Mathlib.Omega.{arith}
 use lib.ListN.{length}
+use Rattle.lists.proofs.Lookup.{block-said}
 use Rattle.lists.specs.State.{taken}
 use Rattle.lists.specs.Tables.{tables, OfNext}
 use Rattle.text.proofs.Writing.{puts-length}
@@ -24,7 +25,7 @@ block-after-requires c κs = tt
 loop-holds : tie.Need-loop-holds Inv-loop μ-loop
 loop-holds c =
     let a = c .before .before .args in
-    (omega arith, refl, λ pv ow pl rs w h. putting-none (a .out .now) (a .at) rs (a .list) (c .block-after .result) (c .block-after .ensures pv ow pl rs w h refl))
+    (omega arith, refl, λ pv ow pl rs w h. putting-none (a .out .now) (a .at) rs (a .list) (c .block-after .result) (block-said (c .block-after .ensures) pv ow pl rs w h refl))
 
 same-length : tie.Need-same-length Inv-loop μ-loop
 same-length c = c .before .before .loop .inv .1
@@ -55,7 +56,7 @@ loop-again c =
       omega arith,
       puts-length (d .put-number .ensures) ∙ s .inv .1,
       λ pv ow pl rs w h. putting-more (tables (a .next .now) pv ow pl) rs w (a .list) (s .inv .2 pv ow pl rs w h)
-          (d .before .before .if1 .left) (d .put-number .ensures) (λ k. c .block-after2 .ensures pv ow pl rs w h k),
+          (d .before .before .if1 .left) (d .put-number .ensures) (λ k. block-said (c .block-after2 .ensures) pv ow pl rs w h k),
     )
 
 same-length-2 : tie.Need-same-length-2 Inv-loop μ-loop

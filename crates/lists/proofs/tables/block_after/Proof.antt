@@ -1,8 +1,6 @@
 -- A list's node is the predecessor of its first block. Assumes nothing.
 use mathlib.Core.Path.{_∙_}
-use Rattle.lists.specs.Tables.{tables}
 use Rattle.lists.proofs.Basic.{eqb-false, eq-true}
-use Rattle.lists.proofs.Lookup.{block-after}
 use borrow.Author.Needs.{needs}
 use Rattle.lists.proofs.tables.block_after.Statement.{statement}
 use Rattle.lists.proofs.tables.block_after.Tie as tie
@@ -20,13 +18,12 @@ returns : tie.Need-returns
 returns c =
     let a = c .before .before .before .args in
     let e = eq-true (a .predecessor) 0 (c .before .before .if1 .taken) in
-    λ pv ow pl rs s h k. c .block-behind .ensures ∙ rw (c .before .list-node .ensures) (rw e at (block-after (tables (a .next .now) pv ow pl) rs s (a .list) (a .predecessor) h k))
+    record { answer = c .block-behind .ensures ∙ rw (c .before .list-node .ensures, e) }
 
 returns-2 : tie.Need-returns-2
 returns-2 c =
-    let a = c .before .before .args in
-    let e = eqb-false (a .predecessor) 0 (c .before .if1 .left) in
-    λ pv ow pl rs s h k. c .block-behind2 .ensures ∙ rw e at (block-after (tables (a .next .now) pv ow pl) rs s (a .list) (a .predecessor) h k)
+    let e = eqb-false (c .before .before .args .predecessor) 0 (c .before .if1 .left) in
+    record { answer = c .block-behind2 .ensures ∙ rw e }
 
 pub block-after-spec : {M : Type 1} → statement M
 block-after-spec =

@@ -1,13 +1,9 @@
--- The node of a list not taken has no owner. Assumes nothing.
-use mathlib.Core.Path.{ap, _∙_}
+-- The owner of the list's node is looked at. Assumes nothing.
+use mathlib.Core.Path.{ap}
 use mathlib.Core.Bool.{not}
 use Prim.Native.Nat.{ℕ}
 use lib.Dec.{eqb}
 use lib.ListN.{getD}
-use Rattle.lists.specs.State.{taken}
-use Rattle.lists.specs.Tables.{tables}
-use Rattle.lists.proofs.Basic.{not-not}
-use Rattle.lists.proofs.Lookup.{taken-free}
 use borrow.Author.Needs.{needs}
 use Rattle.lists.proofs.tables.is_taken.Statement.{statement}
 use Rattle.lists.proofs.tables.is_taken.Tie as tie
@@ -22,10 +18,7 @@ element-copy-out-result : tie.Need-element-copy-out-result
 element-copy-out-result c = search needs
 
 returns : tie.Need-returns
-returns c =
-    λ nx pv pl rs s g.
-    ap (λ (n : ℕ). not (eqb (getD (c .before .before .args .owner .now) n 0) 0)) (c .before .list-node .ensures)
-    ∙ ap not (taken-free (tables nx pv (c .before .before .args .owner .now) pl) rs s (c .before .before .args .list) g) ∙ not-not (taken (c .before .before .args .list) rs)
+returns c = record { answer = ap (λ (n : ℕ). not (eqb (getD (c .before .before .args .owner .now) n 0) 0)) (c .before .list-node .ensures) }
 
 pub is-taken-spec : {M : Type 1} → statement M
 is-taken-spec = tie.close (tie.spec list-node-requires cast-result element-copy-out-result returns)

@@ -1,8 +1,6 @@
 -- The start's node is the predecessor of the first list. Assumes nothing.
 use mathlib.Core.Path.{_∙_}
-use Rattle.lists.specs.Tables.{tables}
 use Rattle.lists.proofs.Basic.{eqb-false, eq-true}
-use Rattle.lists.proofs.Lookup.{list-after}
 use borrow.Author.Needs.{needs}
 use Rattle.lists.proofs.tables.list_after.Statement.{statement}
 use Rattle.lists.proofs.tables.list_after.Tie as tie
@@ -18,15 +16,13 @@ list-behind-requires-2 c κs = search needs
 
 returns : tie.Need-returns
 returns c =
-    let a = c .before .before .args in
-    let e = eq-true (a .list) 0 (c .before .if1 .taken) in
-    λ pv ow pl rs s h. c .list-behind .ensures ∙ rw e at (list-after (tables (a .next .now) pv ow pl) rs s (a .list) h)
+    let e = eq-true (c .before .before .args .list) 0 (c .before .if1 .taken) in
+    record { answer = c .list-behind .ensures ∙ rw e }
 
 returns-2 : tie.Need-returns-2
 returns-2 c =
-    let a = c .before .before .before .args in
-    let e = eqb-false (a .list) 0 (c .before .before .if1 .left) in
-    λ pv ow pl rs s h. c .list-behind2 .ensures ∙ rw (c .before .list-node .ensures) (rw e at (list-after (tables (a .next .now) pv ow pl) rs s (a .list) h))
+    let e = eqb-false (c .before .before .before .args .list) 0 (c .before .before .if1 .left) in
+    record { answer = c .list-behind2 .ensures ∙ rw (c .before .list-node .ensures, e) }
 
 pub list-after-spec : {M : Type 1} → statement M
 list-after-spec =

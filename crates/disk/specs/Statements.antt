@@ -1,0 +1,65 @@
+-- What document 01 says of records, flushes and formattings beside the calls' promises: statements, each proved under its own name in proofs.
+use mathlib.Core.Path.{_≡_}
+use mathlib.Core.Logic.{_⊎_}
+use mathlib.Core.Bool.{true}
+use mathlib.Core.List.{List}
+use Prim.Native.Nat.{ℕ, _+_, _-_, _≤_, _<_}
+use lib.ListN.{length, take}
+use Rattle.log.specs.Card.{cardLength, segmentsIn, count}
+use Rattle.log.specs.Store.{Store, doStores}
+use Rattle.log.specs.Flush.{rest}
+use Rattle.log.specs.Turns.{Steps, Clears}
+use Rattle.disk.specs.Disk.{Disk, queued}
+use Rattle.disk.specs.Sound.{lengthsRight, recordSound}
+use Rattle.disk.specs.Call.{Call, flush}
+use Rattle.disk.specs.Questions.{refusal}
+use Rattle.disk.specs.Perform.{flowOf, flushed, formatted, perform}
+
+-- "Every accepted call, and refusal 12, leaves a record that is sound by question 3; this is proved." On any disk; the lengths stay right.
+abbrev pub LeavesSound : Type 0
+LeavesSound =
+    (c : Call) (d : Disk) → (refusal c d ≡ 0) ⊎ (refusal c d ≡ 12)
+    → let e = perform c d .disk in (lengthsRight e ≡ true) × (recordSound e ≡ true)
+
+-- "With allowance m+n it leaves what m, then n leaves, m+n being in range.": the disk; the stores add up, and the ending is the second's
+abbrev pub FlushSum : Type 0
+FlushSum =
+    (m n : ℕ) (d : Disk) → refusal (flush (m + n)) d ≡ 0
+    → let x = perform (flush m) d in let y = perform (flush n) (x .disk) in let z = perform (flush (m + n)) d in
+    (z .disk ≡ y .disk) × (z .answer .value ≡ x .answer .value + y .answer .value) × (z .answer .second ≡ y .answer .second)
+
+-- the stores that a disk has still to do, in their order: the sequence along which flushes go
+unfoldable pub todo : Disk → List Store
+todo d = rest (segmentsIn (d .card)) (flowOf d)
+
+-- "The reported stores are the difference in place along this sequence."
+abbrev pub ReportedStores : Type 0
+ReportedStores =
+    (a : ℕ) (d : Disk) → refusal (flush a) d ≡ 0 → let r = perform (flush a) d in r .answer .value ≡ length (todo d) - length (todo (r .disk))
+
+-- "A cut after k stores of a flush leaves the card that allowance k leaves": the first k of the stores that allowance a allows
+abbrev pub CutAfter : Type 0
+CutAfter =
+    (a k : ℕ) (d : Disk) → refusal (flush a) d ≡ 0 → k ≤ perform (flush a) d .answer .value
+    → doStores (take k (take a (todo d))) (d .card) ≡ perform (flush k) d .disk .card
+
+-- "and after k stores of a formatting the last k counts are 0"
+abbrev pub CutFormat : Type 0
+CutFormat = (k : ℕ) (c : List ℕ) → cardLength c ≡ true → k ≤ segmentsIn c → (g : ℕ) → segmentsIn c ≤ g + k → g < segmentsIn c → count (formatted k c) g ≡ 0
+
+-- "storing the count before the entry": the order of a flush's stores in time. Steps, each of which is required of the card as it is, lead after k of
+-- them to the card that allowance k leaves, and to no other; and that many such steps there are.
+pub record StepsOfFlush (d : Disk) : Type 0 where
+  pub only : (k : ℕ) (c : List ℕ) → Steps (d .card) (queued d) (d .rec .done) k c → c ≡ flushed k d .flow .card
+  pub each : (k : ℕ) → flushed k d .stores ≡ k → Steps (d .card) (queued d) (d .rec .done) k (flushed k d .flow .card)
+
+abbrev pub FlushInOrder : Type 0
+FlushInOrder = (d : Disk) → lengthsRight d ≡ true → recordSound d ≡ true → StepsOfFlush d
+
+-- and of a formatting's: its k-th card
+pub record StepsOfFormat (c : List ℕ) : Type 0 where
+  pub only : (k : ℕ) (c′ : List ℕ) → Clears c (segmentsIn c) k c′ → c′ ≡ formatted k c
+  pub each : (k : ℕ) → k ≤ segmentsIn c → Clears c (segmentsIn c) k (formatted k c)
+
+abbrev pub FormatInOrder : Type 0
+FormatInOrder = (c : List ℕ) → cardLength c ≡ true → StepsOfFormat c
