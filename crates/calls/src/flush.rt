@@ -12,7 +12,8 @@ ghost use Rattle.disk.specs.Call.{flush};
 ghost use Rattle.disk.specs.Answers.{flushAnswer};
 ghost use Rattle.calls.specs.Performs.{Performs};
 
-const ALLOWANCE: usize = 65535;
+// The largest allowance.
+pub const ALLOWANCE: usize = 65535;
 
 // Questions: 1 lengths, 3 record, 5 allowance.
 pub fn flush(

@@ -5,6 +5,7 @@ use crate::state::State;
 use crate::state::least;
 use crate::state::with_record;
 use crate::state::within;
+use calls::flush::ALLOWANCE;
 use disk::answer::FlushReply;
 use disk::answer::NumberReply;
 use disk::answer::Refusal;
@@ -22,9 +23,6 @@ ghost use Rattle.disk.specs.Disk.{disk};
 ghost use Rattle.commands.specs.Shell.{shellOf};
 ghost use Rattle.commands.specs.Cut.{cutAllowance, brokenFlush, brokenFormat, cutFlush, cutFormat, Breaks, Loses};
 ghost use Rattle.commands.specs.Ran.{Fits, Runs};
-
-// The largest allowance of a flush.
-const ALLOWANCE: usize = 65535;
 
 pub fn cut_flush(
     card: &mut [u8],

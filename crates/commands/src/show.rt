@@ -15,6 +15,8 @@ ghost use Rattle.text.specs.Written.{Puts};
 ghost use Rattle.disk.specs.Disk.{disk};
 ghost use Rattle.commands.specs.Shown.{blockBehind, blocksOn, listShown, listsShown, blockShown, blocksShown, contentsOn, contentsShown, viewShown, shown};
 
+const LISTS: usize = LogEntry::LISTS as usize;
+
 // No list has more blocks.
 const BLOCKS: usize = LogEntry::BLOCKS as usize;
 
@@ -30,7 +32,7 @@ pub fn show(
 ) -> usize
     ensures { λ r. ⌜ Puts (now (out .entry)) at (shown view (disk (now (card .entry)) (now (queue .entry)) (now (journal .entry)) rec)) (now (out .exit)) r ⌝ }
 {
-    let mut lists = [0u8; 16];
+    let mut lists = [0u8; LISTS];
     match calls::inventory::inventory(card, queue, journal, rec, view, &mut lists) {
         NumberReply::Number(n) => show_view(
             card,
