@@ -4,6 +4,9 @@ use crate::feed::LINE;
 use crate::feed::feed;
 use commands::run::run;
 use commands::state::State;
+use files::transfer::Read;
+use files::transfer::read_some;
+use files::transfer::write_whole;
 use libc::STDIN_FILENO;
 use libc::STDOUT_FILENO;
 use text::line::part;
@@ -12,14 +15,24 @@ ghost use Rattle.commands.specs.Ran.{Fits};
 // From here on what was printed is written before another line runs: no line prints more than 35,000 bytes.
 const FULL: usize = 30000;
 
-// The state, the position behind what was printed, and how many bytes of a line have come.
+// The state, the position behind what was printed, how many bytes of a line have come, and whether it goes on: no line runs once
+// standard input or output has failed.
 pub struct Session {
     pub state: State,
     pub at: usize,
     pub length: usize,
+    pub going: bool,
 }
 
-// The whole script; the length of the card that it leaves.
+// The length of the card that a script leaves, and whether it went on to its end. Where not, standard input failed, or else
+// standard output, and errno says why.
+pub struct Over {
+    pub size: usize,
+    pub going: bool,
+    pub no_input: bool,
+}
+
+// The whole script.
 pub fn run_whole(
     bytes: &mut [u8],
     line: &mut [u8; LINE],
@@ -28,19 +41,25 @@ pub fn run_whole(
     journal: &mut [u8],
     out: &mut [u8],
     start: Session,
-) -> usize
+) -> Over
     requires { ⌜ Fits (now card) (start .state) ⌝ }
 {
-    let session = run_script(bytes, line, card, queue, journal, out, start);
+    let ran = run_script(bytes, line, card, queue, journal, out, start);
+    let session = ran.session;
     let last = run_last(line, card, queue, journal, out, session);
     let state = last.state;
-    state.size
+    Over {
+        size: state.size,
+        going: last.going,
+        no_input: ran.no_input,
+    }
 }
 
-// What a turn leaves, and whether more of the script may come.
+// What a turn leaves, whether more of the script may come, and whether standard input failed.
 struct Turned {
     session: Session,
     more: bool,
+    no_input: bool,
 }
 
 // All lines but a last one that lacks its end. No proof knows that a script ends, so the loop counts its turns down, from a
@@ -53,22 +72,25 @@ fn run_script(
     journal: &mut [u8],
     out: &mut [u8],
     start: Session,
-) -> Session
+) -> Turned
     requires { ⌜ Fits (now card) (start .state) ⌝ }
-    ensures { λ r. ⌜ Fits (now (card .exit)) (r .state) ⌝ }
+    ensures { λ r. ⌜ Fits (now (card .exit)) (r .session .state) ⌝ }
 {
     let mut session = start;
     let mut turns = u64::MAX;
     while turns > 0 {
         let turned = turn(bytes, line, card, queue, journal, out, session);
-        let next = turned.session;
         if !turned.more {
-            return next;
+            return turned;
         }
-        session = next;
+        session = turned.session;
         turns -= 1;
     }
-    session
+    Turned {
+        session,
+        more: false,
+        no_input: false,
+    }
 }
 
 // What was printed is written before more of the script is asked for.
@@ -84,14 +106,47 @@ fn turn(
     requires { ⌜ Fits (now card) (session .state) ⌝ }
     ensures { λ r. ⌜ Fits (now (card .exit)) (r .session .state) ⌝ }
 {
+    let written = write(out, session.at, session.going);
+    let got = ask(bytes, written);
+    let n = got.count;
     let mut next = session;
-    next.at = write(out, session.at);
-    let got = libc::read(STDIN_FILENO, bytes);
-    let n = io::count(got, bytes);
+    next.at = 0;
+    next.going = got.going;
     let ran = run_bytes(part(bytes, 0, n), line, card, queue, journal, out, next);
     Turned {
         session: ran,
         more: n > 0,
+        no_input: got.no_input,
+    }
+}
+
+// How many bytes of the script came, whether it goes on, and whether standard input failed.
+struct Got {
+    count: usize,
+    going: bool,
+    no_input: bool,
+}
+
+// The next bytes of the script, unless it has stopped.
+fn ask(bytes: &mut [u8], going: bool) -> Got {
+    if !going {
+        return Got {
+            count: 0,
+            going: false,
+            no_input: false,
+        };
+    }
+    match read_some(STDIN_FILENO, bytes) {
+        Read::Bytes(count) => Got {
+            count,
+            going: true,
+            no_input: false,
+        },
+        Read::Failed => Got {
+            count: 0,
+            going: false,
+            no_input: true,
+        },
     }
 }
 
@@ -117,6 +172,7 @@ fn run_bytes(
     session
 }
 
+// A line that is whole runs, unless the script has stopped.
 fn run_fed(
     fed: Fed,
     line: &[u8; LINE],
@@ -131,14 +187,14 @@ fn run_fed(
 {
     let mut next = session;
     next.length = fed.length;
-    if fed.whole {
+    if fed.whole && next.going {
         run_line(line, card, queue, journal, out, next)
     } else {
         next
     }
 }
 
-// A last line may lack its end.
+// A last line may lack its end. A file system may tell only when the file is closed that it lost what was written.
 fn run_last(
     line: &[u8; LINE],
     card: &mut [u8],
@@ -149,8 +205,13 @@ fn run_last(
 ) -> Session
     requires { ⌜ Fits (now card) (session .state) ⌝ }
 {
-    let mut last = run_line(line, card, queue, journal, out, session);
-    last.at = write(out, last.at);
+    let fed = Fed {
+        length: session.length,
+        next: 0,
+        whole: true,
+    };
+    let mut last = run_fed(fed, line, card, queue, journal, out, session);
+    last.going = close(write(out, last.at, last.going));
     last
 }
 
@@ -177,17 +238,29 @@ fn run_line(
     );
     let after = ran.state;
     let mut at = ran.at;
+    let mut going = true;
     if at > FULL {
-        at = write(out, at);
+        going = write(out, at, true);
+        at = 0;
     }
     Session {
         state: after,
         at,
         length: 0,
+        going,
     }
 }
 
-fn write(out: &[u8], at: usize) -> usize {
-    io::write_all(STDOUT_FILENO, part(out, 0, at));
-    0
+fn write(out: &[u8], at: usize, going: bool) -> bool {
+    if !going {
+        return false;
+    }
+    write_whole(STDOUT_FILENO, part(out, 0, at))
+}
+
+fn close(going: bool) -> bool {
+    if !going {
+        return false;
+    }
+    libc::close(STDOUT_FILENO) == 0
 }
