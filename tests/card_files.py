@@ -5,7 +5,6 @@ LISTER_UNDER_TEST. They are copied first, so that a user without rights can run 
 """
 
 import os
-import shlex
 import shutil
 import subprocess
 import sys
@@ -13,7 +12,8 @@ import tempfile
 import traceback
 from pathlib import Path
 
-ROOT = Path(__file__).resolve().parent.parent
+from programs import ours
+
 SECONDS_FOR_A_RUN = 60
 
 NOBODY = 65534
@@ -47,14 +47,6 @@ class Run:
         return f"status {self.status}, standard output {self.out[-200:]!r}, standard error {self.error[-500:]!r}"
 
 
-def command_of(variable, default):
-    command = shlex.split(os.environ.get(variable, default))
-    path = ROOT / command[0] if "/" in command[0] else Path(shutil.which(command[0]) or command[0])
-    if not path.exists():
-        sys.exit(f"no program {command[0]}: build it, or name it in {variable}")
-    return path
-
-
 class Folder:
     """A folder of its own, with both programs beside it."""
 
@@ -62,7 +54,7 @@ class Folder:
         self.top = Path(tempfile.mkdtemp(prefix="test-"))
         self.top.chmod(0o755)
         for name in "shell", "lister":
-            shutil.copy(command_of(f"{name.upper()}_UNDER_TEST", f"target/bin/{name}"), self.top / name)
+            shutil.copy(ours(name)[0], self.top / name)
             (self.top / name).chmod(0o755)
         self.path = self.top / "cards"
         self.path.mkdir()
