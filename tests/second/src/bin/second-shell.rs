@@ -35,6 +35,7 @@ fn run(path: &Path, is_numbered: bool) -> io::Result<()> {
         output.write_all(b"too long\n")?;
         return output.flush();
     };
+    let before = card.clone();
     let mut shell = Shell::new(card);
     let is_dialogue = io::stdin().is_terminal();
     let mut lines = Lines::new(io::stdin().lock());
@@ -56,6 +57,10 @@ fn run(path: &Path, is_numbered: bool) -> io::Result<()> {
         }
     }
     output.flush()?;
+    // a card that is as it was read is not written: an empty one that was no file makes none
+    if shell.card() == before {
+        return Ok(());
+    }
     fs::write(path, shell.card())
 }
 
