@@ -9,7 +9,7 @@ use native.Mathlib.Omega.{arith}
 use lib.Dec.{leb, eqb·suc-zero}
 use Rattle.lists.specs.Change.{Change, delBlock, delList, carriedBy}
 use Rattle.lists.specs.State.{Row, taken, placed}
-use Rattle.lists.specs.Tables.{Tables, OfOwners}
+use Rattle.lists.specs.Tables.{Tables, OfShown}
 use Rattle.lists.proofs.Basic.{eqb-false, le-true, lt-true, gt-false, ge-false}
 use Rattle.log.specs.declared.entry.LogEntry.{LogEntry}
 use Rattle.log.specs.declared.entry.LogEntry.the-variants.{DeleteBlock, DeleteList}
@@ -85,10 +85,9 @@ Decides k d s e Accepted r = (r ≡ added s e (d .rec)) × (refusal k d ≡ 0)
 
 module _ (k : Call) (d : Disk) (s : ℕ) (e : LogEntry) (n : ℕ) (p q : Bool) (here : List (Row ℕ) → Bool) (t : Tables) where
   pub seen-decides : (a : Reply) (r : Record) → refusal k d ≡ firstNo (opens false d s ++ (5, p) ∷ (n, q) ∷ rooms d s)
-      → (z : Sees false d s t) → q ≡ here (z .located .here .lists) → OfOwners (t .owner) (λ rs. AddsAfter ((5, p) ∷ (n, here rs) ∷ []) s e (d .rec) a r)
+      → (z : Sees false d s t) → q ≡ here (z .located .here .lists) → OfShown t (λ rs. AddsAfter ((5, p) ∷ (n, here rs) ∷ []) s e (d .rec) a r)
       → Decides k d s e a r
-  seen-decides a r h z w f =
-      go a (f (t .next) (t .prev) (t .place) (z .located .here .lists) (z .located .shows))
+  seen-decides a r h z w f = go a (f (z .located .here .lists) (z .located .shows))
     where
       asked : refusal k d ≡ firstNo ((5, p) ∷ (n, here (z .located .here .lists)) ∷ rooms d s)
       asked = h ∙ seen ((5, p) ∷ (n, q) ∷ rooms d s) z ∙ ap (λ (b : Bool). firstNo ((5, p) ∷ (n, b) ∷ rooms d s)) w
@@ -105,7 +104,7 @@ decides-performs k d s c (Refused x) r u t n y h = rw (h .0, ← t) (usual-perfo
 decides-performs k d s c Accepted r u t n y h = performs-accepted k d _ (h .1) (y ∙ rw (change-added s c d n, h .0))
 
 pub deletes-block : (d : Disk) (s b : ℕ) (t : Tables) (a : Reply) (r : Record) → Sees false d s t
-    → OfOwners (t .owner) (λ rs. AddsAfter ((5, isBlock b) ∷ (8, placed b rs) ∷ []) s (DeleteBlock b) (d .rec) a r)
+    → OfShown t (λ rs. AddsAfter ((5, isBlock b) ∷ (8, placed b rs) ∷ []) s (DeleteBlock b) (d .rec) a r)
     → Performs (deleteBlock s b) d (withRecord d r) (replyAnswer a) []
 unfolding refusal questions destination accepted carriedBy logChange
 deletes-block d s b t a r z f =
@@ -113,7 +112,7 @@ deletes-block d s b t a r z f =
     (seen-decides (deleteBlock s b) d s (DeleteBlock b) 8 (isBlock b) (placed b (view d s .lists)) (placed b) t a r refl z (placed-here d t (view d s) (z .located) b) f)
 
 pub deletes-list : (d : Disk) (s l : ℕ) (t : Tables) (a : Reply) (r : Record) → Sees false d s t
-    → OfOwners (t .owner) (λ rs. AddsAfter ((5, isList l) ∷ (7, taken l rs) ∷ []) s (DeleteList l) (d .rec) a r)
+    → OfShown t (λ rs. AddsAfter ((5, isList l) ∷ (7, taken l rs) ∷ []) s (DeleteList l) (d .rec) a r)
     → Performs (deleteList s l) d (withRecord d r) (replyAnswer a) []
 unfolding refusal questions destination accepted carriedBy logChange
 deletes-list d s l t a r z f =

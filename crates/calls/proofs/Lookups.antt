@@ -8,7 +8,7 @@ use lib.Dec.{leb, eqb}
 use lib.ListN.{length}
 use Rattle.lists.specs.State.{taken, onList}
 use Rattle.lists.specs.Lookup.{nextAfter}
-use Rattle.lists.specs.Tables.{Tables, IsList, OfNext, OfOwners}
+use Rattle.lists.specs.Tables.{Tables, IsList, OfShown}
 use Rattle.lists.proofs.Basic.{eqb-false, eq-true}
 use Rattle.log.specs.Entry.{isList}
 use Rattle.disk.specs.declared.answer.Refusal.{Refusal}
@@ -21,7 +21,7 @@ use Rattle.disk.specs.Perform.{accepted}
 use Rattle.disk.specs.Answers.{number, numberAnswer}
 use Rattle.calls.specs.Performs.{Performs}
 use Rattle.inspect.specs.Inspect.{Sees}
-use Rattle.inspect.proofs.Locating.{onList-here, listNums-here, of-owners, of-next, taken-told, nextAfter-told}
+use Rattle.inspect.proofs.Locating.{onList-here, listNums-here, of-shown, taken-told, nextAfter-told}
 use Rattle.calls.proofs.Taken.{Stored}
 use Rattle.calls.proofs.Refusing.{ask-yes, ask-no, last-yes, opens, seen, position-range, usual-performs-refused, first-refused, performs-accepted}
 
@@ -45,16 +45,16 @@ module _ (d : Disk) (v l p : ℕ) where
     -- behind question 5, with what the tables answer
     module _ (w : isList l && leb p 64 ≡ true) where
       abbrev TakenIs : Bool → Type 0
-      TakenIs b = OfOwners (t .owner) (λ rs. IsList l → b ≡ taken l rs)
+      TakenIs b = OfShown t (λ rs. IsList l → b ≡ taken l rs)
 
       abbrev FollowsIs : Bool → Type 0
-      FollowsIs b = OfOwners (t .owner) (λ rs. b ≡ eqb p 0 || onList l p rs)
+      FollowsIs b = OfShown t (λ rs. b ≡ eqb p 0 || onList l p rs)
 
       taken-view : (b : Bool) → TakenIs b → taken l (view d v .lists) ≡ b
       taken-view b f = sym (taken-told d t (view d v) (s .located) l b f (position-range l p w .0))
 
       follows-view : (b : Bool) → FollowsIs b → eqb p 0 || onList l p (view d v .lists) ≡ b
-      follows-view b f = rw (onList-here d t (view d v) (s .located) l p) (sym (of-owners d t (view d v) (s .located) (λ rs. b ≡ eqb p 0 || onList l p rs) f))
+      follows-view b f = rw (onList-here d t (view d v) (s .located) l p) (sym (of-shown d t (view d v) (s .located) (λ rs. b ≡ eqb p 0 || onList l p rs) f))
 
       pub next-untaken : (b : Bool) → TakenIs b → b ≡ false → Nexts (N.the-variants.Refused ListNotTaken)
       unfolding refusal questions number
@@ -68,7 +68,7 @@ module _ (d : Disk) (v l p : ℕ) where
               next-refused PredecessorElsewhere (seen _ s ∙ ask-yes 5 _ _ w ∙ ask-yes 7 _ _ (taken-view b f ∙ h) ∙ ask-no 9 _ _ (follows-view o g ∙ e))
 
           pub next-found : o ≡ true → (n : ℕ)
-              → OfNext (t .next) (λ rs. taken l rs ≡ true → eqb p 0 || onList l p rs ≡ true → n ≡ nextAfter rs l p) → Nexts (N.the-variants.Number n)
+              → OfShown t (λ rs. taken l rs ≡ true → eqb p 0 || onList l p rs ≡ true → n ≡ nextAfter rs l p) → Nexts (N.the-variants.Number n)
           unfolding refusal questions predecessorRight accepted numberAnswer
           next-found e n k =
               performs-accepted (blockAfter v l p) d _ (seen _ s ∙ ask-yes 5 _ _ w ∙ ask-yes 7 _ _ (taken-view b f ∙ h) ∙ last-yes 9 _ (follows-view o g ∙ e))
@@ -87,8 +87,8 @@ module _ (d : Disk) (v : ℕ) (x : List ℕ) where
     unfolding refusal questions destination numberAnswer number
     inventory-out h = usual-performs-refused (inventory v x) d OutOfRange tt (seen _ s ∙ ask-no 5 _ _ (eqb-false (length x) 16 h))
 
-    pub inventory-given : length x ≡ 16 → (n : ℕ) (y : List ℕ) → OfNext (t .next) (λ rs. Stored x rs n y) → Inventories (N.the-variants.Number n) y
+    pub inventory-given : length x ≡ 16 → (n : ℕ) (y : List ℕ) → OfShown t (λ rs. Stored x rs n y) → Inventories (N.the-variants.Number n) y
     unfolding refusal questions accepted numberAnswer
     inventory-given h n y f =
-        let (a, b) = of-next d t (view d v) (s .located) (λ rs. Stored x rs n y) f in
+        let (a, b) = of-shown d t (view d v) (s .located) (λ rs. Stored x rs n y) f in
         performs-accepted (inventory v x) d _ (seen _ s ∙ last-yes 5 _ (eq-true (length x) 16 h)) (rw (listNums-here d t (view d v) (s .located), a, b))

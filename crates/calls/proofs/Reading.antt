@@ -9,7 +9,7 @@ use lib.ListN.{length}
 use Rattle.lists.specs.Basic.{orElse}
 use Rattle.lists.specs.State.{placed}
 use Rattle.lists.specs.Lookup.{contentOf}
-use Rattle.lists.specs.Tables.{Tables, IsBlock, OfOwners, OfPlaces}
+use Rattle.lists.specs.Tables.{Tables, IsBlock, OfShown}
 use Rattle.lists.proofs.Basic.{and-true, leb-true, eqb-true}
 use Rattle.log.specs.Entry.{isBlock}
 use Rattle.disk.specs.declared.answer.Refusal.{Refusal}
@@ -51,7 +51,7 @@ module _ (d : Disk) (v b : ℕ) (x : List ℕ) where
     read-out w = read-refused OutOfRange (seen _ s ∙ ask-no 5 _ _ w)
 
     -- behind question 5, with what the tables answer
-    module _ (w : isBlock b && eqb (length x) 256 ≡ true) (o : Bool) (f : OfOwners (t .owner) (λ rs. IsBlock b → o ≡ placed b rs)) where
+    module _ (w : isBlock b && eqb (length x) 256 ≡ true) (o : Bool) (f : OfShown t (λ rs. IsBlock b → o ≡ placed b rs)) where
       placed-view : placed b (view d v .lists) ≡ o
       placed-view = sym (placed-told d t (view d v) (s .located) b o f (read-range b (length x) w .0))
 
@@ -59,7 +59,7 @@ module _ (d : Disk) (v b : ℕ) (x : List ℕ) where
       unfolding refusal questions number
       read-unplaced h = read-refused BlockNotPlaced (seen _ s ∙ ask-yes 5 _ _ w ∙ ask-no 8 _ _ (placed-view ∙ h))
 
-      module _ (h : o ≡ true) (m : ℕ) (g : OfPlaces (t .place) (λ rs. placed b rs ≡ true → contentOf rs b ≡ some m)) where
+      module _ (h : o ≡ true) (m : ℕ) (g : OfShown t (λ rs. placed b rs ≡ true → contentOf rs b ≡ some m)) where
         content-view : contentOf (view d v .lists) b ≡ some (contents d m)
         content-view = content-told d t (view d v) (s .located) b m g (placed-view ∙ h)
 

@@ -8,7 +8,7 @@ use lib.Dec.{eqb, eqb·suc-zero}
 use lib.ListN.{length}
 use Rattle.lists.specs.Change.{write, carriedBy}
 use Rattle.lists.specs.State.{placed}
-use Rattle.lists.specs.Tables.{Tables, OfOwners}
+use Rattle.lists.specs.Tables.{Tables, OfShown}
 use Rattle.lists.proofs.Basic.{and-true, eqb-true}
 use Rattle.log.specs.declared.entry.LogEntry.the-variants.{Write}
 use Rattle.log.specs.Card.{Content, slotBytes}
@@ -39,7 +39,7 @@ change-written zero d b x q j k = rw (k .queue, k .journal)
 change-written (suc u) d b x q j k = rw (k .queue, k .journal, eqb·suc-zero u)
 
 module _ (d : Disk) (s b : ℕ) (x : Content) (a : Reply) (r : Record) where
-  pub write-decides : (t : Tables) → Sees false d s t → OfOwners (t .owner) (λ rs. AddsAfter ((5, isBlock b && eqb (length x) slotBytes) ∷ (8, placed b rs) ∷ []) s (Write b 0) (d .rec) a r)
+  pub write-decides : (t : Tables) → Sees false d s t → OfShown t (λ rs. AddsAfter ((5, isBlock b && eqb (length x) slotBytes) ∷ (8, placed b rs) ∷ []) s (Write b 0) (d .rec) a r)
       → Decides (writeBlock s b x) d s (Write b 0) a r
   unfolding refusal questions
   write-decides t z f =

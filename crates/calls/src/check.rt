@@ -1,7 +1,7 @@
 // Questions 1 and 3, of a call that looks nothing up.
 use disk::record::Record;
 use inspect::look::Looked;
-use inspect::look::look;
+use inspect::look::look_committed;
 ghost use Rattle.disk.specs.Disk.{disk};
 ghost use Rattle.calls.specs.Checks.{Checks};
 
@@ -9,21 +9,6 @@ ghost use Rattle.calls.specs.Checks.{Checks};
 pub fn check(card: &[u8], queue_data: &[u8], journal_data: &[u8], rec: Record) -> Looked
     ensures { λ r. ⌜ Checks (disk (now (card .entry)) (now (queue_data .entry)) (now (journal_data .entry)) rec) r ⌝ }
 {
-    let mut next = [0u8; 256];
-    let mut prev = [0u8; 256];
-    let mut owner = [0u8; 256];
-    let mut place = [0u16; 256];
-    // stream 0 is always open
-    look(
-        card,
-        queue_data,
-        journal_data,
-        rec,
-        false,
-        0,
-        &mut next,
-        &mut prev,
-        &mut owner,
-        &mut place,
-    )
+    let mut nodes = [0u8; 1280];
+    look_committed(card, queue_data, journal_data, rec, &mut nodes)
 }

@@ -19,7 +19,7 @@ ghost use mathlib.Core.Bool.{true};
 ghost use mathlib.Core.List.{[]};
 ghost use Prim.Native.Nat.{_+_, _≤_, _<_};
 ghost use lib.ListN.{length};
-ghost use Rattle.lists.specs.Tables.{tables};
+ghost use Rattle.lists.specs.Tables.{tablesIn};
 ghost use Rattle.log.specs.Entry.{legal, raw, member, asChange};
 ghost use Rattle.disk.specs.Record.{unitAt};
 ghost use Rattle.disk.specs.Disk.{disk};
@@ -89,20 +89,17 @@ fn queue_unit(queue_data: &mut [u8], journal_data: &[u8], rec: Record, u: usize)
 
 // 12. Does every entry apply to the committed state, which the tables show? 13. Has the queue room? Refused 12 the unit is closed too.
 fn end_unit(
-    next: &mut [u8; 256],
-    prev: &mut [u8; 256],
-    owner: &mut [u8; 256],
-    place: &mut [u16; 256],
+    nodes: &mut [u8; 1280],
     queue_data: &mut [u8],
     journal_data: &[u8],
     rec: Record,
     u: usize,
 ) -> Replied
     requires { ⌜ Ready (now queue_data) (now journal_data) rec u ⌝ }
-    ensures { λ r. ⌜ Ends (tables (now (next .entry)) (now (prev .entry)) (now (owner .entry)) (now (place .entry))) (now (queue_data .entry)) (now (journal_data .entry)) rec u (r .reply) (now (queue_data .exit)) (r .rec) ⌝ }
+    ensures { λ r. ⌜ Ends (tablesIn (now (nodes .entry))) (now (queue_data .entry)) (now (journal_data .entry)) rec u (r .reply) (now (queue_data .exit)) (r .rec) ⌝ }
 {
     let unit = rec.units[u - 1];
-    if !enter_journal(next, prev, owner, place, unit, u) {
+    if !enter_journal(nodes, unit, u) {
         let reply = Reply::Refused(Refusal::Conflict);
         return Replied {
             rec: count_conflict(close(rec, u)),
@@ -130,36 +127,13 @@ pub fn end(
 ) -> Replied
     ensures { λ r. ⌜ Performs (end u) (disk (now (card .entry)) (now (queue_data .entry)) (now (journal_data .entry)) rec) (disk (now (card .entry)) (now (queue_data .exit)) (now (journal_data .entry)) (r .rec)) (replyAnswer (r .reply)) [] ⌝ }
 {
-    let mut next = [0u8; 256];
-    let mut prev = [0u8; 256];
-    let mut owner = [0u8; 256];
-    let mut place = [0u16; 256];
-    match enter(
-        card,
-        queue_data,
-        journal_data,
-        rec,
-        false,
-        u,
-        &mut next,
-        &mut prev,
-        &mut owner,
-        &mut place,
-    ) {
+    let mut nodes = [0u8; 1280];
+    match enter(card, queue_data, journal_data, rec, false, u, &mut nodes) {
         Looked::Refused(x) => {
             let reply = Reply::Refused(x);
             return Replied { rec, reply };
         }
         Looked::Seen => {}
     }
-    end_unit(
-        &mut next,
-        &mut prev,
-        &mut owner,
-        &mut place,
-        queue_data,
-        journal_data,
-        rec,
-        u,
-    )
+    end_unit(&mut nodes, queue_data, journal_data, rec, u)
 }

@@ -2,9 +2,9 @@
 use disk::answer::Refusal;
 use disk::record::Record;
 use inspect::look::Looked;
-use inspect::look::look;
+use inspect::look::look_committed;
 use inspect::units::is_open;
-ghost use Rattle.lists.specs.Tables.{tables};
+ghost use Rattle.lists.specs.Tables.{tablesIn};
 ghost use Rattle.disk.specs.Disk.{disk};
 ghost use Rattle.calls.specs.Entering.{Enters};
 
@@ -16,26 +16,11 @@ pub fn enter(
     rec: Record,
     stream: bool,
     s: usize,
-    next: &mut [u8; 256],
-    prev: &mut [u8; 256],
-    owner: &mut [u8; 256],
-    place: &mut [u16; 256],
+    nodes: &mut [u8; 1280],
 ) -> Looked
-    ensures { λ r. ⌜ Enters stream (disk (now (card .entry)) (now (queue_data .entry)) (now (journal_data .entry)) rec) s r (tables (now (next .exit)) (now (prev .exit)) (now (owner .exit)) (now (place .exit))) ⌝ }
+    ensures { λ r. ⌜ Enters stream (disk (now (card .entry)) (now (queue_data .entry)) (now (journal_data .entry)) rec) s r (tablesIn (now (nodes .exit))) ⌝ }
 {
-    // stream 0 is always open, and its view is the committed state
-    match look(
-        card,
-        queue_data,
-        journal_data,
-        rec,
-        false,
-        0,
-        next,
-        prev,
-        owner,
-        place,
-    ) {
+    match look_committed(card, queue_data, journal_data, rec, nodes) {
         Looked::Refused(x) => {
             return Looked::Refused(x);
         }

@@ -25,21 +25,8 @@ pub fn flush(
 ) -> FlushReplied
     ensures { λ r. ⌜ Performs (flush allowance) (disk (now (card .entry)) (now (queue_data .entry)) (now (journal_data .entry)) rec) (disk (now (card .exit)) (now (queue_data .entry)) (now (journal_data .entry)) (r .rec)) (flushAnswer (r .reply)) [] ⌝ }
 {
-    let mut next = [0u8; 256];
-    let mut prev = [0u8; 256];
-    let mut owner = [0u8; 256];
-    let mut place = [0u16; 256];
-    match examine(
-        card,
-        queue_data,
-        journal_data,
-        rec,
-        false,
-        &mut next,
-        &mut prev,
-        &mut owner,
-        &mut place,
-    ) {
+    let mut nodes = [0u8; 1280];
+    match examine(card, queue_data, journal_data, rec, false, &mut nodes) {
         Examined::WrongLength => {
             let reply = FlushReply::Refused(Refusal::WrongLength);
             FlushReplied { rec, reply }

@@ -19,7 +19,7 @@ ghost use mathlib.Core.Bool.{true};
 ghost use mathlib.Core.List.{[]};
 ghost use Prim.Native.Nat.{_≤_, _<_};
 ghost use Rattle.lists.specs.Basic.{all, from};
-ghost use Rattle.lists.specs.Tables.{tables, OfOwners, IsList};
+ghost use Rattle.lists.specs.Tables.{tablesIn, OfShown, IsList};
 ghost use Rattle.log.specs.Entry.{legal, raw, member};
 ghost use Rattle.disk.specs.Record.{unitAt, withLastBlock, withLastList};
 ghost use Rattle.inspect.specs.Clauses.{changeIn};
@@ -44,11 +44,11 @@ fn gave_list(rec: Record, l: u8) -> Record
 }
 
 // 10. Is a list free in the committed state? 13. Has the queue room? Then the list is taken.
-pub fn take_list(owner: &[u8; 256], rec: Record) -> NumberReplied
+pub fn take_list(nodes: &[u8; 1280], rec: Record) -> NumberReplied
     requires { ⌜ rec .head < 32 ⌝ }
-    ensures { λ r. ⌜ OfOwners (now (owner .entry)) (λ rs. Takes rec rs (r .reply) (r .rec)) ⌝ }
+    ensures { λ r. ⌜ OfShown (tablesIn (now (nodes .entry))) (λ rs. Takes rec rs (r .reply) (r .rec)) ⌝ }
 {
-    let l = free_list(owner, rec.last_list);
+    let l = free_list(nodes, rec.last_list);
     if l == 0 {
         let reply = NumberReply::Refused(Refusal::NoNumberFree);
         return NumberReplied { rec, reply };
@@ -113,15 +113,15 @@ fn put_block(rec: Record, s: usize, l: u8, p: u8, b: u8) -> NumberReplied
 }
 
 // 7, 9 and 10 of a block put on list l behind block p, first if p is 0; block b is 0 if none is free.
-fn put_on(owner: &[u8; 256], rec: Record, s: usize, l: u8, p: u8, b: u8) -> NumberReplied
+fn put_on(nodes: &[u8; 1280], rec: Record, s: usize, l: u8, p: u8, b: u8) -> NumberReplied
     requires { ⌜ (s ≤ 4) × (rec .head < 32) × IsList l × (p ≤ 64) × (b ≤ 64) ⌝ }
-    ensures { λ r. ⌜ OfOwners (now (owner .entry)) (λ rs. Puts (putQuestions l p b rs) s l p b rec (r .reply) (r .rec)) ⌝ }
+    ensures { λ r. ⌜ OfShown (tablesIn (now (nodes .entry))) (λ rs. Puts (putQuestions l p b rs) s l p b rec (r .reply) (r .rec)) ⌝ }
 {
-    if !is_taken(owner, l) {
+    if !is_taken(nodes, l) {
         let reply = NumberReply::Refused(Refusal::ListNotTaken);
         return NumberReplied { rec, reply };
     }
-    if !follows(owner, l, p) {
+    if !follows(nodes, l, p) {
         let reply = NumberReply::Refused(Refusal::PredecessorElsewhere);
         return NumberReplied { rec, reply };
     }
@@ -133,51 +133,35 @@ fn put_on(owner: &[u8; 256], rec: Record, s: usize, l: u8, p: u8, b: u8) -> Numb
 }
 
 // 5 before them.
-fn put_ranged(owner: &[u8; 256], rec: Record, s: usize, l: usize, p: usize, b: u8) -> NumberReplied
+fn put_ranged(nodes: &[u8; 1280], rec: Record, s: usize, l: usize, p: usize, b: u8) -> NumberReplied
     requires { ⌜ (s ≤ 4) × (rec .head < 32) × (b ≤ 64) ⌝ }
-    ensures { λ r. ⌜ OfOwners (now (owner .entry)) (λ rs. Puts (rangedPutQuestions l p b rs) s l p b rec (r .reply) (r .rec)) ⌝ }
+    ensures { λ r. ⌜ OfShown (tablesIn (now (nodes .entry))) (λ rs. Puts (rangedPutQuestions l p b rs) s l p b rec (r .reply) (r .rec)) ⌝ }
 {
     if !is_position(l, p) {
         let reply = NumberReply::Refused(Refusal::OutOfRange);
         return NumberReplied { rec, reply };
     }
-    put_on(owner, rec, s, l as u8, p as u8, b)
+    put_on(nodes, rec, s, l as u8, p as u8, b)
 }
 
 // The journal of unit s laid over the committed state; on stream 0 there is none.
-fn lay_stream(
-    next: &mut [u8; 256],
-    prev: &mut [u8; 256],
-    owner: &mut [u8; 256],
-    place: &mut [u16; 256],
-    rec: Record,
-    s: usize,
-)
+fn lay_stream(nodes: &mut [u8; 1280], rec: Record, s: usize)
     requires { ⌜ (s ≤ 4) × (unitAt rec s .len ≤ 15) × (all (λ c. legal (raw 0 (member c))) (from (changeIn (unitAt rec s)) 0 (unitAt rec s .len)) ≡ true) ⌝ }
-    ensures { λ r. ⌜ Lays (tables (now (next .entry)) (now (prev .entry)) (now (owner .entry)) (now (place .entry))) rec s (tables (now (next .exit)) (now (prev .exit)) (now (owner .exit)) (now (place .exit))) ⌝ }
+    ensures { λ r. ⌜ Lays (tablesIn (now (nodes .entry))) rec s (tablesIn (now (nodes .exit))) ⌝ }
 {
     if s == 0 {
         return;
     }
-    enter_journal(next, prev, owner, place, rec.units[s - 1], s);
+    enter_journal(nodes, rec.units[s - 1], s);
 }
 
 // The tables show the committed state, of which the number is; the list and the predecessor are of the stream's view.
-pub fn put_free(
-    next: &mut [u8; 256],
-    prev: &mut [u8; 256],
-    owner: &mut [u8; 256],
-    place: &mut [u16; 256],
-    rec: Record,
-    s: usize,
-    l: usize,
-    p: usize,
-) -> NumberReplied
-    requires { ⌜ Shown (tables (now next) (now prev) (now owner) (now place)) × (s ≤ 4) × (rec .head < 32) × (unitAt rec s .len ≤ 15) × (all (λ c. legal (raw 0 (member c))) (from (changeIn (unitAt rec s)) 0 (unitAt rec s .len)) ≡ true) ⌝ }
-    ensures { λ r. ⌜ PutsFree (tables (now (next .entry)) (now (prev .entry)) (now (owner .entry)) (now (place .entry))) s l p rec (r .reply) (r .rec) ⌝ }
+pub fn put_free(nodes: &mut [u8; 1280], rec: Record, s: usize, l: usize, p: usize) -> NumberReplied
+    requires { ⌜ Shown (tablesIn (now nodes)) × (s ≤ 4) × (rec .head < 32) × (unitAt rec s .len ≤ 15) × (all (λ c. legal (raw 0 (member c))) (from (changeIn (unitAt rec s)) 0 (unitAt rec s .len)) ≡ true) ⌝ }
+    ensures { λ r. ⌜ PutsFree (tablesIn (now (nodes .entry))) s l p rec (r .reply) (r .rec) ⌝ }
 {
     let holder = rec.holder;
-    let b = free_block(owner, &holder, rec.last_block);
-    lay_stream(next, prev, owner, place, rec, s);
-    put_ranged(owner, rec, s, l, p, b)
+    let b = free_block(nodes, &holder, rec.last_block);
+    lay_stream(nodes, rec, s);
+    put_ranged(nodes, rec, s, l, p, b)
 }

@@ -3,14 +3,14 @@ use disk::answer::NumberReply;
 use disk::answer::Refusal;
 use disk::record::Record;
 use inspect::look::Looked;
-use inspect::look::look;
+use inspect::look::look_view;
 use lists::tables::list_after;
 use log::entry::LogEntry;
 ghost use mathlib.Core.Path.{_≡_};
 ghost use mathlib.Core.List.{_++_};
 ghost use lib.ListN.{length, drop};
 ghost use Rattle.lists.specs.Lookup.{listNums};
-ghost use Rattle.lists.specs.Tables.{OfNext};
+ghost use Rattle.lists.specs.Tables.{tablesIn, OfShown};
 ghost use Rattle.disk.specs.Disk.{disk};
 ghost use Rattle.disk.specs.Call as call;
 ghost use Rattle.disk.specs.Answers.{numberAnswer};
@@ -30,22 +30,8 @@ pub fn inventory(
 ) -> NumberReply
     ensures { λ r. ⌜ Performs (call.inventory v (now (dest .entry))) (disk (now (card .entry)) (now (queue_data .entry)) (now (journal_data .entry)) rec) (disk (now (card .entry)) (now (queue_data .entry)) (now (journal_data .entry)) rec) (numberAnswer r) (now (dest .exit)) ⌝ }
 {
-    let mut next = [0u8; 256];
-    let mut prev = [0u8; 256];
-    let mut owner = [0u8; 256];
-    let mut place = [0u16; 256];
-    match look(
-        card,
-        queue_data,
-        journal_data,
-        rec,
-        true,
-        v,
-        &mut next,
-        &mut prev,
-        &mut owner,
-        &mut place,
-    ) {
+    let mut nodes = [0u8; 1280];
+    match look_view(card, queue_data, journal_data, rec, v, &mut nodes) {
         Looked::Refused(x) => {
             return NumberReply::Refused(x);
         }
@@ -54,22 +40,22 @@ pub fn inventory(
     if dest.len() != LISTS {
         return NumberReply::Refused(Refusal::OutOfRange);
     }
-    NumberReply::Number(put_lists(&next, dest))
+    NumberReply::Number(put_lists(&nodes, dest))
 }
 
 // The lists that tables with these links show, from the first on.
-fn put_lists(next: &[u8; 256], dest: &mut [u8]) -> usize
+fn put_lists(nodes: &[u8; 1280], dest: &mut [u8]) -> usize
     requires { ⌜ length (now dest) ≡ 16 ⌝ }
-    ensures { λ r. ⌜ OfNext (now (next .entry)) (λ rs. (r ≡ length (listNums rs)) × (now (dest .exit) ≡ listNums rs ++ drop (length (listNums rs)) (now (dest .entry)))) ⌝ }
+    ensures { λ r. ⌜ OfShown (tablesIn (now (nodes .entry))) (λ rs. (r ≡ length (listNums rs)) × (now (dest .exit) ≡ listNums rs ++ drop (length (listNums rs)) (now (dest .entry)))) ⌝ }
 {
-    let mut list = list_after(next, 0);
+    let mut list = list_after(nodes, 0);
     let mut i = 0;
     while i < LISTS {
         if list == 0 {
             return i;
         }
         dest[i] = list;
-        list = list_after(next, list);
+        list = list_after(nodes, list);
         i += 1;
     }
     i

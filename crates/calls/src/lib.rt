@@ -16,7 +16,6 @@ pub mod mount;
 pub mod new_block;
 pub mod new_list;
 pub mod next;
-mod owners;
 mod ranges;
 pub mod read;
 pub mod replied;

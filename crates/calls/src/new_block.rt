@@ -23,27 +23,13 @@ pub fn new_block(
 ) -> NumberReplied
     ensures { λ r. ⌜ Performs (newBlock s l p) (disk (now (card .entry)) (now (queue_data .entry)) (now (journal_data .entry)) rec) (disk (now (card .entry)) (now (queue_data .entry)) (now (journal_data .entry)) (r .rec)) (numberAnswer (r .reply)) [] ⌝ }
 {
-    let mut next = [0u8; 256];
-    let mut prev = [0u8; 256];
-    let mut owner = [0u8; 256];
-    let mut place = [0u16; 256];
-    match enter(
-        card,
-        queue_data,
-        journal_data,
-        rec,
-        true,
-        s,
-        &mut next,
-        &mut prev,
-        &mut owner,
-        &mut place,
-    ) {
+    let mut nodes = [0u8; 1280];
+    match enter(card, queue_data, journal_data, rec, true, s, &mut nodes) {
         Looked::Refused(x) => {
             let reply = NumberReply::Refused(x);
             return NumberReplied { rec, reply };
         }
         Looked::Seen => {}
     }
-    put_free(&mut next, &mut prev, &mut owner, &mut place, rec, s, l, p)
+    put_free(&mut nodes, rec, s, l, p)
 }

@@ -5,7 +5,7 @@ use disk::answer::NumberReply;
 use disk::answer::Refusal;
 use disk::record::Record;
 use inspect::look::Looked;
-use inspect::look::look;
+use inspect::look::look_view;
 use lists::tables::block_after;
 use lists::tables::is_taken;
 ghost use mathlib.Core.List.{[]};
@@ -27,22 +27,8 @@ pub fn next(
 ) -> NumberReply
     ensures { λ r. ⌜ Performs (blockAfter v l p) (disk (now (card .entry)) (now (queue_data .entry)) (now (journal_data .entry)) rec) (disk (now (card .entry)) (now (queue_data .entry)) (now (journal_data .entry)) rec) (numberAnswer r) [] ⌝ }
 {
-    let mut next = [0u8; 256];
-    let mut prev = [0u8; 256];
-    let mut owner = [0u8; 256];
-    let mut place = [0u16; 256];
-    match look(
-        card,
-        queue_data,
-        journal_data,
-        rec,
-        true,
-        v,
-        &mut next,
-        &mut prev,
-        &mut owner,
-        &mut place,
-    ) {
+    let mut nodes = [0u8; 1280];
+    match look_view(card, queue_data, journal_data, rec, v, &mut nodes) {
         Looked::Refused(x) => {
             return NumberReply::Refused(x);
         }
@@ -53,12 +39,12 @@ pub fn next(
     }
     let list = l as u8;
     let predecessor = p as u8;
-    if !is_taken(&owner, list) {
+    if !is_taken(&nodes, list) {
         return NumberReply::Refused(Refusal::ListNotTaken);
     }
-    if !follows(&owner, list, predecessor) {
+    if !follows(&nodes, list, predecessor) {
         return NumberReply::Refused(Refusal::PredecessorElsewhere);
     }
-    let block = block_after(&next, list, predecessor) as usize;
+    let block = block_after(&nodes, list, predecessor) as usize;
     NumberReply::Number(block)
 }

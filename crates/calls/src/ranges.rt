@@ -7,7 +7,7 @@ ghost use mathlib.Core.Bool.{_&&_, _||_};
 ghost use Prim.Native.Nat.{_≤_};
 ghost use lib.Dec.{leb, eqb};
 ghost use Rattle.lists.specs.State.{onList};
-ghost use Rattle.lists.specs.Tables.{OfOwners, IsList};
+ghost use Rattle.lists.specs.Tables.{tablesIn, OfShown, IsList};
 ghost use Rattle.log.specs.Entry.{isBlock, isList};
 
 const BLOCKS: usize = LogEntry::BLOCKS as usize;
@@ -34,12 +34,12 @@ pub fn is_position(l: usize, p: usize) -> bool
 }
 
 // 9. Is the predecessor on the list, if there is one?
-pub fn follows(owner: &[u8; 256], l: u8, p: u8) -> bool
+pub fn follows(nodes: &[u8; 1280], l: u8, p: u8) -> bool
     requires { ⌜ IsList l × (p ≤ 64) ⌝ }
-    ensures { λ r. ⌜ OfOwners (now (owner .entry)) (λ rs. r ≡ eqb p 0 || onList l p rs) ⌝ }
+    ensures { λ r. ⌜ OfShown (tablesIn (now (nodes .entry))) (λ rs. r ≡ eqb p 0 || onList l p rs) ⌝ }
 {
     if p == 0 {
         return true;
     }
-    is_on(owner, l, p)
+    is_on(nodes, l, p)
 }

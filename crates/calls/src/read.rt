@@ -4,7 +4,7 @@ use disk::answer::Refusal;
 use disk::answer::Reply;
 use disk::record::Record;
 use inspect::look::Looked;
-use inspect::look::look;
+use inspect::look::look_view;
 use lists::tables::is_placed;
 use lists::tables::location_of;
 use log::content::copy_content;
@@ -28,22 +28,8 @@ pub fn read(
 ) -> Reply
     ensures { λ r. ⌜ Performs (readBlock v b (now (dest .entry))) (disk (now (card .entry)) (now (queue_data .entry)) (now (journal_data .entry)) rec) (disk (now (card .entry)) (now (queue_data .entry)) (now (journal_data .entry)) rec) (replyAnswer r) (now (dest .exit)) ⌝ }
 {
-    let mut next = [0u8; 256];
-    let mut prev = [0u8; 256];
-    let mut owner = [0u8; 256];
-    let mut place = [0u16; 256];
-    match look(
-        card,
-        queue_data,
-        journal_data,
-        rec,
-        true,
-        v,
-        &mut next,
-        &mut prev,
-        &mut owner,
-        &mut place,
-    ) {
+    let mut nodes = [0u8; 1280];
+    match look_view(card, queue_data, journal_data, rec, v, &mut nodes) {
         Looked::Refused(x) => {
             return Reply::Refused(x);
         }
@@ -53,10 +39,10 @@ pub fn read(
         return Reply::Refused(Refusal::OutOfRange);
     }
     let block = b as u8;
-    if !is_placed(&owner, block) {
+    if !is_placed(&nodes, block) {
         return Reply::Refused(Refusal::BlockNotPlaced);
     }
-    let location = location_of(&place, block);
+    let location = location_of(&nodes, block);
     copy_content(card, queue_data, journal_data, location, dest);
     Reply::Accepted
 }

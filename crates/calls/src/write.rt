@@ -1,6 +1,5 @@
 // Write: 256 bytes that a block is to hold, added on a stream.
 use crate::add::add;
-use crate::owners::look_owners;
 use crate::ranges::is_block;
 use crate::replied::Replied;
 use disk::answer::Refusal;
@@ -8,6 +7,7 @@ use disk::answer::Reply;
 use disk::record::Record;
 use disk::record::Unit;
 use inspect::look::Looked;
+use inspect::look::look_stream;
 use lists::tables::is_placed;
 use log::copy::copy_in;
 use log::entry::LogEntry;
@@ -20,7 +20,7 @@ ghost use Prim.Native.Nat.{_≤_, _<_};
 ghost use lib.Dec.{eqb};
 ghost use lib.ListN.{length};
 ghost use Rattle.lists.specs.State.{placed};
-ghost use Rattle.lists.specs.Tables.{OfOwners};
+ghost use Rattle.lists.specs.Tables.{tablesIn, OfShown};
 ghost use Rattle.log.specs.declared.entry.LogEntry.the-variants as E;
 ghost use Rattle.log.specs.Card.{slotBytes};
 ghost use Rattle.log.specs.Entry.{isBlock};
@@ -51,17 +51,17 @@ fn copy_content(
     copy_in(journal_data, SLOT * at, content);
 }
 
-// Questions 5, 8, 11 and 13, over the owners of the stream's view; n bytes are lent.
-fn write_placed(rec: Record, owner: &[u8; 256], s: usize, b: usize, n: usize) -> Replied
+// Questions 5, 8, 11 and 13, over the stream's view; n bytes are lent.
+fn write_placed(rec: Record, nodes: &[u8; 1280], s: usize, b: usize, n: usize) -> Replied
     requires { ⌜ (s ≤ 4) × (rec .head < 32) ⌝ }
-    ensures { λ r. ⌜ OfOwners (now (owner .entry)) (λ rs. AddsAfter ((5, isBlock b && eqb n slotBytes) ∷ (8, placed b rs) ∷ []) s (E.Write b 0) rec (r .reply) (r .rec)) ⌝ }
+    ensures { λ r. ⌜ OfShown (tablesIn (now (nodes .entry))) (λ rs. AddsAfter ((5, isBlock b && eqb n slotBytes) ∷ (8, placed b rs) ∷ []) s (E.Write b 0) rec (r .reply) (r .rec)) ⌝ }
 {
     if !both(is_block(b), n == SLOT) {
         let reply = Reply::Refused(Refusal::OutOfRange);
         return Replied { rec, reply };
     }
     let block = b as u8;
-    if !is_placed(owner, block) {
+    if !is_placed(nodes, block) {
         let reply = Reply::Refused(Refusal::BlockNotPlaced);
         return Replied { rec, reply };
     }
@@ -80,15 +80,15 @@ pub fn write(
 ) -> Replied
     ensures { λ r. ⌜ Performs (writeBlock s b (now (content .entry))) (disk (now (card .entry)) (now (queue_data .entry)) (now (journal_data .entry)) rec) (disk (now (card .entry)) (now (queue_data .exit)) (now (journal_data .exit)) (r .rec)) (replyAnswer (r .reply)) [] ⌝ }
 {
-    let mut owner = [0u8; 256];
-    match look_owners(card, queue_data, journal_data, rec, s, &mut owner) {
+    let mut nodes = [0u8; 1280];
+    match look_stream(card, queue_data, journal_data, rec, s, &mut nodes) {
         Looked::Refused(x) => {
             let reply = Reply::Refused(x);
             return Replied { rec, reply };
         }
         Looked::Seen => {}
     }
-    let written = write_placed(rec, &owner, s, b, content.len());
+    let written = write_placed(rec, &nodes, s, b, content.len());
     let reply = written.reply;
     match reply {
         Reply::Accepted => copy_content(queue_data, journal_data, rec, s, content),

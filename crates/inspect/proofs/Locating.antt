@@ -12,7 +12,7 @@ use Rattle.lists.specs.Basic.{isSome, from}
 use Rattle.lists.specs.Change.{mapChange}
 use Rattle.lists.specs.State.{Row, State, taken, placed, onList, applyAll, overlay, mapRow, mapState}
 use Rattle.lists.specs.Lookup.{contentOf, nextAfter, listNums, takenAfter}
-use Rattle.lists.specs.Tables.{Tables, IsBlock, IsList, OfNext, OfOwners, OfPlaces}
+use Rattle.lists.specs.Tables.{Tables, IsBlock, IsList, OfShown}
 use Rattle.lists.proofs.Naturality.{mapOption, taken-map, placed-map, onList-map, change-comp, applyAll-map, overlay-map, nextAfter-map, listNums-map, contentOf-map}
 use Rattle.log.specs.Entry.{mapEntry, asEntry, asChange}
 use Rattle.log.specs.Reader.{Reader, replay}
@@ -109,34 +109,28 @@ module _ (d : Disk) (t : Tables) (s : State Content) (k : Located d t s) where
   pub content-here : (b : ℕ) → contentOf (s .lists) b ≡ mapOption (contents d) (contentOf (k .here .lists) b)
   content-here b = ap (λ (rs : List (Row Content)). contentOf rs b) lists-here ∙ contentOf-map (contents d) (k .here .lists) b
 
-  -- what one table alone says of all lists that tables with it show
-  pub of-owners : (P : List (Row ℕ) → Type 0) → OfOwners (t .owner) P → P (k .here .lists)
-  of-owners P f = f (t .next) (t .prev) (t .place) (k .here .lists) (k .shows)
+  -- what holds of all lists that the tables show
+  pub of-shown : (P : List (Row ℕ) → Type 0) → OfShown t P → P (k .here .lists)
+  of-shown P f = f (k .here .lists) (k .shows)
 
-  pub of-next : (P : List (Row ℕ) → Type 0) → OfNext (t .next) P → P (k .here .lists)
-  of-next P f = f (t .prev) (t .owner) (t .place) (k .here .lists) (k .shows)
+  pub taken-told : (l : ℕ) (b : Bool) → OfShown t (λ rs. IsList l → b ≡ taken l rs) → IsList l → b ≡ taken l (s .lists)
+  taken-told l b f r = of-shown (λ rs. IsList l → b ≡ taken l rs) f r ∙ sym (taken-here l)
 
-  pub of-places : (P : List (Row ℕ) → Type 0) → OfPlaces (t .place) P → P (k .here .lists)
-  of-places P f = f (t .next) (t .prev) (t .owner) (k .here .lists) (k .shows)
+  pub placed-told : (x : ℕ) (b : Bool) → OfShown t (λ rs. IsBlock x → b ≡ placed x rs) → IsBlock x → b ≡ placed x (s .lists)
+  placed-told x b f r = of-shown (λ rs. IsBlock x → b ≡ placed x rs) f r ∙ sym (placed-here x)
 
-  pub taken-told : (l : ℕ) (b : Bool) → OfOwners (t .owner) (λ rs. IsList l → b ≡ taken l rs) → IsList l → b ≡ taken l (s .lists)
-  taken-told l b f r = of-owners (λ rs. IsList l → b ≡ taken l rs) f r ∙ sym (taken-here l)
+  pub onList-told : (l x : ℕ) (b : Bool) → OfShown t (λ rs. IsList l → IsBlock x → b ≡ onList l x rs) → IsList l → IsBlock x → b ≡ onList l x (s .lists)
+  onList-told l x b f p q = of-shown (λ rs. IsList l → IsBlock x → b ≡ onList l x rs) f p q ∙ sym (onList-here l x)
 
-  pub placed-told : (x : ℕ) (b : Bool) → OfOwners (t .owner) (λ rs. IsBlock x → b ≡ placed x rs) → IsBlock x → b ≡ placed x (s .lists)
-  placed-told x b f r = of-owners (λ rs. IsBlock x → b ≡ placed x rs) f r ∙ sym (placed-here x)
+  pub content-told : (x n : ℕ) → OfShown t (λ rs. placed x rs ≡ true → contentOf rs x ≡ some n) → placed x (s .lists) ≡ true → contentOf (s .lists) x ≡ some (contents d n)
+  content-told x n f p = content-here x ∙ ap (mapOption (contents d)) (of-shown (λ rs. placed x rs ≡ true → contentOf rs x ≡ some n) f (sym (placed-here x) ∙ p))
 
-  pub onList-told : (l x : ℕ) (b : Bool) → OfOwners (t .owner) (λ rs. IsList l → IsBlock x → b ≡ onList l x rs) → IsList l → IsBlock x → b ≡ onList l x (s .lists)
-  onList-told l x b f p q = of-owners (λ rs. IsList l → IsBlock x → b ≡ onList l x rs) f p q ∙ sym (onList-here l x)
-
-  pub content-told : (x n : ℕ) → OfPlaces (t .place) (λ rs. placed x rs ≡ true → contentOf rs x ≡ some n) → placed x (s .lists) ≡ true → contentOf (s .lists) x ≡ some (contents d n)
-  content-told x n f p = content-here x ∙ ap (mapOption (contents d)) (of-places (λ rs. placed x rs ≡ true → contentOf rs x ≡ some n) f (sym (placed-here x) ∙ p))
-
-  pub nextAfter-told : (l p n : ℕ) → OfNext (t .next) (λ rs. taken l rs ≡ true → eqb p 0 || onList l p rs ≡ true → n ≡ nextAfter rs l p)
+  pub nextAfter-told : (l p n : ℕ) → OfShown t (λ rs. taken l rs ≡ true → eqb p 0 || onList l p rs ≡ true → n ≡ nextAfter rs l p)
       → taken l (s .lists) ≡ true → eqb p 0 || onList l p (s .lists) ≡ true → n ≡ nextAfter (s .lists) l p
   nextAfter-told l p n f a b =
-      of-next (λ rs. taken l rs ≡ true → eqb p 0 || onList l p rs ≡ true → n ≡ nextAfter rs l p) f (sym (taken-here l) ∙ a) (rw (onList-here l p) at b)
+      of-shown (λ rs. taken l rs ≡ true → eqb p 0 || onList l p rs ≡ true → n ≡ nextAfter rs l p) f (sym (taken-here l) ∙ a) (rw (onList-here l p) at b)
       ∙ sym (nextAfter-here l p)
 
-  pub takenAfter-told : (l n : ℕ) → OfNext (t .next) (λ rs. eqb l 0 || taken l rs ≡ true → n ≡ takenAfter rs l)
+  pub takenAfter-told : (l n : ℕ) → OfShown t (λ rs. eqb l 0 || taken l rs ≡ true → n ≡ takenAfter rs l)
       → eqb l 0 || taken l (s .lists) ≡ true → n ≡ takenAfter (s .lists) l
-  takenAfter-told l n f a = of-next (λ rs. eqb l 0 || taken l rs ≡ true → n ≡ takenAfter rs l) f (rw (taken-here l) at a) ∙ sym (takenAfter-here l)
+  takenAfter-told l n f a = of-shown (λ rs. eqb l 0 || taken l rs ≡ true → n ≡ takenAfter rs l) f (rw (taken-here l) at a) ∙ sym (takenAfter-here l)

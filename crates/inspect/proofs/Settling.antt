@@ -5,7 +5,7 @@ use mathlib.Core.Option.{some, Option·some-injective}
 use mathlib.Core.List.{List, []}
 use Prim.Native.Nat.{ℕ}
 use Rattle.lists.specs.Basic.{isSome, each}
-use Rattle.lists.specs.Tables.{Tables, OfOwners}
+use Rattle.lists.specs.Tables.{Tables, OfShown}
 use Rattle.log.specs.Reader.{Reader, replay}
 use Rattle.log.specs.Location.{blank}
 use Rattle.log.specs.Feed.{Lent, Kept}
@@ -42,11 +42,11 @@ module _ (c q : List ℕ) (m : Lent) (run : ℕ) (r : Record) (b : Bool) (t : Ta
   }
 
   -- the holders have answer h, and the head k
-  module _ (entered : b ≡ true) (h : Bool) (held : OfOwners (t .owner) (λ rs. h ≡ holdersRight r rs)) where
+  module _ (entered : b ≡ true) (h : Bool) (held : OfShown t (λ rs. h ≡ holdersRight r rs)) where
     answer-is : (x : Reader ℕ) → Kept m run x → h && headStanding c (r .done) (queued (disk c q [] r)) ≡ settled c q r x
     answer-is x k =
         let (l, y, e, s) = rw entered at (fed x k) in
-        ap (λ (b : Bool). b && headStanding c (r .done) (queued (disk c q [] r))) (held (t .next) (t .prev) (t .place) (y .state .lists) s)
+        ap (λ (b : Bool). b && headStanding c (r .done) (queued (disk c q [] r))) (held (y .state .lists) s)
         ∙ settled-entered c q r x l y e
 
     pub settles-held : h ≡ false → Settles c q m run r false t

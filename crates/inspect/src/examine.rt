@@ -14,7 +14,7 @@ ghost use mathlib.Core.Bool.{true, cond};
 ghost use mathlib.Core.List.{List};
 ghost use Prim.Native.Nat.{ℕ, _≤_, _<_, _*_};
 ghost use lib.ListN.{length};
-ghost use Rattle.lists.specs.Tables.{tables};
+ghost use Rattle.lists.specs.Tables.{tablesIn};
 ghost use Rattle.log.specs.Card.{cardLength, segmentsIn};
 ghost use Rattle.log.specs.Store.{tail};
 ghost use Rattle.log.specs.Within.{Within};
@@ -37,20 +37,16 @@ fn settle(
     rec: Record,
     behind: Place,
     run: usize,
-    next: &mut [u8; 256],
-    prev: &mut [u8; 256],
-    owner: &mut [u8; 256],
-    place: &mut [u16; 256],
-    members: &mut [u8; 64],
-    locations: &mut [u16; 16],
+    nodes: &mut [u8; 1280],
+    members: &mut [u8; 128],
 ) -> bool
     requires { ⌜ (cardLength (now card) ≡ true) × (length (now queue_data) ≡ 8192) × (rec .len ≤ 32) × (rec .head < 32) × (behind ≡ tail (now card)) × Within behind × (behind .segment < segmentsIn (now card)) × (run ≤ 64 * 255) ⌝ }
-    ensures { λ r. ⌜ Settles (now (card .entry)) (now (queue_data .entry)) (lent (now (next .entry)) (now (prev .entry)) (now (owner .entry)) (now (place .entry)) (now (members .entry)) (now (locations .entry))) run rec r (tables (now (next .exit)) (now (prev .exit)) (now (owner .exit)) (now (place .exit))) ⌝ }
+    ensures { λ r. ⌜ Settles (now (card .entry)) (now (queue_data .entry)) (lent (now (nodes .entry)) (now (members .entry))) run rec r (tablesIn (now (nodes .exit))) ⌝ }
 {
-    if !enter_queue(next, prev, owner, place, members, locations, rec, run) {
+    if !enter_queue(nodes, members, rec, run) {
         return false;
     }
-    if !holders_right(rec, owner) {
+    if !holders_right(rec, nodes) {
         return false;
     }
     head_stands(card, queue_data, rec, behind)
@@ -63,33 +59,14 @@ fn settle_apart(
     rec: Record,
     behind: Place,
     run: usize,
-    next: &[u8; 256],
-    prev: &[u8; 256],
-    owner: &[u8; 256],
-    place: &[u16; 256],
-    members: &mut [u8; 64],
-    locations: &mut [u16; 16],
+    nodes: &[u8; 1280],
+    members: &mut [u8; 128],
 ) -> bool
     requires { ⌜ (cardLength (now card) ≡ true) × (length (now queue_data) ≡ 8192) × (rec .len ≤ 32) × (rec .head < 32) × (behind ≡ tail (now card)) × Within behind × (behind .segment < segmentsIn (now card)) × (run ≤ 64 * 255) ⌝ }
-    ensures { λ r. ⌜ Settled (now (card .entry)) (now (queue_data .entry)) (lent (now (next .entry)) (now (prev .entry)) (now (owner .entry)) (now (place .entry)) (now (members .entry)) (now (locations .entry))) run rec r ⌝ }
+    ensures { λ r. ⌜ Settled (now (card .entry)) (now (queue_data .entry)) (lent (now (nodes .entry)) (now (members .entry))) run rec r ⌝ }
 {
-    let mut next_then = *next;
-    let mut prev_then = *prev;
-    let mut owner_then = *owner;
-    let mut place_then = *place;
-    settle(
-        card,
-        queue_data,
-        rec,
-        behind,
-        run,
-        &mut next_then,
-        &mut prev_then,
-        &mut owner_then,
-        &mut place_then,
-        members,
-        locations,
-    )
+    let mut nodes_then = *nodes;
+    settle(card, queue_data, rec, behind, run, &mut nodes_then, members)
 }
 
 // The card and what is behind its log, where the lengths and the record's own clauses are right. Never `WrongLength`.
@@ -98,58 +75,22 @@ fn examine_log(
     queue_data: &[u8],
     rec: Record,
     persistent: bool,
-    next: &mut [u8; 256],
-    prev: &mut [u8; 256],
-    owner: &mut [u8; 256],
-    place: &mut [u16; 256],
+    nodes: &mut [u8; 1280],
 ) -> Examined
     requires { ⌜ (cardLength (now card) ≡ true) × (length (now queue_data) ≡ 8192) × (rec .len ≤ 32) × (rec .head < 32) ⌝ }
-    ensures { λ r. ⌜ ((j : List ℕ) → ExaminesLog (cond persistent 5 0) (disk (now (card .entry)) (now (queue_data .entry)) j rec) r (tables (now (next .exit)) (now (prev .exit)) (now (owner .exit)) (now (place .exit)))) ⌝ }
+    ensures { λ r. ⌜ ((j : List ℕ) → ExaminesLog (cond persistent 5 0) (disk (now (card .entry)) (now (queue_data .entry)) j rec) r (tablesIn (now (nodes .exit)))) ⌝ }
 {
-    let mut members = [0u8; 64];
-    let mut locations = [0u16; 16];
-    let Walked::Sound(behind, run) = walk(
-        card,
-        next,
-        prev,
-        owner,
-        place,
-        &mut members,
-        &mut locations,
-    ) else {
+    let mut members = [0u8; 128];
+    let Walked::Sound(behind, run) = walk(card, nodes, &mut members) else {
         return Examined::Unsound;
     };
     if persistent {
-        if settle_apart(
-            card,
-            queue_data,
-            rec,
-            behind,
-            run,
-            next,
-            prev,
-            owner,
-            place,
-            &mut members,
-            &mut locations,
-        ) {
+        if settle_apart(card, queue_data, rec, behind, run, nodes, &mut members) {
             return Examined::Sound(behind);
         }
         return Examined::Unsound;
     }
-    if settle(
-        card,
-        queue_data,
-        rec,
-        behind,
-        run,
-        next,
-        prev,
-        owner,
-        place,
-        &mut members,
-        &mut locations,
-    ) {
+    if settle(card, queue_data, rec, behind, run, nodes, &mut members) {
         return Examined::Sound(behind);
     }
     Examined::Unsound
@@ -163,12 +104,9 @@ pub fn examine(
     journal_data: &[u8],
     rec: Record,
     persistent: bool,
-    next: &mut [u8; 256],
-    prev: &mut [u8; 256],
-    owner: &mut [u8; 256],
-    place: &mut [u16; 256],
+    nodes: &mut [u8; 1280],
 ) -> Examined
-    ensures { λ r. ⌜ Examines (cond persistent 5 0) (disk (now (card .entry)) (now (queue_data .entry)) (now (journal_data .entry)) rec) r (tables (now (next .exit)) (now (prev .exit)) (now (owner .exit)) (now (place .exit))) ⌝ }
+    ensures { λ r. ⌜ Examines (cond persistent 5 0) (disk (now (card .entry)) (now (queue_data .entry)) (now (journal_data .entry)) rec) r (tablesIn (now (nodes .exit))) ⌝ }
 {
     if !lengths_right(card, queue_data, journal_data) {
         return Examined::WrongLength;
@@ -179,5 +117,5 @@ pub fn examine(
     if !units_right(rec) {
         return Examined::Unsound;
     }
-    examine_log(card, queue_data, rec, persistent, next, prev, owner, place)
+    examine_log(card, queue_data, rec, persistent, nodes)
 }

@@ -10,7 +10,7 @@ ghost use lib.Dec.{eqb};
 ghost use lib.ListN.{getD};
 ghost use Rattle.lists.specs.Basic.{orElse};
 ghost use Rattle.lists.specs.State.{placed, taken};
-ghost use Rattle.lists.specs.Tables.{OfOwners};
+ghost use Rattle.lists.specs.Tables.{tablesIn, OfShown};
 ghost use Rattle.disk.specs.Questions.{freeFrom};
 
 const BLOCKS: u8 = LogEntry::BLOCKS;
@@ -18,14 +18,14 @@ const BLOCKS: u8 = LogEntry::BLOCKS;
 const LISTS: u8 = LogEntry::LISTS;
 
 // The first free block after the one given last, 0 if none is free.
-pub fn free_block(owner: &[u8; 256], holder: &[u8; 64], last: u8) -> u8
-    ensures { λ r. ⌜ OfOwners (now (owner .entry)) (λ rs. r ≡ orElse 0 (freeFrom (λ b. placed b rs || not (eqb (getD (now (holder .entry)) (b - 1) 0) 0)) 64 64 last)) ⌝ }
+pub fn free_block(nodes: &[u8; 1280], holder: &[u8; 64], last: u8) -> u8
+    ensures { λ r. ⌜ OfShown (tablesIn (now (nodes .entry))) (λ rs. r ≡ orElse 0 (freeFrom (λ b. placed b rs || not (eqb (getD (now (holder .entry)) (b - 1) 0) 0)) 64 64 last)) ⌝ }
 {
     let mut b = last;
     let mut i = 0u8;
     while i < BLOCKS {
         b = b % BLOCKS + 1;
-        if !is_placed(owner, b) {
+        if !is_placed(nodes, b) {
             if holder_of(holder, b) == 0 {
                 return b;
             }
@@ -36,14 +36,14 @@ pub fn free_block(owner: &[u8; 256], holder: &[u8; 64], last: u8) -> u8
 }
 
 // The first free list after the one given last, 0 if none is free.
-pub fn free_list(owner: &[u8; 256], last: u8) -> u8
-    ensures { λ r. ⌜ OfOwners (now (owner .entry)) (λ rs. r ≡ orElse 0 (freeFrom (λ l. taken l rs) 16 16 last)) ⌝ }
+pub fn free_list(nodes: &[u8; 1280], last: u8) -> u8
+    ensures { λ r. ⌜ OfShown (tablesIn (now (nodes .entry))) (λ rs. r ≡ orElse 0 (freeFrom (λ l. taken l rs) 16 16 last)) ⌝ }
 {
     let mut l = last;
     let mut i = 0u8;
     while i < LISTS {
         l = l % LISTS + 1;
-        if !is_taken(owner, l) {
+        if !is_taken(nodes, l) {
             return l;
         }
         i += 1;

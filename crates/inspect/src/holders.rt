@@ -3,14 +3,14 @@ use disk::record::Record;
 use lists::tables::is_placed;
 use log::entry::LogEntry;
 ghost use mathlib.Core.Path.{_≡_};
-ghost use Rattle.lists.specs.Tables.{OfOwners};
+ghost use Rattle.lists.specs.Tables.{tablesIn, OfShown};
 ghost use Rattle.inspect.specs.Clauses.{holdersRight};
 
 const BLOCKS: usize = LogEntry::BLOCKS as usize;
 
 // Is each block held by no unit, or by an open one while it is on no list?
-pub fn holders_right(rec: Record, owner: &[u8; 256]) -> bool
-    ensures { λ r. ⌜ OfOwners (now (owner .entry)) (λ rs. r ≡ holdersRight rec rs) ⌝ }
+pub fn holders_right(rec: Record, nodes: &[u8; 1280]) -> bool
+    ensures { λ r. ⌜ OfShown (tablesIn (now (nodes .entry))) (λ rs. r ≡ holdersRight rec rs) ⌝ }
 {
     let mut i = 0;
     while i < BLOCKS {
@@ -22,7 +22,7 @@ pub fn holders_right(rec: Record, owner: &[u8; 256]) -> bool
             if !rec.units[h - 1].opened {
                 return false;
             }
-            if is_placed(owner, (i + 1) as u8) {
+            if is_placed(nodes, (i + 1) as u8) {
                 return false;
             }
         }

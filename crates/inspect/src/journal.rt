@@ -7,21 +7,14 @@ ghost use mathlib.Core.Path.{_≡_};
 ghost use mathlib.Core.Bool.{true};
 ghost use Prim.Native.Nat.{_≤_};
 ghost use Rattle.lists.specs.Basic.{all, from};
-ghost use Rattle.lists.specs.Tables.{tables};
+ghost use Rattle.lists.specs.Tables.{tablesIn};
 ghost use Rattle.log.specs.Entry.{legal, raw, member};
 ghost use Rattle.inspect.specs.Clauses.{Overlays, changeIn};
 
 // Unit u's changes in order; one that does not apply is skipped. Did every one apply?
-pub fn enter_journal(
-    next: &mut [u8; 256],
-    prev: &mut [u8; 256],
-    owner: &mut [u8; 256],
-    place: &mut [u16; 256],
-    unit: Unit,
-    u: usize,
-) -> bool
+pub fn enter_journal(nodes: &mut [u8; 1280], unit: Unit, u: usize) -> bool
     requires { ⌜ (unit .len ≤ 15) × (1 ≤ u) × (u ≤ 4) × (all (λ c. legal (raw 0 (member c))) (from (changeIn unit) 0 (unit .len)) ≡ true) ⌝ }
-    ensures { λ r. ⌜ Overlays (tables (now (next .entry)) (now (prev .entry)) (now (owner .entry)) (now (place .entry))) unit u r (tables (now (next .exit)) (now (prev .exit)) (now (owner .exit)) (now (place .exit))) ⌝ }
+    ensures { λ r. ⌜ Overlays (tablesIn (now (nodes .entry))) unit u r (tablesIn (now (nodes .exit))) ⌝ }
 {
     let first = JOURNALS_AT + ((u - 1) * Unit::JOURNAL) as u16;
     let mut every = true;
@@ -31,10 +24,7 @@ pub fn enter_journal(
         let e = journaled.entry;
         let f = fields_of(e);
         if !act(
-            next,
-            prev,
-            owner,
-            place,
+            nodes,
             f.kind,
             f.block,
             f.list,

@@ -5,7 +5,8 @@ use super::journal::enter_journal;
 use super::units::is_open;
 use disk::answer::Refusal;
 use disk::record::Record;
-ghost use Rattle.lists.specs.Tables.{tables};
+ghost use mathlib.Core.Bool.{true, false};
+ghost use Rattle.lists.specs.Tables.{tablesIn};
 ghost use Rattle.disk.specs.Disk.{disk};
 ghost use Rattle.inspect.specs.Inspect.{Looks};
 
@@ -18,33 +19,61 @@ pub enum Looked {
     Seen,
 }
 
+// The view that a look-up names. What the tables held does not matter.
+pub fn look_view(
+    card: &[u8],
+    queue_data: &[u8],
+    journal_data: &[u8],
+    rec: Record,
+    view: usize,
+    nodes: &mut [u8; 1280],
+) -> Looked
+    ensures { λ r. ⌜ Looks true (disk (now (card .entry)) (now (queue_data .entry)) (now (journal_data .entry)) rec) view r (tablesIn (now (nodes .exit))) ⌝ }
+{
+    look(card, queue_data, journal_data, rec, true, view, nodes)
+}
+
+// The view of the stream that a change comes on.
+pub fn look_stream(
+    card: &[u8],
+    queue_data: &[u8],
+    journal_data: &[u8],
+    rec: Record,
+    stream: usize,
+    nodes: &mut [u8; 1280],
+) -> Looked
+    ensures { λ r. ⌜ Looks false (disk (now (card .entry)) (now (queue_data .entry)) (now (journal_data .entry)) rec) stream r (tablesIn (now (nodes .exit))) ⌝ }
+{
+    look(card, queue_data, journal_data, rec, false, stream, nodes)
+}
+
+// The committed state, which is the view of stream 0: never refused by question 4.
+pub fn look_committed(
+    card: &[u8],
+    queue_data: &[u8],
+    journal_data: &[u8],
+    rec: Record,
+    nodes: &mut [u8; 1280],
+) -> Looked
+    ensures { λ r. ⌜ Looks false (disk (now (card .entry)) (now (queue_data .entry)) (now (journal_data .entry)) rec) 0 r (tablesIn (now (nodes .exit))) ⌝ }
+{
+    look(card, queue_data, journal_data, rec, false, 0, nodes)
+}
+
 // View v, as a look-up takes one, or as a stream, which the persistent state is not. What the tables held does not matter.
-pub fn look(
+fn look(
     card: &[u8],
     queue_data: &[u8],
     journal_data: &[u8],
     rec: Record,
     looked: bool,
     v: usize,
-    next: &mut [u8; 256],
-    prev: &mut [u8; 256],
-    owner: &mut [u8; 256],
-    place: &mut [u16; 256],
+    nodes: &mut [u8; 1280],
 ) -> Looked
-    ensures { λ r. ⌜ Looks looked (disk (now (card .entry)) (now (queue_data .entry)) (now (journal_data .entry)) rec) v r (tables (now (next .exit)) (now (prev .exit)) (now (owner .exit)) (now (place .exit))) ⌝ }
+    ensures { λ r. ⌜ Looks looked (disk (now (card .entry)) (now (queue_data .entry)) (now (journal_data .entry)) rec) v r (tablesIn (now (nodes .exit))) ⌝ }
 {
     let persistent = v == PERSISTENT;
-    match examine(
-        card,
-        queue_data,
-        journal_data,
-        rec,
-        persistent,
-        next,
-        prev,
-        owner,
-        place,
-    ) {
+    match examine(card, queue_data, journal_data, rec, persistent, nodes) {
         Examined::WrongLength => {
             return Looked::Refused(Refusal::WrongLength);
         }
@@ -65,6 +94,6 @@ pub fn look(
     if !is_open(rec, v) {
         return Looked::Refused(Refusal::StreamClosed);
     }
-    enter_journal(next, prev, owner, place, rec.units[v - 1], v);
+    enter_journal(nodes, rec.units[v - 1], v);
     Looked::Seen
 }

@@ -5,23 +5,14 @@ use log::feed::feed;
 use log::legal::is_legal;
 use log::location::QUEUE_AT;
 ghost use Prim.Native.Nat.{_*_, _≤_, _<_};
-ghost use Rattle.lists.specs.Tables.{tables};
+ghost use Rattle.lists.specs.Tables.{tablesIn};
 ghost use Rattle.log.specs.Feed.{lent};
 ghost use Rattle.inspect.specs.Clauses.{Replays};
 
 // Is the queue acceptable behind the log? If so the tables show the committed state.
-pub fn enter_queue(
-    next: &mut [u8; 256],
-    prev: &mut [u8; 256],
-    owner: &mut [u8; 256],
-    place: &mut [u16; 256],
-    members: &mut [u8; 64],
-    locations: &mut [u16; 16],
-    rec: Record,
-    run: usize,
-) -> bool
+pub fn enter_queue(nodes: &mut [u8; 1280], members: &mut [u8; 128], rec: Record, run: usize) -> bool
     requires { ⌜ (rec .len ≤ 32) × (rec .head < 32) × (run ≤ 64 * 255) ⌝ }
-    ensures { λ r. ⌜ Replays (lent (now (next .entry)) (now (prev .entry)) (now (owner .entry)) (now (place .entry)) (now (members .entry)) (now (locations .entry))) run rec r (tables (now (next .exit)) (now (prev .exit)) (now (owner .exit)) (now (place .exit))) ⌝ }
+    ensures { λ r. ⌜ Replays (lent (now (nodes .entry)) (now (members .entry))) run rec r (tablesIn (now (nodes .exit))) ⌝ }
 {
     let mut members_in_run = run;
     let mut k = 0;
@@ -33,12 +24,8 @@ pub fn enter_queue(
             return false;
         }
         match feed(
-            next,
-            prev,
-            owner,
-            place,
+            nodes,
             members,
-            locations,
             members_in_run,
             queued.member,
             e,

@@ -11,51 +11,38 @@ use text::put::put_bytes;
 ghost use mathlib.Core.Path.{_≡_};
 ghost use Prim.Native.Nat.{_≤_};
 ghost use lib.ListN.{length};
-ghost use Rattle.lists.specs.Tables.{IsBlock};
+ghost use Rattle.lists.specs.Tables.{tablesIn, IsBlock, OfShown};
 ghost use Rattle.text.specs.Written.{Puts};
 ghost use Rattle.listing.specs.Listing.{total, blockPart, blockLines};
-ghost use Rattle.listing.specs.Shown.{OfContents, sumAt};
+ghost use Rattle.listing.specs.Shown.{sumAt};
 
 const BLOCKS: u8 = LogEntry::BLOCKS;
 
 // The blocks on some list, ascending.
-pub fn put_blocks(
-    out: &mut [u8],
-    at: usize,
-    card: &[u8],
-    owner: &[u8; 256],
-    place: &[u16; 256],
-) -> usize
+pub fn put_blocks(out: &mut [u8], at: usize, card: &[u8], nodes: &[u8; 1280]) -> usize
     ensures { λ r. ⌜ length (now (out .exit)) ≡ length (now (out .entry)) ⌝ }
-    ensures { λ r. ⌜ OfContents (now (owner .entry)) (now (place .entry)) (λ rs.
+    ensures { λ r. ⌜ OfShown (tablesIn (now (nodes .entry))) (λ rs.
         Puts (now (out .entry)) at (blockLines (sumAt (now (card .entry))) rs) (now (out .exit)) r) ⌝ }
 {
     let mut position = at;
     let mut block = 1u8;
     while block <= BLOCKS {
-        position = put_block(out, position, card, owner, place, block);
+        position = put_block(out, position, card, nodes, block);
         block += 1;
     }
     position
 }
 
 // A block's line, where it is on some list.
-fn put_block(
-    out: &mut [u8],
-    at: usize,
-    card: &[u8],
-    owner: &[u8; 256],
-    place: &[u16; 256],
-    block: u8,
-) -> usize
+fn put_block(out: &mut [u8], at: usize, card: &[u8], nodes: &[u8; 1280], block: u8) -> usize
     ensures { λ r. ⌜ length (now (out .exit)) ≡ length (now (out .entry)) ⌝ }
-    ensures { λ r. ⌜ OfContents (now (owner .entry)) (now (place .entry)) (λ rs.
+    ensures { λ r. ⌜ OfShown (tablesIn (now (nodes .entry))) (λ rs.
         IsBlock block → Puts (now (out .entry)) at (blockPart (sumAt (now (card .entry))) rs block) (now (out .exit)) r) ⌝ }
 {
-    if !is_placed(owner, block) {
+    if !is_placed(nodes, block) {
         return at;
     }
-    let sum = sum_at(card, location_of(place, block));
+    let sum = sum_at(card, location_of(nodes, block));
     let mut position = put_bytes(out, at, b"block ");
     position = put_decimal(out, position, block as u64);
     position = put_bytes(out, position, b": ");

@@ -29,22 +29,10 @@ pub fn listing(card: &[u8], out: &mut [u8], at: usize) -> usize
     if !is_listable(card) {
         return put_refusal(out, at, LENGTH);
     }
-    let mut next = [0u8; 256];
-    let mut prev = [0u8; 256];
-    let mut owner = [0u8; 256];
-    let mut place = [0u16; 256];
-    let mut members = [0u8; 64];
-    let mut locations = [0u16; 16];
-    match walk(
-        card,
-        &mut next,
-        &mut prev,
-        &mut owner,
-        &mut place,
-        &mut members,
-        &mut locations,
-    ) {
-        Walked::Sound(_, _) => put_state(out, at, card, &next, &owner, &place),
+    let mut nodes = [0u8; 1280];
+    let mut members = [0u8; 128];
+    match walk(card, &mut nodes, &mut members) {
+        Walked::Sound(_, _) => put_state(out, at, card, &nodes),
         Walked::Fault(_, _) => put_refusal(out, at, LOG),
     }
 }

@@ -11,10 +11,9 @@ ghost use mathlib.Core.List.{[], _∷_};
 ghost use lib.ListN.{length};
 ghost use Rattle.lists.specs.State.{taken};
 ghost use Rattle.lists.specs.Lookup.{blocksOf};
-ghost use Rattle.lists.specs.Tables.{IsList, OfNext};
+ghost use Rattle.lists.specs.Tables.{IsList, tablesIn, OfShown};
 ghost use Rattle.text.specs.Written.{Puts};
 ghost use Rattle.listing.specs.Listing.{numbers, listPart, listLines};
-ghost use Rattle.listing.specs.Shown.{OfLinks};
 
 const LISTS: u8 = LogEntry::LISTS;
 
@@ -22,50 +21,50 @@ const LISTS: u8 = LogEntry::LISTS;
 const BLOCKS: usize = LogEntry::BLOCKS as usize;
 
 // The lists taken, ascending.
-pub fn put_lists(out: &mut [u8], at: usize, next: &[u8; 256], owner: &[u8; 256]) -> usize
+pub fn put_lists(out: &mut [u8], at: usize, nodes: &[u8; 1280]) -> usize
     ensures { λ r. ⌜ length (now (out .exit)) ≡ length (now (out .entry)) ⌝ }
-    ensures { λ r. ⌜ OfLinks (now (next .entry)) (now (owner .entry)) (λ rs. Puts (now (out .entry)) at (listLines rs) (now (out .exit)) r) ⌝ }
+    ensures { λ r. ⌜ OfShown (tablesIn (now (nodes .entry))) (λ rs. Puts (now (out .entry)) at (listLines rs) (now (out .exit)) r) ⌝ }
 {
     let mut position = at;
     let mut list = 1u8;
     while list <= LISTS {
-        position = put_list(out, position, next, owner, list);
+        position = put_list(out, position, nodes, list);
         list += 1;
     }
     position
 }
 
 // A list's line, where it is taken.
-fn put_list(out: &mut [u8], at: usize, next: &[u8; 256], owner: &[u8; 256], list: u8) -> usize
+fn put_list(out: &mut [u8], at: usize, nodes: &[u8; 1280], list: u8) -> usize
     ensures { λ r. ⌜ length (now (out .exit)) ≡ length (now (out .entry)) ⌝ }
-    ensures { λ r. ⌜ OfLinks (now (next .entry)) (now (owner .entry)) (λ rs.
+    ensures { λ r. ⌜ OfShown (tablesIn (now (nodes .entry))) (λ rs.
         IsList list → Puts (now (out .entry)) at (listPart rs list) (now (out .exit)) r) ⌝ }
 {
-    if !is_taken(owner, list) {
+    if !is_taken(nodes, list) {
         return at;
     }
     let mut position = put_bytes(out, at, b"list ");
     position = put_decimal(out, position, list as u64);
     position = put_byte(out, position, b':');
-    position = put_numbers(out, position, next, list);
+    position = put_numbers(out, position, nodes, list);
     put_byte(out, position, b'\n')
 }
 
 // The blocks of a list that is taken, in order, a blank before each.
-fn put_numbers(out: &mut [u8], at: usize, next: &[u8; 256], list: u8) -> usize
+fn put_numbers(out: &mut [u8], at: usize, nodes: &[u8; 1280], list: u8) -> usize
     ensures { λ r. ⌜ length (now (out .exit)) ≡ length (now (out .entry)) ⌝ }
-    ensures { λ r. ⌜ OfNext (now (next .entry)) (λ rs.
+    ensures { λ r. ⌜ OfShown (tablesIn (now (nodes .entry))) (λ rs.
         taken list rs ≡ true → Puts (now (out .entry)) at (numbers (blocksOf rs list)) (now (out .exit)) r) ⌝ }
 {
     let mut position = at;
-    let mut block = block_after(next, list, 0);
+    let mut block = block_after(nodes, list, 0);
     let mut i = 0usize;
     while i < BLOCKS {
         if block == 0 {
             return position;
         }
         position = put_number(out, position, block);
-        block = block_after(next, list, block);
+        block = block_after(nodes, list, block);
         i += 1;
     }
     position

@@ -6,11 +6,9 @@ use text::decimal::put_decimal;
 use text::put::put_byte;
 use text::put::put_bytes;
 ghost use mathlib.Core.Path.{_≡_};
-ghost use mathlib.Core.List.{List, _++_};
-ghost use Prim.Native.Nat.{ℕ};
+ghost use mathlib.Core.List.{_++_};
 ghost use lib.ListN.{length};
-ghost use Rattle.lists.specs.State.{Row};
-ghost use Rattle.lists.specs.Tables.{Shows, tables};
+ghost use Rattle.lists.specs.Tables.{tablesIn, OfShown};
 ghost use Rattle.text.specs.Written.{Puts};
 ghost use Rattle.listing.specs.Listing.{refusal, headLine, listLines, blockLines};
 ghost use Rattle.listing.specs.Shown.{sumAt};
@@ -24,19 +22,12 @@ pub fn put_refusal(out: &mut [u8], at: usize, number: u64) -> usize
 }
 
 // The lines of a card whose log is acceptable; the tables show its state.
-pub fn put_state(
-    out: &mut [u8],
-    at: usize,
-    card: &[u8],
-    next: &[u8; 256],
-    owner: &[u8; 256],
-    place: &[u16; 256],
-) -> usize
+pub fn put_state(out: &mut [u8], at: usize, card: &[u8], nodes: &[u8; 1280]) -> usize
     ensures { λ r. ⌜ length (now (out .exit)) ≡ length (now (out .entry)) ⌝ }
-    ensures { λ r. ⌜ ((pv : List ℕ) (rs : List (Row ℕ)) → Shows (tables (now (next .entry)) pv (now (owner .entry)) (now (place .entry))) rs
-        → Puts (now (out .entry)) at (headLine (now (card .entry)) ++ listLines rs ++ blockLines (sumAt (now (card .entry))) rs) (now (out .exit)) r) ⌝ }
+    ensures { λ r. ⌜ OfShown (tablesIn (now (nodes .entry))) (λ rs.
+        Puts (now (out .entry)) at (headLine (now (card .entry)) ++ listLines rs ++ blockLines (sumAt (now (card .entry))) rs) (now (out .exit)) r) ⌝ }
 {
     let mut position = put_head(out, at, card);
-    position = put_lists(out, position, next, owner);
-    put_blocks(out, position, card, owner, place)
+    position = put_lists(out, position, nodes);
+    put_blocks(out, position, card, nodes)
 }

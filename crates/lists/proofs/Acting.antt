@@ -1,13 +1,11 @@
 -- A change that a function refuses, and one that it makes.
-use mathlib.Core.Path.{_≡_, refl, sym, ap}
+use mathlib.Core.Path.{_≡_, refl, sym}
 use mathlib.Core.Logic.{_≢_}
 use mathlib.Core.Bool.{Bool, true, false}
 use mathlib.Core.Option.{Option, none}
-use mathlib.Core.List.{List}
 use Prim.Native.Nat.{ℕ}
-use lib.ListN.{set}
-use Rattle.lists.specs.Change.{Change, putFirst, putAfter, delList}
-use Rattle.lists.specs.Tables.{Tables, tables, ownerOf, listNode, insertNode, placeAt, cutList, putFits, putDone, fits, done, Did, DidSome, ofKind}
+use Rattle.lists.specs.Change.{Change, putFirst, putAfter}
+use Rattle.lists.specs.Tables.{Tables, listNode, fits, done, Did, DidSome, ofKind}
 use Rattle.lists.proofs.Basic.{eqb-false}
 
 pub did-not : (c : Change ℕ) (t : Tables) → fits c t ≡ false → Did c t false t
@@ -15,16 +13,6 @@ did-not c t h = record { answer = sym h; left = rw h }
 
 pub did-so : (c : Change ℕ) (t u : Tables) → fits c t ≡ true → u ≡ done c t → Did c t true u
 did-so c t u h e = record { answer = sym h; left = rw h e }
-
-pub did-put : (b l x : ℕ) (t : Tables) (nx pv ow : List ℕ) → putFits b l x t ≡ true → tables nx pv ow (t .place) ≡ insertNode x b l t
-    → Did (putAfter b l x) t true (tables nx pv ow (set (t .place) b 0))
-unfolding fits done putDone placeAt
-did-put b l x t nx pv ow h e = did-so (putAfter b l x) t (tables nx pv ow (set (t .place) b 0)) h (ap (placeAt b 0) e)
-
-pub did-delete : (l : ℕ) (t : Tables) (nx pv ow : List ℕ) → ownerOf t (listNode l) ≢ 0 → tables nx pv ow (t .place) ≡ cutList (listNode l) t
-    → Did (delList l) t true (tables nx pv ow (t .place))
-unfolding fits done
-did-delete l t nx pv ow h e = did-so (delList l) t (tables nx pv ow (t .place)) (rw (eqb-false (ownerOf t (listNode l)) 0 h)) e
 
 -- no kind, no change
 pub no-kind : (k b l p d : ℕ) → k ≢ 1 → k ≢ 2 → k ≢ 3 → k ≢ 4 → k ≢ 5 → k ≢ 6 → ofKind k b l p d ≡ none

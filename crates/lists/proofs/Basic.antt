@@ -222,6 +222,12 @@ module _ {A : Type 0} where
   from-length f k zero = refl
   from-length f k (suc n) = ap suc (from-length f (suc k) n)
 
+  pub from-get : (f : ℕ → A) (k n i : ℕ) (d : A) → i < n → getD (from f k n) i d ≡ f (k + i)
+  unfolding from
+  from-get f k zero i d h = absurd (omega arith)
+  from-get f k (suc n) zero d h = ap f (sym (add-zero k))
+  from-get f k (suc n) (suc i) d h = from-get f (suc k) n i d (omega arith) ∙ ap f (suc-add k i ∙ sym (add-suc k i))
+
   -- two that agree on the numbers from i on and from j on
   pub from-shift : (f g : ℕ → A) (i j n : ℕ) → ((k : ℕ) → k < n → f (i + k) ≡ g (j + k)) → from f i n ≡ from g j n
   unfolding from

@@ -11,7 +11,7 @@ use lib.Dec.{eqb}
 use lib.ListN.{length, getD}
 use Rattle.lists.specs.State.{Block, Row, onBlocksOf, onRow, taken, placed, onList}
 use Rattle.lists.specs.Lookup.{contentIn, contentOf, blocksOf, nextIn, nextAfter, listNums, takenAfter}
-use Rattle.lists.specs.Tables.{Tables, Shows, Apart, Linked, HasBlocks, HasLists, IsBlock, IsList, blockNodes, nodes, chain, ownerOf, nextOf, listNode, blockOr0, listWithin, behindNode, behindList, SaysTaken, SaysPlaced, SaysOn, SaysLocation, SaysBlockAfter, SaysListAfter, OfNext, OfOwners, OfPlaces}
+use Rattle.lists.specs.Tables.{Tables, Shows, Apart, Linked, HasBlocks, HasLists, IsBlock, IsList, blockNodes, nodes, chain, ownerOf, nextOf, listNode, blockOr0, listWithin, behindNode, behindList, SaysTaken, SaysPlaced, SaysOn, SaysLocation, SaysBlockAfter, SaysListAfter, OfShown}
 use Rattle.lists.proofs.Basic.{not-not, either, or-both, or-cases, eqb-true, eqb-false, eqb-neq, eq-true, le-true, lt-true, gt-false, ge-false}
 use Rattle.lists.proofs.Chain.{away-right, apart-left, apart-right, last, linked-tail}
 use Rattle.lists.proofs.Nodes.{away-taken, onList-taken}
@@ -191,21 +191,21 @@ list-after t rs s l h = ⊎-elim
     (either (eqb l 0))
 
 -- The look-ups' answers, of the lists that tables show.
-pub taken-said : {ow : List ℕ} {l : ℕ} {r : Bool} → SaysTaken ow l r → OfOwners ow (λ rs. IsList l → r ≡ taken l rs)
-taken-said {ow} {l} {r} w nx pv pl rs s g = w .answer ∙ ap not (taken-free _ rs s l g) ∙ not-not (taken l rs)
+module _ {t : Tables} where
+  pub taken-said : {l : ℕ} {r : Bool} → SaysTaken t l r → OfShown t (λ rs. IsList l → r ≡ taken l rs)
+  taken-said {l} {r} w rs s g = w .answer ∙ ap not (taken-free t rs s l g) ∙ not-not (taken l rs)
 
-pub placed-said : {ow : List ℕ} {b : ℕ} {r : Bool} → SaysPlaced ow b r → OfOwners ow (λ rs. IsBlock b → r ≡ placed b rs)
-placed-said {ow} {b} {r} w nx pv pl rs s g = w .answer ∙ ap not (placed-free _ rs s b g) ∙ not-not (placed b rs)
+  pub placed-said : {b : ℕ} {r : Bool} → SaysPlaced t b r → OfShown t (λ rs. IsBlock b → r ≡ placed b rs)
+  placed-said {b} {r} w rs s g = w .answer ∙ ap not (placed-free t rs s b g) ∙ not-not (placed b rs)
 
-pub on-said : {ow : List ℕ} {l b : ℕ} {r : Bool} → SaysOn ow l b r → OfOwners ow (λ rs. IsList l → IsBlock b → r ≡ onList l b rs)
-on-said {ow} {l} {b} {r} w nx pv pl rs s g h = w .answer ∙ on-own _ rs s l b g h
+  pub on-said : {l b : ℕ} {r : Bool} → SaysOn t l b r → OfShown t (λ rs. IsList l → IsBlock b → r ≡ onList l b rs)
+  on-said {l} {b} {r} w rs s g h = w .answer ∙ on-own t rs s l b g h
 
-pub location-said : {pl : List ℕ} {b r : ℕ} → SaysLocation pl b r → OfPlaces pl (λ rs. placed b rs ≡ true → contentOf rs b ≡ some r)
-location-said {pl} {b} {r} w nx pv ow rs s h = content-place ow pl b rs (s .has) h ∙ ap some (sym (w .answer))
+  pub location-said : {b r : ℕ} → SaysLocation t b r → OfShown t (λ rs. placed b rs ≡ true → contentOf rs b ≡ some r)
+  location-said {b} {r} w rs s h = content-place (t .owner) (t .place) b rs (s .has) h ∙ ap some (sym (w .answer))
 
-pub block-said : {nx : List ℕ} {l p r : ℕ} → SaysBlockAfter nx l p r
-    → OfNext nx (λ rs. taken l rs ≡ true → eqb p 0 || onList l p rs ≡ true → r ≡ nextAfter rs l p)
-block-said {nx} {l} {p} {r} w pv ow pl rs s h k = w .answer ∙ block-after _ rs s l p h k
+  pub block-said : {l p r : ℕ} → SaysBlockAfter t l p r → OfShown t (λ rs. taken l rs ≡ true → eqb p 0 || onList l p rs ≡ true → r ≡ nextAfter rs l p)
+  block-said {l} {p} {r} w rs s h k = w .answer ∙ block-after t rs s l p h k
 
-pub list-said : {nx : List ℕ} {l r : ℕ} → SaysListAfter nx l r → OfNext nx (λ rs. eqb l 0 || taken l rs ≡ true → r ≡ takenAfter rs l)
-list-said {nx} {l} {r} w pv ow pl rs s h = w .answer ∙ list-after _ rs s l h
+  pub list-said : {l r : ℕ} → SaysListAfter t l r → OfShown t (λ rs. eqb l 0 || taken l rs ≡ true → r ≡ takenAfter rs l)
+  list-said {l} {r} w rs s h = w .answer ∙ list-after t rs s l h

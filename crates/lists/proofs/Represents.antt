@@ -248,12 +248,12 @@ module _ (f : State ℕ → Option (State ℕ)) where
   represents-then (some s) q u v r h e k = k s (h .1)
 
 -- The state with no list.
-pub shows-emptied : (t : Tables) → Sized t → Shows (emptied t) []
+pub shows-emptied : Shows emptied []
 unfolding emptied
-shows-emptied t s = record {
-  sized = record { next = rw length-set (s .next); prev = rw length-set (s .prev); owner = refl; place = s .place };
+shows-emptied = record {
+  sized = record { next = refl; prev = refl; owner = refl; place = refl };
   apart = (((λ e. omega arith), tt), (tt, tt));
-  linked = (getD-set-same (t .next) 0 255 0 (rw (s .next) (omega arith)), getD-set-same (t .prev) 255 0 0 (rw (s .prev) (omega arith)), tt);
+  linked = (refl, refl, tt);
   has = tt;
   free = λ m h. getD-same 256 m 0;
 }

@@ -1,4 +1,4 @@
--- A state's lists in four tables of 256 numbers: what a change does to them, and which lists they show.
+-- A state's lists in four tables of 256 numbers, held in one array of bytes: what a change does to them, and which lists they show.
 --
 -- Nodes: block b is node b, list l is node 64 + l; node 0 stands before all others and node 255 behind all.
 -- One chain holds everything: each list taken, in the order of their taking, followed by its blocks in order. So a list's node is the predecessor of
@@ -8,9 +8,10 @@ use mathlib.Core.Logic.{_≢_}
 use mathlib.Core.Bool.{Bool, true, false, _&&_, not, cond}
 use mathlib.Core.Option.{Option, none, some}
 use mathlib.Core.List.{List, [], _∷_, _++_}
-use Prim.Native.Nat.{ℕ, zero, suc, _+_, _-_, _%_, _≤_}
+use Prim.Native.Nat.{ℕ, zero, suc, _+_, _-_, _*_, _%_, _≤_}
 use lib.Dec.{eqb, leb, ltb}
 use lib.ListN.{length, getD, set, replicate}
+use Rattle.lists.specs.Basic.{from}
 use Rattle.lists.specs.Change.{Change, takeList, putFirst, putAfter, write, delBlock, delList}
 use Rattle.lists.specs.State.{Block, Row, State}
 
@@ -25,6 +26,16 @@ pub record Tables : Type 0 where
 abbrev pub tables : List ℕ → List ℕ → List ℕ → List ℕ → Tables
 tables a b c d = record { next = a; prev = b; owner = c; place = d }
 
+-- In 1,280 bytes, node by node: 4n is the next of node n, 4n + 1 its prev, 4n + 2 its owner, 4n + 3 its place's low byte, and 1024 + n the high one.
+unfoldable pub column : ℕ → List ℕ → List ℕ
+column f bs = from (λ n. getD bs (4 * n + f) 0) 0 256
+
+unfoldable pub placesIn : List ℕ → List ℕ
+placesIn bs = from (λ n. getD bs (4 * n + 3) 0 + 256 * getD bs (1024 + n) 0) 0 256
+
+unfoldable pub tablesIn : List ℕ → Tables
+tablesIn bs = tables (column 0 bs) (column 1 bs) (column 2 bs) (placesIn bs)
+
 abbrev pub nextOf : Tables → ℕ → ℕ
 nextOf t n = getD (t .next) n 0
 
@@ -34,16 +45,35 @@ prevOf t n = getD (t .prev) n 0
 abbrev pub ownerOf : Tables → ℕ → ℕ
 ownerOf t n = getD (t .owner) n 0
 
+abbrev pub placeOf : Tables → ℕ → ℕ
+placeOf t n = getD (t .place) n 0
+
 -- 64 + l for each list; a node of the tables for every other number
 abbrev pub listNode : ℕ → ℕ
 listNode l = 64 + l % 64
 
 -- What a change does.
 
+-- one number in one of the tables
+abbrev pub withNext : ℕ → ℕ → Tables → Tables
+withNext n y t = tables (set (t .next) n y) (t .prev) (t .owner) (t .place)
+
+abbrev pub withPrev : ℕ → ℕ → Tables → Tables
+withPrev n x t = tables (t .next) (set (t .prev) n x) (t .owner) (t .place)
+
+abbrev pub withOwner : ℕ → ℕ → Tables → Tables
+withOwner n l t = tables (t .next) (t .prev) (set (t .owner) n l) (t .place)
+
+abbrev pub withPlace : ℕ → ℕ → Tables → Tables
+withPlace n d t = tables (t .next) (t .prev) (t .owner) (set (t .place) n d)
+
+-- node y follows node x
+abbrev pub linkNodes : ℕ → ℕ → Tables → Tables
+linkNodes x y t = withPrev y x (withNext x y t)
+
 -- node n of list l goes in behind node x
 unfoldable pub insertNode : ℕ → ℕ → ℕ → Tables → Tables
-insertNode x n l t =
-    tables (set (set (t .next) x n) n (nextOf t x)) (set (set (t .prev) n x) (nextOf t x) n) (set (t .owner) n l) (t .place)
+insertNode x n l t = withOwner n l (linkNodes n (nextOf t x) (linkNodes x n t))
 
 -- the nodes between x and y go, o being the owners then
 unfoldable pub cutBetween : ℕ → ℕ → List ℕ → Tables → Tables
@@ -51,7 +81,7 @@ cutBetween x y o t = tables (set (t .next) x y) (set (t .prev) y x) o (t .place)
 
 -- the content of block b stands at location d
 unfoldable pub placeAt : ℕ → ℕ → Tables → Tables
-placeAt b d t = tables (t .next) (t .prev) (t .owner) (set (t .place) b d)
+placeAt b d t = withPlace b d t
 
 -- how often l stands in a list
 unfoldable pub times : ℕ → List ℕ → ℕ
@@ -70,6 +100,11 @@ freeUpTo (suc k) nx l n o = elim (eqb (getD o n 0) l) [ true ↦ freeUpTo k nx l
 -- as many as there are of list l
 unfoldable pub freeFrom : List ℕ → ℕ → ℕ → List ℕ → Freed
 freeFrom nx l n o = freeUpTo (times l o) nx l n o
+
+-- a function that frees them: the node behind them is its answer, and no other table changes
+pub record Frees (l n : ℕ) (t : Tables) (r : ℕ) (u : Tables) : Type 0 where
+  pub answer : r ≡ freeFrom (t .next) l n (t .owner) .behind
+  pub left : u ≡ tables (t .next) (t .prev) (freeFrom (t .next) l n (t .owner) .owners) (t .place)
 
 -- the tables without the list whose node is n
 unfoldable pub cutList : ℕ → Tables → Tables
@@ -199,12 +234,8 @@ Represents none r u = r ≡ false
 Represents (some s) r u = (r ≡ true) × Shows u (s .lists)
 
 -- the tables of the state with no list: every node is free, and the end follows the start
-unfoldable pub emptied : Tables → Tables
-emptied t = tables (set (t .next) 0 255) (set (t .prev) 255 0) (replicate 256 0) (t .place)
-
-pub record Cleared (t u : Tables) : Type 0 where
-  pub left : u ≡ emptied t
-  pub shows : Shows u []
+unfoldable pub emptied : Tables
+emptied = linkNodes 0 255 (tables (replicate 256 0) (replicate 256 0) (replicate 256 0) (replicate 256 0))
 
 -- Looking up.
 
@@ -227,30 +258,24 @@ abbrev pub behindList : ℕ → ℕ
 behindList l = cond (eqb l 0) 0 (listNode l)
 
 -- What the look-ups answer, whatever stands in the tables; what that says of the lists that tables show are laws (`Lookup` in proofs).
-pub record SaysTaken (ow : List ℕ) (l : ℕ) (r : Bool) : Type 0 where
-  pub answer : r ≡ not (eqb (getD ow (listNode l) 0) 0)
+pub record SaysTaken (t : Tables) (l : ℕ) (r : Bool) : Type 0 where
+  pub answer : r ≡ not (eqb (ownerOf t (listNode l)) 0)
 
-pub record SaysPlaced (ow : List ℕ) (b : ℕ) (r : Bool) : Type 0 where
-  pub answer : r ≡ not (eqb (getD ow b 0) 0)
+pub record SaysPlaced (t : Tables) (b : ℕ) (r : Bool) : Type 0 where
+  pub answer : r ≡ not (eqb (ownerOf t b) 0)
 
-pub record SaysOn (ow : List ℕ) (l b : ℕ) (r : Bool) : Type 0 where
-  pub answer : r ≡ eqb (getD ow b 0) l
+pub record SaysOn (t : Tables) (l b : ℕ) (r : Bool) : Type 0 where
+  pub answer : r ≡ eqb (ownerOf t b) l
 
-pub record SaysLocation (pl : List ℕ) (b r : ℕ) : Type 0 where
-  pub answer : r ≡ getD pl b 0
+pub record SaysLocation (t : Tables) (b r : ℕ) : Type 0 where
+  pub answer : r ≡ placeOf t b
 
-pub record SaysBlockAfter (nx : List ℕ) (l p r : ℕ) : Type 0 where
-  pub answer : r ≡ blockOr0 (getD nx (behindNode l p) 0)
+pub record SaysBlockAfter (t : Tables) (l p r : ℕ) : Type 0 where
+  pub answer : r ≡ blockOr0 (nextOf t (behindNode l p))
 
-pub record SaysListAfter (nx : List ℕ) (l r : ℕ) : Type 0 where
-  pub answer : r ≡ listWithin 256 nx (behindList l)
+pub record SaysListAfter (t : Tables) (l r : ℕ) : Type 0 where
+  pub answer : r ≡ listWithin 256 (t .next) (behindList l)
 
--- Of one table alone: what holds of all lists that tables with it show.
-abbrev pub OfNext : List ℕ → (List (Row ℕ) → Type 0) → Type 0
-OfNext nx P = (pv ow pl : List ℕ) (rs : List (Row ℕ)) → Shows (tables nx pv ow pl) rs → P rs
-
-abbrev pub OfOwners : List ℕ → (List (Row ℕ) → Type 0) → Type 0
-OfOwners ow P = (nx pv pl : List ℕ) (rs : List (Row ℕ)) → Shows (tables nx pv ow pl) rs → P rs
-
-abbrev pub OfPlaces : List ℕ → (List (Row ℕ) → Type 0) → Type 0
-OfPlaces pl P = (nx pv ow : List ℕ) (rs : List (Row ℕ)) → Shows (tables nx pv ow pl) rs → P rs
+-- what holds of all lists that tables show
+abbrev pub OfShown : Tables → (List (Row ℕ) → Type 0) → Type 0
+OfShown t P = (rs : List (Row ℕ)) → Shows t rs → P rs

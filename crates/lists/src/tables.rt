@@ -1,18 +1,18 @@
-// A state's lists as one doubly linked chain in lent tables, and the location of each block's content. No content is copied.
+// A state's lists as one doubly linked chain in a lent array, and the location of each block's content. No content is copied.
 //
 // Nodes: block b is node b, list l is node 64 + l; START stands before all nodes and END behind all. The chain holds each list taken, in the order
 // of their taking, followed by its blocks in order. So a put is an insertion behind a node, first or not, a removal needs no search, and no end is
-// a special case. `owner` says which list a node is of, 0 for a free one.
+// a special case. A node's owner is the list that it is of, 0 for a free one.
 //
-// Every byte is a node of the tables, so no function asks anything of its numbers. What is promised of a state asks that they are in range.
+// The array holds node by node four bytes, next, prev, owner and the low byte of the place, and behind all nodes the high bytes of the places. Every
+// byte is the number of a node, so no function asks anything of its numbers. What is promised of a state asks that they are in range.
 use crate::kind;
 use crate::limits::BLOCKS;
 ghost use mathlib.Core.Path.{_≡_};
-ghost use mathlib.Core.List.{List};
-ghost use Prim.Native.Nat.{ℕ, _<_, _≤_};
-ghost use lib.ListN.{getD, set};
+ghost use Prim.Native.Nat.{_+_, _*_, _≤_};
+ghost use lib.ListN.{length};
 ghost use Rattle.lists.specs.Change.{takeList, putAfter, write, delBlock, delList};
-ghost use Rattle.lists.specs.Tables.{tables, listNode, insertNode, freeFrom, blockOr0, listWithin, Sized, Cleared, Did, DidSome, ofKind, SaysTaken, SaysPlaced, SaysOn, SaysLocation, SaysBlockAfter, SaysListAfter};
+ghost use Rattle.lists.specs.Tables.{tablesIn, nextOf, prevOf, ownerOf, placeOf, listNode, withNext, withPrev, withOwner, withPlace, linkNodes, insertNode, Frees, blockOr0, listWithin, emptied, Did, DidSome, ofKind, SaysTaken, SaysPlaced, SaysOn, SaysLocation, SaysBlockAfter, SaysListAfter};
 
 const START: u8 = 0;
 
@@ -24,11 +24,82 @@ const LIST_NODES: u8 = 64;
 // The location of a fresh block's content.
 const BLANK: u16 = 0;
 
-// A node as an index.
-fn wide(x: u8) -> usize
-    ensures { λ r. ⌜ (r ≡ x) × (r < 256) ⌝ }
+// Where a node's bytes stand: from NODE * x on, and the high byte of its place at HIGH + x.
+const NODE: usize = 4;
+
+const PREV: usize = 1;
+
+const OWNER: usize = 2;
+
+const PLACE: usize = 3;
+
+const HIGH: usize = 1024;
+
+// Nothing is done, and the compiler drops the copy: how long an array is the proof learns of a value, not of a reference.
+fn sized(nodes: [u8; 1280])
+    ensures { λ r. ⌜ length nodes ≡ 1280 ⌝ }
+{}
+
+fn next_of(nodes: &[u8; 1280], x: u8) -> u8
+    ensures { λ r. ⌜ r ≡ nextOf (tablesIn (now (nodes .entry))) x ⌝ }
 {
-    x as usize
+    nodes[NODE * x as usize]
+}
+
+fn prev_of(nodes: &[u8; 1280], x: u8) -> u8
+    ensures { λ r. ⌜ r ≡ prevOf (tablesIn (now (nodes .entry))) x ⌝ }
+{
+    nodes[NODE * x as usize + PREV]
+}
+
+fn owner_of(nodes: &[u8; 1280], x: u8) -> u8
+    ensures { λ r. ⌜ r ≡ ownerOf (tablesIn (now (nodes .entry))) x ⌝ }
+{
+    nodes[NODE * x as usize + OWNER]
+}
+
+// A number of its low and its high byte.
+pub fn of_bytes(low: u8, high: u8) -> u16
+    ensures { λ r. ⌜ r ≡ low + 256 * high ⌝ }
+{
+    low as u16 + 256 * high as u16
+}
+
+fn place_of(nodes: &[u8; 1280], x: u8) -> u16
+    ensures { λ r. ⌜ r ≡ placeOf (tablesIn (now (nodes .entry))) x ⌝ }
+{
+    let low = nodes[NODE * x as usize + PLACE];
+    let high = nodes[HIGH + x as usize];
+    of_bytes(low, high)
+}
+
+fn set_next(nodes: &mut [u8; 1280], x: u8, y: u8)
+    ensures { λ r. ⌜ tablesIn (now (nodes .exit)) ≡ withNext x y (tablesIn (now (nodes .entry))) ⌝ }
+{
+    sized(*nodes);
+    nodes[NODE * x as usize] = y;
+}
+
+fn set_prev(nodes: &mut [u8; 1280], x: u8, y: u8)
+    ensures { λ r. ⌜ tablesIn (now (nodes .exit)) ≡ withPrev x y (tablesIn (now (nodes .entry))) ⌝ }
+{
+    sized(*nodes);
+    nodes[NODE * x as usize + PREV] = y;
+}
+
+fn set_owner(nodes: &mut [u8; 1280], x: u8, list: u8)
+    ensures { λ r. ⌜ tablesIn (now (nodes .exit)) ≡ withOwner x list (tablesIn (now (nodes .entry))) ⌝ }
+{
+    sized(*nodes);
+    nodes[NODE * x as usize + OWNER] = list;
+}
+
+fn set_place(nodes: &mut [u8; 1280], x: u8, location: u16)
+    ensures { λ r. ⌜ tablesIn (now (nodes .exit)) ≡ withPlace x location (tablesIn (now (nodes .entry))) ⌝ }
+{
+    sized(*nodes);
+    nodes[NODE * x as usize + PLACE] = (location % 256) as u8;
+    nodes[HIGH + x as usize] = (location / 256) as u8;
 }
 
 // The remainder keeps it a node whatever the number is.
@@ -39,240 +110,190 @@ fn list_node(list: u8) -> u8
 }
 
 // Node y follows node x.
-fn link(next: &mut [u8; 256], prev: &mut [u8; 256], x: u8, y: u8)
-    ensures { λ r. ⌜ (now (next .exit) ≡ set (now (next .entry)) x y) × (now (prev .exit) ≡ set (now (prev .entry)) y x) ⌝ }
+fn link(nodes: &mut [u8; 1280], x: u8, y: u8)
+    ensures { λ r. ⌜ tablesIn (now (nodes .exit)) ≡ linkNodes x y (tablesIn (now (nodes .entry))) ⌝ }
 {
-    next[x as usize] = y;
-    prev[y as usize] = x;
+    set_next(nodes, x, y);
+    set_prev(nodes, y, x);
 }
 
-// Nothing is done, and the compiler drops the copies: how long a table is the proof learns of a value, not of a reference.
-fn sized(next: [u8; 256], prev: [u8; 256], owner: [u8; 256], place: [u16; 256])
-    ensures { λ r. ⌜ Sized (tables next prev owner place) ⌝ }
-{}
-
-// The tables of the state with no list: every node is free, and the end follows the start. What else they held does not matter, and stays.
-pub fn clear(
-    next: &mut [u8; 256],
-    prev: &mut [u8; 256],
-    owner: &mut [u8; 256],
-    place: &mut [u16; 256],
-)
-    ensures { λ r. ⌜ Cleared (tables (now (next .entry)) (now (prev .entry)) (now (owner .entry)) (now (place .entry))) (tables (now (next .exit)) (now (prev .exit)) (now (owner .exit)) (now (place .exit))) ⌝ }
+// The tables of the state with no list: every node is free, and the end follows the start. What they held does not matter.
+pub fn clear(nodes: &mut [u8; 1280])
+    ensures { λ r. ⌜ tablesIn (now (nodes .exit)) ≡ emptied ⌝ }
 {
-    sized(*next, *prev, *owner, *place);
-    *owner = [0u8; 256];
-    link(next, prev, START, END);
+    *nodes = [0u8; 1280];
+    link(nodes, START, END);
 }
 
 // Node n of a list goes in behind node x.
-fn insert(next: &mut [u8; 256], prev: &mut [u8; 256], owner: &mut [u8; 256], x: u8, n: u8, list: u8)
-    ensures { λ r. ⌜ ((pl : List ℕ) → tables (now (next .exit)) (now (prev .exit)) (now (owner .exit)) pl
-        ≡ insertNode x n list (tables (now (next .entry)) (now (prev .entry)) (now (owner .entry)) pl)) ⌝ }
+fn insert(nodes: &mut [u8; 1280], x: u8, n: u8, list: u8)
+    ensures { λ r. ⌜ tablesIn (now (nodes .exit)) ≡ insertNode x n list (tablesIn (now (nodes .entry))) ⌝ }
 {
-    let y = next[x as usize];
-    link(next, prev, x, n);
-    link(next, prev, n, y);
-    owner[n as usize] = list;
+    let y = next_of(nodes, x);
+    link(nodes, x, n);
+    link(nodes, n, y);
+    set_owner(nodes, n, list);
 }
 
 // The list's node goes behind the last one.
-fn take(next: &mut [u8; 256], prev: &mut [u8; 256], owner: &mut [u8; 256], list: u8) -> bool
-    ensures { λ r. ⌜ ((pl : List ℕ) → Did (takeList list)
-        (tables (now (next .entry)) (now (prev .entry)) (now (owner .entry)) pl)
-        r
-        (tables (now (next .exit)) (now (prev .exit)) (now (owner .exit)) pl)) ⌝ }
+fn take(nodes: &mut [u8; 1280], list: u8) -> bool
+    ensures { λ r. ⌜ Did (takeList list) (tablesIn (now (nodes .entry))) r (tablesIn (now (nodes .exit))) ⌝ }
 {
     let n = list_node(list);
-    if owner[n as usize] != 0 {
+    if owner_of(nodes, n) != 0 {
         return false;
     }
-    let last = prev[END as usize];
-    insert(next, prev, owner, last, n, list);
+    let last = prev_of(nodes, END);
+    insert(nodes, last, n, list);
     true
 }
 
 // The block goes behind node x, which is to be a node of the list: its own, or a block's.
-fn put(
-    next: &mut [u8; 256],
-    prev: &mut [u8; 256],
-    owner: &mut [u8; 256],
-    place: &mut [u16; 256],
-    block: u8,
-    list: u8,
-    x: u8,
-) -> bool
-    ensures { λ r. ⌜ Did (putAfter block list x)
-        (tables (now (next .entry)) (now (prev .entry)) (now (owner .entry)) (now (place .entry)))
-        r
-        (tables (now (next .exit)) (now (prev .exit)) (now (owner .exit)) (now (place .exit))) ⌝ }
+fn put(nodes: &mut [u8; 1280], block: u8, list: u8, x: u8) -> bool
+    ensures { λ r. ⌜ Did (putAfter block list x) (tablesIn (now (nodes .entry))) r (tablesIn (now (nodes .exit))) ⌝ }
 {
-    let b = block as usize;
-    if owner[b] != 0 {
+    if owner_of(nodes, block) != 0 {
         return false;
     }
-    if owner[x as usize] != list {
+    if owner_of(nodes, x) != list {
         return false;
     }
-    insert(next, prev, owner, x, block, list);
-    place[b] = BLANK;
+    insert(nodes, x, block, list);
+    set_place(nodes, block, BLANK);
     true
 }
 
-fn write_block(owner: &[u8; 256], place: &mut [u16; 256], block: u8, location: u16) -> bool
-    ensures { λ r. ⌜ ((nx pv : List ℕ) → Did (write block location)
-        (tables nx pv (now (owner .entry)) (now (place .entry)))
-        r
-        (tables nx pv (now (owner .entry)) (now (place .exit)))) ⌝ }
+fn write_block(nodes: &mut [u8; 1280], block: u8, location: u16) -> bool
+    ensures { λ r. ⌜ Did (write block location) (tablesIn (now (nodes .entry))) r (tablesIn (now (nodes .exit))) ⌝ }
 {
-    let b = block as usize;
-    if owner[b] == 0 {
+    if owner_of(nodes, block) == 0 {
         return false;
     }
-    place[b] = location;
+    set_place(nodes, block, location);
     true
 }
 
-fn delete_block(
-    next: &mut [u8; 256],
-    prev: &mut [u8; 256],
-    owner: &mut [u8; 256],
-    block: u8,
-) -> bool
-    ensures { λ r. ⌜ ((pl : List ℕ) → Did (delBlock block)
-        (tables (now (next .entry)) (now (prev .entry)) (now (owner .entry)) pl)
-        r
-        (tables (now (next .exit)) (now (prev .exit)) (now (owner .exit)) pl)) ⌝ }
+fn delete_block(nodes: &mut [u8; 1280], block: u8) -> bool
+    ensures { λ r. ⌜ Did (delBlock block) (tablesIn (now (nodes .entry))) r (tablesIn (now (nodes .exit))) ⌝ }
 {
-    let b = block as usize;
-    if owner[b] == 0 {
+    if owner_of(nodes, block) == 0 {
         return false;
     }
-    let x = prev[b];
-    let y = next[b];
-    link(next, prev, x, y);
-    owner[b] = 0;
+    let x = prev_of(nodes, block);
+    let y = next_of(nodes, block);
+    link(nodes, x, y);
+    set_owner(nodes, block, 0);
     true
 }
 
 // From a node on the nodes of a list are freed, one by one. The node behind them is returned.
-fn free_nodes(next: &[u8; 256], owner: &mut [u8; 256], list: u8, from: u8) -> u8
+fn free_nodes(nodes: &mut [u8; 1280], list: u8, from: u8) -> u8
     requires { ⌜ 1 ≤ list ⌝ }
-    ensures { λ r. ⌜ (r ≡ freeFrom (now (next .entry)) list from (now (owner .entry)) .behind)
-        × (now (owner .exit) ≡ freeFrom (now (next .entry)) list from (now (owner .entry)) .owners) ⌝ }
+    ensures { λ r. ⌜ Frees list from (tablesIn (now (nodes .entry))) r (tablesIn (now (nodes .exit))) ⌝ }
 {
     let mut n = from;
-    let mut i = wide(n);
-    while owner[i] == list {
-        owner[i] = 0;
-        n = next[i];
-        i = wide(n);
+    let mut of = owner_of(nodes, n);
+    while of == list {
+        set_owner(nodes, n, 0);
+        n = next_of(nodes, n);
+        of = owner_of(nodes, n);
     }
     n
 }
 
 // What is freed goes by the owner of the list's node, which is not 0, so that freeing ends whatever the number is.
-fn delete_list(next: &mut [u8; 256], prev: &mut [u8; 256], owner: &mut [u8; 256], list: u8) -> bool
-    ensures { λ r. ⌜ ((pl : List ℕ) → Did (delList list)
-        (tables (now (next .entry)) (now (prev .entry)) (now (owner .entry)) pl)
-        r
-        (tables (now (next .exit)) (now (prev .exit)) (now (owner .exit)) pl)) ⌝ }
+fn delete_list(nodes: &mut [u8; 1280], list: u8) -> bool
+    ensures { λ r. ⌜ Did (delList list) (tablesIn (now (nodes .entry))) r (tablesIn (now (nodes .exit))) ⌝ }
 {
     let n = list_node(list);
-    let l = owner[n as usize];
+    let l = owner_of(nodes, n);
     if l == 0 {
         return false;
     }
-    let x = prev[n as usize];
-    let y = free_nodes(next, owner, l, n);
-    link(next, prev, x, y);
+    let x = prev_of(nodes, n);
+    let y = free_nodes(nodes, l, n);
+    link(nodes, x, y);
     true
 }
 
 // A change is made, if it applies; if it does not, or is of no kind, the tables are as they were and the answer is false. Each kind takes what it needs
 // of block, list, predecessor and location. One function on numbers, since the walk, a commit, the queue and a journal all act by it.
 pub fn act(
-    next: &mut [u8; 256],
-    prev: &mut [u8; 256],
-    owner: &mut [u8; 256],
-    place: &mut [u16; 256],
+    nodes: &mut [u8; 1280],
     kind: u8,
     block: u8,
     list: u8,
     predecessor: u8,
     location: u16,
 ) -> bool
-    ensures { λ r. ⌜ DidSome (ofKind kind block list predecessor location)
-        (tables (now (next .entry)) (now (prev .entry)) (now (owner .entry)) (now (place .entry)))
-        r
-        (tables (now (next .exit)) (now (prev .exit)) (now (owner .exit)) (now (place .exit))) ⌝ }
+    ensures { λ r. ⌜ DidSome (ofKind kind block list predecessor location) (tablesIn (now (nodes .entry))) r (tablesIn (now (nodes .exit))) ⌝ }
 {
     match kind {
-        kind::TAKE => take(next, prev, owner, list),
-        kind::PUT_FIRST => put(next, prev, owner, place, block, list, list_node(list)),
-        kind::PUT_AFTER => put(next, prev, owner, place, block, list, predecessor),
-        kind::WRITE => write_block(owner, place, block, location),
-        kind::DELETE_BLOCK => delete_block(next, prev, owner, block),
-        kind::DELETE_LIST => delete_list(next, prev, owner, list),
+        kind::TAKE => take(nodes, list),
+        kind::PUT_FIRST => put(nodes, block, list, list_node(list)),
+        kind::PUT_AFTER => put(nodes, block, list, predecessor),
+        kind::WRITE => write_block(nodes, block, location),
+        kind::DELETE_BLOCK => delete_block(nodes, block),
+        kind::DELETE_LIST => delete_list(nodes, list),
         _ => false,
     }
 }
 
 // Is the list taken?
-pub fn is_taken(owner: &[u8; 256], list: u8) -> bool
-    ensures { λ r. ⌜ SaysTaken (now (owner .entry)) list r ⌝ }
+pub fn is_taken(nodes: &[u8; 1280], list: u8) -> bool
+    ensures { λ r. ⌜ SaysTaken (tablesIn (now (nodes .entry))) list r ⌝ }
 {
-    owner[list_node(list) as usize] != 0
+    owner_of(nodes, list_node(list)) != 0
 }
 
 // Is the block on some list?
-pub fn is_placed(owner: &[u8; 256], block: u8) -> bool
-    ensures { λ r. ⌜ SaysPlaced (now (owner .entry)) block r ⌝ }
+pub fn is_placed(nodes: &[u8; 1280], block: u8) -> bool
+    ensures { λ r. ⌜ SaysPlaced (tablesIn (now (nodes .entry))) block r ⌝ }
 {
-    owner[block as usize] != 0
+    owner_of(nodes, block) != 0
 }
 
 // Is the block on this list?
-pub fn is_on(owner: &[u8; 256], list: u8, block: u8) -> bool
-    ensures { λ r. ⌜ SaysOn (now (owner .entry)) list block r ⌝ }
+pub fn is_on(nodes: &[u8; 1280], list: u8, block: u8) -> bool
+    ensures { λ r. ⌜ SaysOn (tablesIn (now (nodes .entry))) list block r ⌝ }
 {
-    owner[block as usize] == list
+    owner_of(nodes, block) == list
 }
 
 // The location of the content of a block that is on some list.
-pub fn location_of(place: &[u16; 256], block: u8) -> u16
-    ensures { λ r. ⌜ SaysLocation (now (place .entry)) block r ⌝ }
+pub fn location_of(nodes: &[u8; 1280], block: u8) -> u16
+    ensures { λ r. ⌜ SaysLocation (tablesIn (now (nodes .entry))) block r ⌝ }
 {
-    place[block as usize]
+    place_of(nodes, block)
 }
 
 // The block that follows node x, 0 if none does.
-fn block_behind(next: &[u8; 256], x: u8) -> u8
-    ensures { λ r. ⌜ r ≡ blockOr0 (getD (now (next .entry)) x 0) ⌝ }
+fn block_behind(nodes: &[u8; 1280], x: u8) -> u8
+    ensures { λ r. ⌜ r ≡ blockOr0 (nextOf (tablesIn (now (nodes .entry))) x) ⌝ }
 {
-    let y = next[x as usize];
+    let y = next_of(nodes, x);
     if y <= BLOCKS { y } else { 0 }
 }
 
 // The block after another on a list that is taken: 0 stands for the first, and is returned at the end.
-pub fn block_after(next: &[u8; 256], list: u8, predecessor: u8) -> u8
-    ensures { λ r. ⌜ SaysBlockAfter (now (next .entry)) list predecessor r ⌝ }
+pub fn block_after(nodes: &[u8; 1280], list: u8, predecessor: u8) -> u8
+    ensures { λ r. ⌜ SaysBlockAfter (tablesIn (now (nodes .entry))) list predecessor r ⌝ }
 {
     if predecessor == 0 {
-        block_behind(next, list_node(list))
+        block_behind(nodes, list_node(list))
     } else {
-        block_behind(next, predecessor)
+        block_behind(nodes, predecessor)
     }
 }
 
 // The list that follows node x, 0 if none does. Its blocks are passed over.
-fn list_behind(next: &[u8; 256], x: u8) -> u8
-    ensures { λ r. ⌜ r ≡ listWithin 256 (now (next .entry)) x ⌝ }
+fn list_behind(nodes: &[u8; 1280], x: u8) -> u8
+    ensures { λ r. ⌜ r ≡ listWithin 256 (tablesIn (now (nodes .entry)) .next) x ⌝ }
 {
     let mut n = x;
     let mut i = 0usize;
     while i < 256 {
-        n = next[wide(n)];
+        n = next_of(nodes, n);
         if n == END {
             return 0;
         }
@@ -285,12 +306,12 @@ fn list_behind(next: &[u8; 256], x: u8) -> u8
 }
 
 // The list taken next after another: 0 stands for the first, and is returned at the end.
-pub fn list_after(next: &[u8; 256], list: u8) -> u8
-    ensures { λ r. ⌜ SaysListAfter (now (next .entry)) list r ⌝ }
+pub fn list_after(nodes: &[u8; 1280], list: u8) -> u8
+    ensures { λ r. ⌜ SaysListAfter (tablesIn (now (nodes .entry))) list r ⌝ }
 {
     if list == 0 {
-        list_behind(next, START)
+        list_behind(nodes, START)
     } else {
-        list_behind(next, list_node(list))
+        list_behind(nodes, list_node(list))
     }
 }

@@ -39,8 +39,7 @@ module _ (m : Lent) (run : ℕ) (e x : LogEntry) (q : e ≡ x) (d : ℕ) where
       → Reads m run true e d true
       (record {
         tables = m .tables;
-        members = memberSet (m .members) run (fieldsOf x .kind) (fieldsOf x .block) (fieldsOf x .list) (fieldsOf x .predecessor);
-        locations = set (m .locations) (run % 16) d′;
+        members = memberSet (m .members) run (fieldsOf x .kind) (fieldsOf x .block) (fieldsOf x .list) (fieldsOf x .predecessor) d′;
       })
   reads-later d′ n p v r k l = rw (q, p) (read-later x n m run r k d (legal-ranged x n (rw q at l)) d′ v)
 
@@ -63,8 +62,7 @@ module _ (m : Lent) (run : ℕ) (e x : LogEntry) (q : e ≡ x) (d a k : ℕ) whe
       → Enters m run true e d a k s
       (record {
         tables = m .tables;
-        members = memberSet (m .members) run (fieldsOf x .kind) (fieldsOf x .block) (fieldsOf x .list) (fieldsOf x .predecessor);
-        locations = set (m .locations) (run % 16) d′;
+        members = memberSet (m .members) run (fieldsOf x .kind) (fieldsOf x .block) (fieldsOf x .list) (fieldsOf x .predecessor) d′;
       })
   enters-later d′ s j g l n o v = enters-if true true _ s j g l (reads-later m run e x q d d′ n o v)
 

@@ -4,7 +4,7 @@ use mathlib.Core.Logic.{_≢_}
 use mathlib.Core.Bool.{Bool, true, false, _&&_, cond, true≢false, false≢true}
 use mathlib.Core.Option.{Option, none, some}
 use mathlib.Core.List.{List, [], _∷_, _++_}
-use Prim.Native.Nat.{ℕ, suc, _+_, _-_, _*_, _%_, _≤_, _<_}
+use Prim.Native.Nat.{ℕ, suc, _+_, _-_, _*_, _/_, _%_, _≤_, _<_}
 use native.Mathlib.Omega.{arith}
 use native.Mathlib.Numerals.{add-one}
 use native.Mathlib.Decide.{decLt}
@@ -25,78 +25,103 @@ use Rattle.log.specs.declared.entry.LogEntry.{LogEntry}
 use Rattle.log.specs.declared.entry.LogEntry.the-variants.{Take, PutFirst, PutAfter, Write, DeleteBlock, DeleteList, Commit}
 use Rattle.log.specs.declared.feed.Fed.the-variants.{Run}
 
--- Four bytes stored in a row.
-module _ (bs : List ℕ) (i k b l p : ℕ) (h : i + 3 < length bs) where
-  four : List ℕ
-  four = set (set (set (set bs i k) (i + 1) b) (i + 2) l) (i + 3) p
+-- Six bytes stored in a row.
+module _ (bs : List ℕ) (i k b l p v w : ℕ) (h : i + 5 < length bs) where
+  six : List ℕ
+  six = set (set (set (set (set (set bs i k) (i + 1) b) (i + 2) l) (i + 3) p) (i + 4) v) (i + 5) w
 
-  four-other : (j : ℕ) → (j ≡ i → ⊥) → (j ≡ i + 1 → ⊥) → (j ≡ i + 2 → ⊥) → (j ≡ i + 3 → ⊥) → getD four j 0 ≡ getD bs j 0
-  unfolding four
-  four-other j e₀ e₁ e₂ e₃ =
-      getD-set-other (set (set (set bs i k) (i + 1) b) (i + 2) l) (i + 3) j p 0 e₃
-      ∙ getD-set-other (set (set bs i k) (i + 1) b) (i + 2) j l 0 e₂
-      ∙ getD-set-other (set bs i k) (i + 1) j b 0 e₁
-      ∙ getD-set-other bs i j k 0 e₀
+  six-other : (j : ℕ) → ((n : ℕ) → n < 6 → j ≡ i + n → ⊥) → getD six j 0 ≡ getD bs j 0
+  unfolding six
+  six-other j e =
+      getD-set-other (set (set (set (set (set bs i k) (i + 1) b) (i + 2) l) (i + 3) p) (i + 4) v) (i + 5) j w 0 (e 5 (omega arith))
+      ∙ getD-set-other (set (set (set (set bs i k) (i + 1) b) (i + 2) l) (i + 3) p) (i + 4) j v 0 (e 4 (omega arith))
+      ∙ getD-set-other (set (set (set bs i k) (i + 1) b) (i + 2) l) (i + 3) j p 0 (e 3 (omega arith))
+      ∙ getD-set-other (set (set bs i k) (i + 1) b) (i + 2) j l 0 (e 2 (omega arith))
+      ∙ getD-set-other (set bs i k) (i + 1) j b 0 (e 1 (omega arith))
+      ∙ getD-set-other bs i j k 0 (λ z. e 0 (omega arith) (omega arith))
 
-  four-0 : getD four i 0 ≡ k
-  unfolding four
-  four-0 =
-      getD-set-other (set (set (set bs i k) (i + 1) b) (i + 2) l) (i + 3) i p 0 (λ e. omega arith)
+  six-0 : getD six i 0 ≡ k
+  unfolding six
+  six-0 =
+      getD-set-other (set (set (set (set (set bs i k) (i + 1) b) (i + 2) l) (i + 3) p) (i + 4) v) (i + 5) i w 0 (λ e. omega arith)
+      ∙ getD-set-other (set (set (set (set bs i k) (i + 1) b) (i + 2) l) (i + 3) p) (i + 4) i v 0 (λ e. omega arith)
+      ∙ getD-set-other (set (set (set bs i k) (i + 1) b) (i + 2) l) (i + 3) i p 0 (λ e. omega arith)
       ∙ getD-set-other (set (set bs i k) (i + 1) b) (i + 2) i l 0 (λ e. omega arith)
       ∙ getD-set-other (set bs i k) (i + 1) i b 0 (λ e. omega arith)
       ∙ getD-set-same bs i k 0 (omega arith)
 
-  four-1 : getD four (i + 1) 0 ≡ b
-  unfolding four
-  four-1 =
-      getD-set-other (set (set (set bs i k) (i + 1) b) (i + 2) l) (i + 3) (i + 1) p 0 (λ e. omega arith)
+  six-1 : getD six (i + 1) 0 ≡ b
+  unfolding six
+  six-1 =
+      getD-set-other (set (set (set (set (set bs i k) (i + 1) b) (i + 2) l) (i + 3) p) (i + 4) v) (i + 5) (i + 1) w 0 (λ e. omega arith)
+      ∙ getD-set-other (set (set (set (set bs i k) (i + 1) b) (i + 2) l) (i + 3) p) (i + 4) (i + 1) v 0 (λ e. omega arith)
+      ∙ getD-set-other (set (set (set bs i k) (i + 1) b) (i + 2) l) (i + 3) (i + 1) p 0 (λ e. omega arith)
       ∙ getD-set-other (set (set bs i k) (i + 1) b) (i + 2) (i + 1) l 0 (λ e. omega arith)
       ∙ getD-set-same (set bs i k) (i + 1) b 0 (simp length-set (omega arith))
 
-  four-2 : getD four (i + 2) 0 ≡ l
-  unfolding four
-  four-2 =
-      getD-set-other (set (set (set bs i k) (i + 1) b) (i + 2) l) (i + 3) (i + 2) p 0 (λ e. omega arith)
+  six-2 : getD six (i + 2) 0 ≡ l
+  unfolding six
+  six-2 =
+      getD-set-other (set (set (set (set (set bs i k) (i + 1) b) (i + 2) l) (i + 3) p) (i + 4) v) (i + 5) (i + 2) w 0 (λ e. omega arith)
+      ∙ getD-set-other (set (set (set (set bs i k) (i + 1) b) (i + 2) l) (i + 3) p) (i + 4) (i + 2) v 0 (λ e. omega arith)
+      ∙ getD-set-other (set (set (set bs i k) (i + 1) b) (i + 2) l) (i + 3) (i + 2) p 0 (λ e. omega arith)
       ∙ getD-set-same (set (set bs i k) (i + 1) b) (i + 2) l 0 (simp length-set (omega arith))
 
-  four-3 : getD four (i + 3) 0 ≡ p
-  unfolding four
-  four-3 = getD-set-same (set (set (set bs i k) (i + 1) b) (i + 2) l) (i + 3) p 0 (simp length-set (omega arith))
+  six-3 : getD six (i + 3) 0 ≡ p
+  unfolding six
+  six-3 =
+      getD-set-other (set (set (set (set (set bs i k) (i + 1) b) (i + 2) l) (i + 3) p) (i + 4) v) (i + 5) (i + 3) w 0 (λ e. omega arith)
+      ∙ getD-set-other (set (set (set (set bs i k) (i + 1) b) (i + 2) l) (i + 3) p) (i + 4) (i + 3) v 0 (λ e. omega arith)
+      ∙ getD-set-same (set (set (set bs i k) (i + 1) b) (i + 2) l) (i + 3) p 0 (simp length-set (omega arith))
+
+  six-4 : getD six (i + 4) 0 ≡ v
+  unfolding six
+  six-4 =
+      getD-set-other (set (set (set (set (set bs i k) (i + 1) b) (i + 2) l) (i + 3) p) (i + 4) v) (i + 5) (i + 4) w 0 (λ e. omega arith)
+      ∙ getD-set-same (set (set (set (set bs i k) (i + 1) b) (i + 2) l) (i + 3) p) (i + 4) v 0 (simp length-set (omega arith))
+
+  six-5 : getD six (i + 5) 0 ≡ w
+  unfolding six
+  six-5 =
+      getD-set-same (set (set (set (set (set bs i k) (i + 1) b) (i + 2) l) (i + 3) p) (i + 4) v) (i + 5) w 0 (simp length-set (omega arith))
 
 -- One member more.
-module _ (ms ls : List ℕ) (run : ℕ) (cs : List (Change ℕ)) (w : Recalls ms ls run cs) (k b l p d : ℕ) (c : Change ℕ) (q : ofKind k b l p d ≡ some c) (g : Ranged c) where
-  room : 4 * (run % 16) + 3 < length ms
+module _ (ms : List ℕ) (run : ℕ) (cs : List (Change ℕ)) (w : Recalls ms run cs) (k b l p d : ℕ) (c : Change ℕ) (q : ofKind k b l p d ≡ some c) (g : Ranged c) where
+  room : 8 * (run % 16) + 5 < length ms
   room = omega (arith, w .bytes)
 
   -- the new member, and those before it
-  last-recalled : Recalled (memberSet ms run k b l p) (set ls (run % 16) d) run c
-  unfolding four
+  last-recalled : Recalled (memberSet ms run k b l p d) run c
+  unfolding six
   last-recalled =
-      let i = 4 * (run % 16) in
-      let e : getD (set ls (run % 16) d) (run % 16) 0 ≡ d = getD-set-same ls (run % 16) d 0 (omega (arith, w .places)) in
-      record { found = rw (four-0 ms i k b l p room, four-1 ms i k b l p room, four-2 ms i k b l p room, four-3 ms i k b l p room, e) q; ranged = g }
+      let i = 8 * (run % 16) in
+      let u = d % 256 in
+      let v = d / 256 in
+      let e : d % 256 + 256 * (d / 256) ≡ d = omega arith in
+      record {
+        found =
+            rw (six-0 ms i k b l p u v room, six-1 ms i k b l p u v room, six-2 ms i k b l p u v room, six-3 ms i k b l p u v room, six-4 ms i k b l p u v room, six-5 ms i k b l p u v room, e) q;
+        ranged = g;
+      }
 
-  old-recalled : (j : ℕ) → j < run → run < j + 16 → (m : Change ℕ) → Recalled ms ls j m → Recalled (memberSet ms run k b l p) (set ls (run % 16) d) j m
-  unfolding four
+  old-recalled : (j : ℕ) → j < run → run < j + 16 → (m : Change ℕ) → Recalled ms j m → Recalled (memberSet ms run k b l p d) j m
+  unfolding six
   old-recalled j lo hi m r =
-      let i = 4 * (run % 16) in
+      let i = 8 * (run % 16) in
       let n : j % 16 ≡ run % 16 → ⊥ = λ e. omega arith in
-      let e : getD (set ls (run % 16) d) (j % 16) 0 ≡ getD ls (j % 16) 0 = getD-set-other ls (run % 16) (j % 16) d 0 n in
-      let o₀ = four-other ms i k b l p room (4 * (j % 16)) (λ u. n (omega arith)) (λ u. n (omega arith)) (λ u. n (omega arith)) (λ u. n (omega arith)) in
-      let o₁ = four-other ms i k b l p room (4 * (j % 16) + 1) (λ u. n (omega arith)) (λ u. n (omega arith)) (λ u. n (omega arith)) (λ u. n (omega arith)) in
-      let o₂ = four-other ms i k b l p room (4 * (j % 16) + 2) (λ u. n (omega arith)) (λ u. n (omega arith)) (λ u. n (omega arith)) (λ u. n (omega arith)) in
-      let o₃ = four-other ms i k b l p room (4 * (j % 16) + 3) (λ u. n (omega arith)) (λ u. n (omega arith)) (λ u. n (omega arith)) (λ u. n (omega arith)) in
-      record { found = rw (o₀, o₁, o₂, o₃, e) (r .found); ranged = r .ranged }
+      let o : (f : ℕ) → f < 6 → getD (memberSet ms run k b l p d) (8 * (j % 16) + f) 0 ≡ getD ms (8 * (j % 16) + f) 0 =
+      λ f h. six-other ms i k b l p (d % 256) (d / 256) room (8 * (j % 16) + f) (λ a z e. n (omega arith)) in
+      let o₀ = six-other ms i k b l p (d % 256) (d / 256) room (8 * (j % 16)) (λ a z e. n (omega arith)) in
+      record { found = rw (o₀, o 1 (omega arith), o 2 (omega arith), o 3 (omega arith), o 4 (omega arith), o 5 (omega arith)) (r .found); ranged = r .ranged }
 
-  recalls-more : Recalls (memberSet ms run k b l p) (set ls (run % 16) d) (run + 1) (cs ++ c ∷ [])
+  recalls-more : Recalls (memberSet ms run k b l p d) (run + 1) (cs ++ c ∷ [])
   recalls-more = record {
     bytes = simp length-set (w .bytes);
-    places = simp length-set (w .places);
     size = simp length-append (omega (arith, w .size));
     each = λ j lo hi. go j lo hi (decLt j run);
   }
     where
-      go : (j : ℕ) → j < run + 1 → run + 1 ≤ j + 16 → Dec (j < run) → Recalled (memberSet ms run k b l p) (set ls (run % 16) d) j (getD (cs ++ c ∷ []) j (takeList 0))
+      go : (j : ℕ) → j < run + 1 → run + 1 ≤ j + 16 → Dec (j < run) → Recalled (memberSet ms run k b l p d) j (getD (cs ++ c ∷ []) j (takeList 0))
       go j lo hi (yes h) =
           rw (List·getD-append cs (c ∷ []) (takeList 0) j (omega (arith, w .size))) (old-recalled j h (omega arith) (getD cs j (takeList 0)) (w .each j h (omega arith)))
       go j lo hi (no h) =
@@ -105,13 +130,13 @@ module _ (ms ls : List ℕ) (run : ℕ) (cs : List (Change ℕ)) (w : Recalls ms
 
 -- The tables of a state after the run has ended.
 abbrev pub ended : Lent → Tables → Lent
-ended m u = record { tables = u; members = m .members; locations = m .locations }
+ended m u = record { tables = u; members = m .members }
 
 module _ (m : Lent) (run : ℕ) (r : Reader ℕ) (k : Kept m run r) where
   kept-settled : (u : Tables) (s : State ℕ) → Shows u (s .lists) → Kept (ended m u) 0 (settled s)
   kept-settled u s h = record {
     shows = h;
-    recalls = record { bytes = k .recalls .bytes; places = k .recalls .places; size = refl; each = λ j lo hi. absurd (omega arith) };
+    recalls = record { bytes = k .recalls .bytes; size = refl; each = λ j lo hi. absurd (omega arith) };
   }
 
   read-settled : (o : Option (State ℕ)) (b : Bool) (u : Tables) → Represents o b u → ReadTo (bind o (λ s. some (settled s))) b (ended m u) 0
@@ -125,12 +150,12 @@ module _ (m : Lent) (run : ℕ) (r : Reader ℕ) (k : Kept m run r) where
   read-plain c b u g d = read-settled (apply 0 c (r .state)) b u (did-apply c (m .tables) b u (r .state) g (k .shows) d)
 
   pub read-member : (t b l p d : ℕ) (c : Change ℕ) → ofKind t b l p d ≡ some c → Ranged c
-      → ReadTo (read 0 r (member c)) true (record { tables = m .tables; members = memberSet (m .members) run t b l p; locations = set (m .locations) (run % 16) d }) (run + 1)
+      → ReadTo (read 0 r (member c)) true (record { tables = m .tables; members = memberSet (m .members) run t b l p d }) (run + 1)
   unfolding read
   read-member t b l p d c q g = (
     reader (r .run ++ c ∷ []) (r .state),
     refl,
-    record { shows = k .shows; recalls = recalls-more (m .members) (m .locations) run (r .run) (k .recalls) t b l p d c q g },
+    record { shows = k .shows; recalls = recalls-more (m .members) run (r .run) (k .recalls) t b l p d c q g },
   )
 
   pub read-commit : (n : ℕ) (b : Bool) (u : Tables) → n ≤ run → Represents (applyAll 0 (lastOf n (r .run)) (r .state)) b u → ReadTo (read 0 r (commit n)) b (ended m u) 0
@@ -254,8 +279,7 @@ module _ (e : LogEntry) (n : NoCommit e) where
         → ReadTo (read 0 r (mapEntry (λ s. d) (asEntry true e))) true
         (record {
           tables = m .tables;
-          members = memberSet (m .members) run (fieldsOf e .kind) (fieldsOf e .block) (fieldsOf e .list) (fieldsOf e .predecessor);
-          locations = set (m .locations) (run % 16) d′;
+          members = memberSet (m .members) run (fieldsOf e .kind) (fieldsOf e .block) (fieldsOf e .list) (fieldsOf e .predecessor) d′;
         }) (run + 1)
     unfolding mapEntry
     read-later d′ q =
@@ -292,8 +316,7 @@ module _ (m : Lent) (run : ℕ) (r : Reader ℕ) (k : Kept m run r) (d : ℕ) (t
         → FedTo (read 0 r (mapEntry (λ s. d) (asEntry t e))) (Run (run + 1))
         (record {
           tables = m .tables;
-          members = memberSet (m .members) run (fieldsOf e .kind) (fieldsOf e .block) (fieldsOf e .list) (fieldsOf e .predecessor);
-          locations = set (m .locations) (run % 16) d;
+          members = memberSet (m .members) run (fieldsOf e .kind) (fieldsOf e .block) (fieldsOf e .list) (fieldsOf e .predecessor) d;
         })
     fed-member q = rw q (read-later e n m run r k d (raw-ranged e n t l) d refl)
 

@@ -117,13 +117,13 @@ pub card-small : (c : List ℕ) → cardLength c ≡ true → (length c ≡ 4096
 unfolding cardLength
 card-small c h = (card-size c h .0, leb-true (segmentsIn c) 64 (and-true (eqb (length c % 4096) 0 && leb 1 (segmentsIn c)) (leb (segmentsIn c) 64) h .1))
 
-pub upto-start : (c : List ℕ) (m : Lent) → Shows (m .tables) [] → length (m .members) ≡ 64 → length (m .locations) ≡ 16 → Upto c (segmentsIn c) 0 0 (opened 0) m
+pub upto-start : (c : List ℕ) (m : Lent) → Shows (m .tables) [] → length (m .members) ≡ 128 → Upto c (segmentsIn c) 0 0 (opened 0) m
 unfolding walkCard tail opened
-upto-start c m h a b = record {
+upto-start c m h a = record {
   seated = refl;
   place = tail-map (cardSlot c) cardLocation c (segmentsIn c) ∙ rw whole;
   reader = start;
-  kept = record { shows = h; recalls = record { bytes = a; places = b; size = refl; each = λ j lo hi. absurd (omega arith) } };
+  kept = record { shows = h; recalls = record { bytes = a; size = refl; each = λ j lo hi. absurd (omega arith) } };
   walked = rw whole;
 }
   where

@@ -1,14 +1,14 @@
 -- What is promised where one entry after the other is fed to a reader that lent tables keep: its state in the linked tables, its run of members in
--- two more.
+-- an array of its own.
 use mathlib.Core.Path.{_≡_}
 use mathlib.Core.Bool.{Bool, true, false}
 use mathlib.Core.Option.{Option, none, some}
 use mathlib.Core.List.{List}
-use Prim.Native.Nat.{ℕ, _+_, _*_, _%_, _≤_, _<_}
+use Prim.Native.Nat.{ℕ, _+_, _*_, _/_, _%_, _≤_, _<_}
 use lib.ListN.{length, getD, set}
 use Rattle.lists.specs.Change.{Change, takeList}
 use Rattle.lists.specs.State.{State, apply}
-use Rattle.lists.specs.Tables.{Tables, tables, Shows, Ranged, Represents, ofKind}
+use Rattle.lists.specs.Tables.{Tables, tablesIn, Shows, Ranged, Represents, ofKind}
 use Rattle.log.specs.Entry.{commit, mapEntry, raw, legal, asEntry}
 use Rattle.log.specs.Reader.{Reader, read}
 use Rattle.log.specs.declared.entry.LogEntry.{LogEntry}
@@ -18,38 +18,40 @@ use Rattle.log.specs.declared.feed.Fields.{Fields}
 use Rattle.log.specs.declared.feed.Fed.{Fed}
 use Rattle.log.specs.declared.feed.Fed.the-variants.{Run, Refused}
 
--- The tables of the state; the last members of the run, up to 16, each with four bytes (its kind, block, list and predecessor) and a location.
+-- The tables of the state; the last members of the run, up to 16, each in six bytes: its kind, block, list and predecessor, and its location's low and
+-- high byte.
 pub record Lent : Type 0 where
   pub tables : Tables
   pub members : List ℕ
-  pub locations : List ℕ
 
-abbrev pub lent : List ℕ → List ℕ → List ℕ → List ℕ → List ℕ → List ℕ → Lent
-lent nx pv ow pl ms ls = record { tables = tables nx pv ow pl; members = ms; locations = ls }
+abbrev pub lent : List ℕ → List ℕ → Lent
+lent ns ms = record { tables = tablesIn ns; members = ms }
 
--- member j of the run stands at j % 16
-abbrev pub recalled : List ℕ → List ℕ → ℕ → Option (Change ℕ)
-recalled ms ls j =
-    ofKind (getD ms (4 * (j % 16)) 0) (getD ms (4 * (j % 16) + 1) 0) (getD ms (4 * (j % 16) + 2) 0) (getD ms (4 * (j % 16) + 3) 0) (getD ls (j % 16) 0)
+-- member j of the run stands at 8 (j % 16)
+abbrev pub recalled : List ℕ → ℕ → Option (Change ℕ)
+recalled ms j =
+    let i = 8 * (j % 16) in
+    ofKind (getD ms i 0) (getD ms (i + 1) 0) (getD ms (i + 2) 0) (getD ms (i + 3) 0) (getD ms (i + 4) 0 + 256 * getD ms (i + 5) 0)
 
 -- the bytes with member j's
-abbrev pub memberSet : List ℕ → ℕ → ℕ → ℕ → ℕ → ℕ → List ℕ
-memberSet ms j k b l p = set (set (set (set ms (4 * (j % 16)) k) (4 * (j % 16) + 1) b) (4 * (j % 16) + 2) l) (4 * (j % 16) + 3) p
+abbrev pub memberSet : List ℕ → ℕ → ℕ → ℕ → ℕ → ℕ → ℕ → List ℕ
+memberSet ms j k b l p d =
+    let i = 8 * (j % 16) in
+    set (set (set (set (set (set ms i k) (i + 1) b) (i + 2) l) (i + 3) p) (i + 4) (d % 256)) (i + 5) (d / 256)
 
-pub record Recalled (ms ls : List ℕ) (j : ℕ) (c : Change ℕ) : Type 0 where
-  pub found : recalled ms ls j ≡ some c
+pub record Recalled (ms : List ℕ) (j : ℕ) (c : Change ℕ) : Type 0 where
+  pub found : recalled ms j ≡ some c
   pub ranged : Ranged c
 
-pub record Recalls (ms ls : List ℕ) (run : ℕ) (cs : List (Change ℕ)) : Type 0 where
-  pub bytes : length ms ≡ 64
-  pub places : length ls ≡ 16
+pub record Recalls (ms : List ℕ) (run : ℕ) (cs : List (Change ℕ)) : Type 0 where
+  pub bytes : length ms ≡ 128
   pub size : length cs ≡ run
-  pub each : (j : ℕ) → j < run → run ≤ j + 16 → Recalled ms ls j (getD cs j (takeList 0))
+  pub each : (j : ℕ) → j < run → run ≤ j + 16 → Recalled ms j (getD cs j (takeList 0))
 
 -- the tables show the reader's state and recall its run, which has so many members
 pub record Kept (m : Lent) (run : ℕ) (r : Reader ℕ) : Type 0 where
   pub shows : Shows (m .tables) (r .state .lists)
-  pub recalls : Recalls (m .members) (m .locations) run (r .run)
+  pub recalls : Recalls (m .members) run (r .run)
 
 -- an entry read: refused, or the tables keep the reader after it
 abbrev pub ReadTo : Option (Reader ℕ) → Bool → Lent → ℕ → Type 0
@@ -60,7 +62,7 @@ ReadTo o true m run = (q : Reader ℕ) × (o ≡ some q) × Kept m run q
 
 -- member j of the run acts
 abbrev pub ActsMember : Lent → ℕ → Bool → Tables → Type 0
-ActsMember m j b u = (c : Change ℕ) (s : State ℕ) → Recalled (m .members) (m .locations) j c → Shows (m .tables) (s .lists) → Represents (apply blank c s) b u
+ActsMember m j b u = (c : Change ℕ) (s : State ℕ) → Recalled (m .members) j c → Shows (m .tables) (s .lists) → Represents (apply blank c s) b u
 
 abbrev pub Commits : Lent → ℕ → ℕ → Bool → Lent → Type 0
 Commits m run n b m′ = (r : Reader ℕ) → Kept m run r → n ≤ 15 → ReadTo (read blank r (commit n)) b m′ 0

@@ -1,18 +1,20 @@
 // One entry after the other, fed to the reader that lent tables show.
 //
-// `next`, `prev`, `owner` and `place` are the linked tables of the reader's state. Its run of members may be long, but a commit takes at most 15 of
-// them, so the last KEPT are kept: member j of the run in four bytes of `members`, from 4 * (j % KEPT) on, and its location in `locations`.
+// `nodes` are the linked tables of the reader's state. Its run of members may be long, but a commit takes at most 15 of them, so the last KEPT are
+// kept: member j of the run in six bytes of `members`, from MEMBER * (j % KEPT) on.
 use super::entry::LogEntry;
 use lists::kind;
 use lists::tables;
+use lists::tables::of_bytes;
 ghost use mathlib.Core.Path.{_≡_};
 ghost use mathlib.Core.Bool.{true};
-ghost use Prim.Native.Nat.{_<_, _%_};
-ghost use lib.ListN.{set};
-ghost use Rattle.lists.specs.Tables.{tables};
+ghost use Prim.Native.Nat.{_<_};
+ghost use Rattle.lists.specs.Tables.{tablesIn};
 ghost use Rattle.log.specs.Feed.{lent, memberSet, fieldsOf, fedIf, ActsMember, Commits, Feeds};
 
 const KEPT: usize = 16;
+
+const MEMBER: usize = 8;
 
 // A commit is no kind of change.
 const NO_KIND: u8 = 0;
@@ -34,8 +36,7 @@ pub enum Fed {
 
 // Member `run` of the run, counted from 0, is kept until a commit; no member is refused before.
 pub fn keep(
-    members: &mut [u8; 64],
-    locations: &mut [u16; 16],
+    members: &mut [u8; 128],
     run: usize,
     kind: u8,
     block: u8,
@@ -43,67 +44,41 @@ pub fn keep(
     predecessor: u8,
     location: u16,
 ) -> bool
-    ensures { λ r. ⌜ (r ≡ true) × (now (members .exit) ≡ memberSet (now (members .entry)) run kind block list predecessor) × (now (locations .exit) ≡ set (now (locations .entry)) (run % 16) location) ⌝ }
+    ensures { λ r. ⌜ (r ≡ true) × (now (members .exit) ≡ memberSet (now (members .entry)) run kind block list predecessor location) ⌝ }
 {
-    let i = run % KEPT;
-    members[4 * i] = kind;
-    members[4 * i + 1] = block;
-    members[4 * i + 2] = list;
-    members[4 * i + 3] = predecessor;
-    locations[i] = location;
+    let i = MEMBER * (run % KEPT);
+    members[i] = kind;
+    members[i + 1] = block;
+    members[i + 2] = list;
+    members[i + 3] = predecessor;
+    members[i + 4] = (location % 256) as u8;
+    members[i + 5] = (location / 256) as u8;
     true
 }
 
 // Member `j` of the run acts.
-fn act_member(
-    next: &mut [u8; 256],
-    prev: &mut [u8; 256],
-    owner: &mut [u8; 256],
-    place: &mut [u16; 256],
-    members: &[u8; 64],
-    locations: &[u16; 16],
-    j: usize,
-) -> bool
-    ensures { λ r. ⌜ ActsMember (lent (now (next .entry)) (now (prev .entry)) (now (owner .entry)) (now (place .entry)) (now (members .entry)) (now (locations .entry))) j r (tables (now (next .exit)) (now (prev .exit)) (now (owner .exit)) (now (place .exit))) ⌝ }
+fn act_member(nodes: &mut [u8; 1280], members: &[u8; 128], j: usize) -> bool
+    ensures { λ r. ⌜ ActsMember (lent (now (nodes .entry)) (now (members .entry))) j r (tablesIn (now (nodes .exit))) ⌝ }
 {
-    let i = j % KEPT;
-    let kind = members[4 * i];
-    let block = members[4 * i + 1];
-    let list = members[4 * i + 2];
-    let predecessor = members[4 * i + 3];
-    let location = locations[i];
-    tables::act(
-        next,
-        prev,
-        owner,
-        place,
-        kind,
-        block,
-        list,
-        predecessor,
-        location,
-    )
+    let i = MEMBER * (j % KEPT);
+    let kind = members[i];
+    let block = members[i + 1];
+    let list = members[i + 2];
+    let predecessor = members[i + 3];
+    let location = of_bytes(members[i + 4], members[i + 5]);
+    tables::act(nodes, kind, block, list, predecessor, location)
 }
 
 // A commit: the last `n` members of the run act, in their order. It is refused if there are fewer, or if one of them doesn't apply.
-pub fn commit(
-    next: &mut [u8; 256],
-    prev: &mut [u8; 256],
-    owner: &mut [u8; 256],
-    place: &mut [u16; 256],
-    members: &[u8; 64],
-    locations: &[u16; 16],
-    run: usize,
-    n: usize,
-) -> bool
-    ensures { λ r. ⌜ Commits (lent (now (next .entry)) (now (prev .entry)) (now (owner .entry)) (now (place .entry)) (now (members .entry)) (now (locations .entry))) run n r (lent (now (next .exit)) (now (prev .exit)) (now (owner .exit)) (now (place .exit)) (now (members .entry)) (now (locations .entry))) ⌝ }
+pub fn commit(nodes: &mut [u8; 1280], members: &[u8; 128], run: usize, n: usize) -> bool
+    ensures { λ r. ⌜ Commits (lent (now (nodes .entry)) (now (members .entry))) run n r (lent (now (nodes .exit)) (now (members .entry))) ⌝ }
 {
     if run < n {
         return false;
     }
     let mut j = run - n;
     while j < run {
-        if !act_member(next, prev, owner, place, members, locations, j) {
+        if !act_member(nodes, members, j) {
             return false;
         }
         j += 1;
@@ -155,37 +130,23 @@ fn settle(accepted: bool) -> Fed
 
 // An entry, legal but for its slot; a write's data stands at `location`.
 pub fn feed(
-    next: &mut [u8; 256],
-    prev: &mut [u8; 256],
-    owner: &mut [u8; 256],
-    place: &mut [u16; 256],
-    members: &mut [u8; 64],
-    locations: &mut [u16; 16],
+    nodes: &mut [u8; 1280],
+    members: &mut [u8; 128],
     run: usize,
     member: bool,
     e: LogEntry,
     location: u16,
 ) -> Fed
     requires { ⌜ run < 1000000 ⌝ }
-    ensures { λ r. ⌜ Feeds (lent (now (next .entry)) (now (prev .entry)) (now (owner .entry)) (now (place .entry)) (now (members .entry)) (now (locations .entry))) run member e location r (lent (now (next .exit)) (now (prev .exit)) (now (owner .exit)) (now (place .exit)) (now (members .exit)) (now (locations .exit))) ⌝ }
+    ensures { λ r. ⌜ Feeds (lent (now (nodes .entry)) (now (members .entry))) run member e location r (lent (now (nodes .exit)) (now (members .exit))) ⌝ }
 {
     let f = fields_of(e);
     if f.kind == NO_KIND {
-        return settle(commit(
-            next,
-            prev,
-            owner,
-            place,
-            members,
-            locations,
-            run,
-            f.count as usize,
-        ));
+        return settle(commit(nodes, members, run, f.count as usize));
     }
     if member {
         keep(
             members,
-            locations,
             run,
             f.kind,
             f.block,
@@ -195,15 +156,5 @@ pub fn feed(
         );
         return Fed::Run(run + 1);
     }
-    settle(tables::act(
-        next,
-        prev,
-        owner,
-        place,
-        f.kind,
-        f.block,
-        f.list,
-        f.predecessor,
-        location,
-    ))
+    settle(tables::act(nodes, f.kind, f.block, f.list, f.predecessor, location))
 }

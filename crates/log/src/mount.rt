@@ -31,21 +31,9 @@ pub fn mount(card: &[u8]) -> Mounted
     if !is_card(card) {
         return Mounted::WrongLength;
     }
-    let mut next = [0u8; 256];
-    let mut prev = [0u8; 256];
-    let mut owner = [0u8; 256];
-    let mut place = [0u16; 256];
-    let mut members = [0u8; 64];
-    let mut locations = [0u16; 16];
-    match walk(
-        card,
-        &mut next,
-        &mut prev,
-        &mut owner,
-        &mut place,
-        &mut members,
-        &mut locations,
-    ) {
+    let mut nodes = [0u8; 1280];
+    let mut members = [0u8; 128];
+    match walk(card, &mut nodes, &mut members) {
         Walked::Sound(behind, _) => Mounted::Sound(behind),
         Walked::Fault(g, i) => Mounted::Fault(g, i),
     }

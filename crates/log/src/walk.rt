@@ -61,12 +61,8 @@ fn go(accepted: bool, at: usize, slots: usize, run: usize) -> Step
 
 // A plain entry of segment g acts, or is refused: `at` is behind it, `slots` are used before it.
 fn plain(
-    next: &mut [u8; 256],
-    prev: &mut [u8; 256],
-    owner: &mut [u8; 256],
-    place: &mut [u16; 256],
-    members: &[u8; 64],
-    locations: &[u16; 16],
+    nodes: &mut [u8; 1280],
+    members: &[u8; 128],
     run: usize,
     e: LogEntry,
     g: usize,
@@ -74,15 +70,15 @@ fn plain(
     slots: usize,
 ) -> Step
     requires { ⌜ (g < 64) × (slots < 256) ⌝ }
-    ensures { λ r. ⌜ Enters (lent (now (next .entry)) (now (prev .entry)) (now (owner .entry)) (now (place .entry)) (now (members .entry)) (now (locations .entry))) run false e (cardLocation g slots) at slots r (lent (now (next .exit)) (now (prev .exit)) (now (owner .exit)) (now (place .exit)) (now (members .entry)) (now (locations .entry))) ⌝ }
+    ensures { λ r. ⌜ Enters (lent (now (nodes .entry)) (now (members .entry))) run false e (cardLocation g slots) at slots r (lent (now (nodes .exit)) (now (members .entry))) ⌝ }
 {
     match e {
         LogEntry::Take { list } => {
-            let done = act(next, prev, owner, place, kind::TAKE, 0, list, 0, 0);
+            let done = act(nodes, kind::TAKE, 0, list, 0, 0);
             go(done, at, slots, 0)
         }
         LogEntry::PutFirst { block, list } => {
-            let done = act(next, prev, owner, place, kind::PUT_FIRST, block, list, 0, 0);
+            let done = act(nodes, kind::PUT_FIRST, block, list, 0, 0);
             go(done, at, slots, 0)
         }
         LogEntry::PutAfter {
@@ -90,25 +86,25 @@ fn plain(
             list,
             predecessor: x,
         } => {
-            let done = act(next, prev, owner, place, kind::PUT_AFTER, block, list, x, 0);
+            let done = act(nodes, kind::PUT_AFTER, block, list, x, 0);
             go(done, at, slots, 0)
         }
         LogEntry::Write { block, slot: _ } => {
             let location = card_location(g, slots);
-            let done = act(next, prev, owner, place, kind::WRITE, block, 0, 0, location);
+            let done = act(nodes, kind::WRITE, block, 0, 0, location);
             go(done, at, slots + 1, 0)
         }
         LogEntry::DeleteBlock { block } => {
-            let done = act(next, prev, owner, place, kind::DELETE_BLOCK, block, 0, 0, 0);
+            let done = act(nodes, kind::DELETE_BLOCK, block, 0, 0, 0);
             go(done, at, slots, 0)
         }
         LogEntry::DeleteList { list } => {
-            let done = act(next, prev, owner, place, kind::DELETE_LIST, 0, list, 0, 0);
+            let done = act(nodes, kind::DELETE_LIST, 0, list, 0, 0);
             go(done, at, slots, 0)
         }
         LogEntry::Commit { count } => {
             let n = count as usize;
-            let done = commit(next, prev, owner, place, members, locations, run, n);
+            let done = commit(nodes, members, run, n);
             go(done, at, slots, 0)
         }
     }
@@ -116,8 +112,7 @@ fn plain(
 
 // A member is kept. A take and a commit are no members.
 fn member(
-    members: &mut [u8; 64],
-    locations: &mut [u16; 16],
+    members: &mut [u8; 128],
     run: usize,
     e: LogEntry,
     g: usize,
@@ -125,12 +120,12 @@ fn member(
     slots: usize,
 ) -> Step
     requires { ⌜ (g < 64) × (slots < 256) × (run < 1000000) ⌝ }
-    ensures { λ r. ⌜ ((t : Tables) → Enters (record { tables = t; members = now (members .entry); locations = now (locations .entry) }) run true e (cardLocation g slots) at slots r (record { tables = t; members = now (members .exit); locations = now (locations .exit) })) ⌝ }
+    ensures { λ r. ⌜ ((t : Tables) → Enters (record { tables = t; members = now (members .entry) }) run true e (cardLocation g slots) at slots r (record { tables = t; members = now (members .exit) })) ⌝ }
 {
     match e {
         LogEntry::Take { list: _ } => Step::Stuck,
         LogEntry::PutFirst { block, list } => {
-            let kept = keep(members, locations, run, kind::PUT_FIRST, block, list, 0, 0);
+            let kept = keep(members, run, kind::PUT_FIRST, block, list, 0, 0);
             go(kept, at, slots, run + 1)
         }
         LogEntry::PutAfter {
@@ -138,20 +133,20 @@ fn member(
             list,
             predecessor: x,
         } => {
-            let kept = keep(members, locations, run, kind::PUT_AFTER, block, list, x, 0);
+            let kept = keep(members, run, kind::PUT_AFTER, block, list, x, 0);
             go(kept, at, slots, run + 1)
         }
         LogEntry::Write { block, slot: _ } => {
             let location = card_location(g, slots);
-            let kept = keep(members, locations, run, kind::WRITE, block, 0, 0, location);
+            let kept = keep(members, run, kind::WRITE, block, 0, 0, location);
             go(kept, at, slots + 1, run + 1)
         }
         LogEntry::DeleteBlock { block } => {
-            let kept = keep(members, locations, run, kind::DELETE_BLOCK, block, 0, 0, 0);
+            let kept = keep(members, run, kind::DELETE_BLOCK, block, 0, 0, 0);
             go(kept, at, slots, run + 1)
         }
         LogEntry::DeleteList { list } => {
-            let kept = keep(members, locations, run, kind::DELETE_LIST, 0, list, 0, 0);
+            let kept = keep(members, run, kind::DELETE_LIST, 0, list, 0, 0);
             go(kept, at, slots, run + 1)
         }
         LogEntry::Commit { count: _ } => Step::Stuck,
@@ -161,36 +156,20 @@ fn member(
 // The entry at the cursor, in segment g.
 fn step_entry(
     card: &[u8],
-    next: &mut [u8; 256],
-    prev: &mut [u8; 256],
-    owner: &mut [u8; 256],
-    place: &mut [u16; 256],
-    members: &mut [u8; 64],
-    locations: &mut [u16; 16],
+    nodes: &mut [u8; 1280],
+    members: &mut [u8; 128],
     g: usize,
     cur: Cursor,
 ) -> Step
     requires { ⌜ OnSegment (now card) g cur ⌝ }
-    ensures { λ r. ⌜ Steps (now (card .entry)) g cur (lent (now (next .entry)) (now (prev .entry)) (now (owner .entry)) (now (place .entry)) (now (members .entry)) (now (locations .entry))) r (lent (now (next .exit)) (now (prev .exit)) (now (owner .exit)) (now (place .exit)) (now (members .exit)) (now (locations .exit))) ⌝ }
+    ensures { λ r. ⌜ Steps (now (card .entry)) g cur (lent (now (nodes .entry)) (now (members .entry))) r (lent (now (nodes .exit)) (now (members .exit))) ⌝ }
 {
     let at = cur.at;
     let slots = cur.slots;
     let run = cur.run;
     match entry_at(card, g, at, slots) {
-        Found::Member(e, behind) => member(members, locations, run, e, g, behind, slots),
-        Found::Plain(e, behind) => plain(
-            next,
-            prev,
-            owner,
-            place,
-            members,
-            locations,
-            run,
-            e,
-            g,
-            behind,
-            slots,
-        ),
+        Found::Member(e, behind) => member(members, run, e, g, behind, slots),
+        Found::Plain(e, behind) => plain(nodes, members, run, e, g, behind, slots),
         Found::Bad => Step::Stuck,
     }
 }
@@ -198,17 +177,13 @@ fn step_entry(
 // The entries of segment g, which has one.
 fn walk_segment(
     card: &[u8],
-    next: &mut [u8; 256],
-    prev: &mut [u8; 256],
-    owner: &mut [u8; 256],
-    place: &mut [u16; 256],
-    members: &mut [u8; 64],
-    locations: &mut [u16; 16],
+    nodes: &mut [u8; 1280],
+    members: &mut [u8; 128],
     g: usize,
     run: usize,
 ) -> Segment
     requires { ⌜ OnCard (now card) g run ⌝ }
-    ensures { λ r. ⌜ Passes (now (card .entry)) g run (lent (now (next .entry)) (now (prev .entry)) (now (owner .entry)) (now (place .entry)) (now (members .entry)) (now (locations .entry))) r (lent (now (next .exit)) (now (prev .exit)) (now (owner .exit)) (now (place .exit)) (now (members .exit)) (now (locations .exit))) ⌝ }
+    ensures { λ r. ⌜ Passes (now (card .entry)) g run (lent (now (nodes .entry)) (now (members .entry))) r (lent (now (nodes .exit)) (now (members .exit))) ⌝ }
 {
     let start = SEGMENT * g + ENTRIES_AT;
     let n = card[SEGMENT * g + COUNT_AT] as usize;
@@ -219,7 +194,7 @@ fn walk_segment(
     };
     let mut i = 0;
     while i < n {
-        match step_entry(card, next, prev, owner, place, members, locations, g, cur) {
+        match step_entry(card, nodes, members, g, cur) {
             Step::Next(after) => {
                 cur = after;
             }
@@ -254,21 +229,12 @@ fn first_used(card: &[u8], g: usize, n: usize) -> usize
 }
 
 // The whole card. What the tables held does not matter.
-pub fn walk(
-    card: &[u8],
-    next: &mut [u8; 256],
-    prev: &mut [u8; 256],
-    owner: &mut [u8; 256],
-    place: &mut [u16; 256],
-    members: &mut [u8; 64],
-    locations: &mut [u16; 16],
-) -> Walked
+pub fn walk(card: &[u8], nodes: &mut [u8; 1280], members: &mut [u8; 128]) -> Walked
     requires { ⌜ cardLength (now card) ≡ true ⌝ }
-    ensures { λ r. ⌜ Walks (now (card .entry)) r (lent (now (next .exit)) (now (prev .exit)) (now (owner .exit)) (now (place .exit)) (now (members .exit)) (now (locations .exit))) ⌝ }
+    ensures { λ r. ⌜ Walks (now (card .entry)) r (lent (now (nodes .exit)) (now (members .exit))) ⌝ }
 {
-    tables::clear(next, prev, owner, place);
-    *members = [0u8; 64];
-    *locations = [0u16; 16];
+    tables::clear(nodes);
+    *members = [0u8; 128];
     let n = card.len() / SEGMENT;
     let mut behind = opened(0);
     let mut run = 0;
@@ -281,7 +247,7 @@ pub fn walk(
             }
             return Walked::Sound(behind, run);
         }
-        match walk_segment(card, next, prev, owner, place, members, locations, g, run) {
+        match walk_segment(card, nodes, members, g, run) {
             Segment::Done(p, m) => {
                 behind = p;
                 run = m;

@@ -26,7 +26,7 @@ returns c =
 
 walk-requires : tie.Need-walk-requires
 walk-requires c κs =
-    let i = c .before .before .before .before .before .before in
+    let i = c .before .before in
     let card = i .before .before .before .before .args .card .now in
     listable-card card (sym (i .before .is-listable .ensures) ∙ not-false (i .before .is-listable .result) (i .if1 .left))
 
@@ -47,13 +47,13 @@ same-length-2 c = search needs
 
 returns-2 : tie.Need-returns-2
 returns-2 c =
-    let t = c .before .before .before .before .before .before .before in
+    let t = c .before .before .before .before .before in
     let k = t .before .before in
-    let i = k .before .before .before .before .before .before .before in
+    let i = k .before .before .before in
     let card = i .before .before .before .before .args .card .now in
     let h : listable card ≡ true = sym (i .before .is-listable .ensures) ∙ not-false (i .before .is-listable .result) (i .if1 .left) in
     let w = rw (t .enum-told .given .1) at (k .walk .ensures) in
-    rw (listing-sound card h (w .reader) (w .walked)) (c .before .before .put-state .ensures .1 _ (w .reader .state .lists) (w .kept .shows))
+    rw (listing-sound card h (w .reader) (w .walked)) (c .before .before .put-state .ensures .1 (w .reader .state .lists) (w .kept .shows))
 
 same-length-3 : tie.Need-same-length-3
 same-length-3 c = search needs
@@ -62,7 +62,7 @@ returns-3 : tie.Need-returns-3
 returns-3 c =
     let t = c .before .before .before .before in
     let k = t .before .before in
-    let i = k .before .before .before .before .before .before .before in
+    let i = k .before .before .before in
     let card = i .before .before .before .before .args .card .now in
     let h : listable card ≡ true = sym (i .before .is-listable .ensures) ∙ not-false (i .before .is-listable .result) (i .if1 .left) in
     let w = rw (t .enum-told2 .given .1) at (k .walk .ensures) in

@@ -19,7 +19,7 @@ is-block-requires c κs = search needs
 
 returns : tie.Need-returns
 unfolding number
-returns c = λ nx pv pl rs h.
+returns c = λ rs h.
     let a = c .before .before .args in
     first-no 5 8 (isBlock (a .b)) (placed (a .b) rs) (a .s) (DeleteBlock (a .b)) (a .rec) OutOfRange refl (sym (c .before .is-block .ensures) ∙ not-true (c .before .is-block .result) (c .if1 .taken))
 
@@ -33,21 +33,21 @@ is-placed-requires c κs = search needs
 
 returns-2 : tie.Need-returns-2
 unfolding number
-returns-2 c = λ nx pv pl rs h.
+returns-2 c = λ rs h.
     let a = c .before .before .before .before .args in
     let w = sym (c .before .before .before .is-block .ensures) ∙ not-false (c .before .before .before .is-block .result) (c .before .before .if1 .left) in
     second-no 5 8 (isBlock (a .b)) (placed (a .b) rs) (a .s) (DeleteBlock (a .b)) (a .rec) BlockNotPlaced refl w
-    (sym (placed-said (c .before .is-placed .ensures) nx pv pl rs h (inside 64 (a .b) w)) ∙ not-true (c .before .is-placed .result) (c .if2 .taken))
+    (sym (placed-said (c .before .is-placed .ensures) rs h (inside 64 (a .b) w)) ∙ not-true (c .before .is-placed .result) (c .if2 .taken))
 
 add-requires : tie.Need-add-requires
 add-requires c κs = search needs
 
 returns-3 : tie.Need-returns-3
-returns-3 c = λ nx pv pl rs h.
+returns-3 c = λ rs h.
     let a = c .before .before .before .before .before .args in
     let w = sym (c .before .before .before .before .is-block .ensures) ∙ not-false (c .before .before .before .before .is-block .result) (c .before .before .before .if1 .left) in
     both-yes 5 8 (isBlock (a .b)) (placed (a .b) rs) (a .s) (DeleteBlock (a .b)) (a .rec) (c .add .result .reply) (c .add .result .rec) w
-    (sym (placed-said (c .before .before .is-placed .ensures) nx pv pl rs h (inside 64 (a .b) w)) ∙ not-false (c .before .before .is-placed .result) (c .before .if2 .left))
+    (sym (placed-said (c .before .before .is-placed .ensures) rs h (inside 64 (a .b) w)) ∙ not-false (c .before .before .is-placed .result) (c .before .if2 .left))
     (c .add .ensures)
 
 pub delete-placed-spec : {M : Type 1} → statement M

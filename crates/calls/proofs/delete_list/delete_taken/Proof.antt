@@ -19,7 +19,7 @@ is-list-requires c κs = search needs
 
 returns : tie.Need-returns
 unfolding number
-returns c = λ nx pv pl rs h.
+returns c = λ rs h.
     let a = c .before .before .args in
     first-no 5 7 (isList (a .l)) (taken (a .l) rs) (a .s) (DeleteList (a .l)) (a .rec) OutOfRange refl (sym (c .before .is-list .ensures) ∙ not-true (c .before .is-list .result) (c .if1 .taken))
 
@@ -33,21 +33,21 @@ is-taken-requires c κs = search needs
 
 returns-2 : tie.Need-returns-2
 unfolding number
-returns-2 c = λ nx pv pl rs h.
+returns-2 c = λ rs h.
     let a = c .before .before .before .before .args in
     let w = sym (c .before .before .before .is-list .ensures) ∙ not-false (c .before .before .before .is-list .result) (c .before .before .if1 .left) in
     second-no 5 7 (isList (a .l)) (taken (a .l) rs) (a .s) (DeleteList (a .l)) (a .rec) ListNotTaken refl w
-    (sym (taken-said (c .before .is-taken .ensures) nx pv pl rs h (inside 16 (a .l) w)) ∙ not-true (c .before .is-taken .result) (c .if2 .taken))
+    (sym (taken-said (c .before .is-taken .ensures) rs h (inside 16 (a .l) w)) ∙ not-true (c .before .is-taken .result) (c .if2 .taken))
 
 add-requires : tie.Need-add-requires
 add-requires c κs = search needs
 
 returns-3 : tie.Need-returns-3
-returns-3 c = λ nx pv pl rs h.
+returns-3 c = λ rs h.
     let a = c .before .before .before .before .before .args in
     let w = sym (c .before .before .before .before .is-list .ensures) ∙ not-false (c .before .before .before .before .is-list .result) (c .before .before .before .if1 .left) in
     both-yes 5 7 (isList (a .l)) (taken (a .l) rs) (a .s) (DeleteList (a .l)) (a .rec) (c .add .result .reply) (c .add .result .rec) w
-    (sym (taken-said (c .before .before .is-taken .ensures) nx pv pl rs h (inside 16 (a .l) w)) ∙ not-false (c .before .before .is-taken .result) (c .before .if2 .left))
+    (sym (taken-said (c .before .before .is-taken .ensures) rs h (inside 16 (a .l) w)) ∙ not-false (c .before .before .is-taken .result) (c .before .if2 .left))
     (c .add .ensures)
 
 pub delete-taken-spec : {M : Type 1} → statement M

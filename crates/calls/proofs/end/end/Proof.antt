@@ -19,7 +19,7 @@ returns : tie.Need-returns
 unfolding replyAnswer
 returns c =
     let l = c .before .before .before in
-    let a = l .before .before .before .before .before .before .before .before .before .args in
+    let a = l .before .before .before .before .before .before .args in
     let d = disk (a .card .now) (a .queue-data .now) (a .journal-data .now) (a .rec) in
     end-not-entered (a .u) d _ (rw (c .before .x .given .1) at (l .enter .ensures))
 
@@ -28,10 +28,10 @@ enum-told c = search needs
 
 end-unit-requires : tie.Need-end-unit-requires
 end-unit-requires c κs =
-    let l = c .before .before .before .before .before .before .before in
-    let a = l .before .before .before .before .before .before .before .before .before .args in
+    let l = c .before .before .before .before in
+    let a = l .before .before .before .before .before .before .args in
     let d = disk (a .card .now) (a .queue-data .now) (a .journal-data .now) (a .rec) in
-    stands-ready (a .u) d _ (rw (c .before .before .before .before .before .enum-told .given .1) at (l .enter .ensures))
+    stands-ready (a .u) d _ (rw (c .before .before .enum-told .given .1) at (l .enter .ensures))
 
 same-length-2 : tie.Need-same-length-2
 same-length-2 c = search needs
@@ -39,10 +39,10 @@ same-length-2 c = search needs
 returns-2 : tie.Need-returns-2
 returns-2 c =
     let e = c .before .before in
-    let l = e .before .before .before .before .before .before .before .before in
-    let a = l .before .before .before .before .before .before .before .before .before .args in
+    let l = e .before .before .before .before .before in
+    let a = l .before .before .before .before .before .before .args in
     let d = disk (a .card .now) (a .queue-data .now) (a .journal-data .now) (a .rec) in
-    ends-performs (a .u) d _ (rw (e .before .before .before .before .before .before .enum-told .given .1) at (l .enter .ensures)) (e .end-unit .result .reply) _ (e .end-unit .result .rec) (e .end-unit .ensures)
+    ends-performs (a .u) d _ (rw (e .before .before .before .enum-told .given .1) at (l .enter .ensures)) (e .end-unit .result .reply) _ (e .end-unit .result .rec) (e .end-unit .ensures)
 
 pub end-spec : {M : Type 1} → statement M
 end-spec =

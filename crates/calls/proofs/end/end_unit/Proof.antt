@@ -30,8 +30,8 @@ count-conflict-requires c κs = search needs
 returns : tie.Need-returns
 returns c st sh =
     let j = c .before .before .before in
-    let a = j .before .before .before .before .before .before .before .before .args in
-    ends-conflict (a .queue-data .now) (a .journal-data .now) (a .t7) (a .u) _ (c .count-conflict .result) (sym (j .enter-journal .ensures .answer st sh) ∙ not-true (j .enter-journal .result) (c .before .before .if1 .taken))
+    let a = j .before .before .before .before .before .args in
+    ends-conflict (a .queue-data .now) (a .journal-data .now) (a .t4) (a .u) _ (c .count-conflict .result) (sym (j .enter-journal .ensures .answer st sh) ∙ not-true (j .enter-journal .result) (c .before .before .if1 .taken))
     (c .count-conflict .ensures ∙ ap (λ (r : Record). withConflicts r (min 65535 (r .conflicts + 1))) (c .before .close .ensures))
 
 add-if2 : tie.Need-add-if2
@@ -40,8 +40,8 @@ add-if2 c = search needs
 returns-2 : tie.Need-returns-2
 returns-2 c st sh =
     let j = c .before .before .before in
-    let a = j .before .before .before .before .before .before .before .before .args in
-    ends-full (a .queue-data .now) (a .journal-data .now) (a .t7) (a .u) _ (sym (j .enter-journal .ensures .answer st sh) ∙ not-false (j .enter-journal .result) (c .before .before .if1 .left)) (search needs)
+    let a = j .before .before .before .before .before .args in
+    ends-full (a .queue-data .now) (a .journal-data .now) (a .t4) (a .u) _ (sym (j .enter-journal .ensures .answer st sh) ∙ not-false (j .enter-journal .result) (c .before .before .if1 .left)) (search needs)
 
 queue-unit-requires : tie.Need-queue-unit-requires
 queue-unit-requires c κs = search needs
@@ -56,8 +56,8 @@ returns-3 : tie.Need-returns-3
 returns-3 c st sh =
     let q = c .before .before .before in
     let j = q .before .before .before .before .before in
-    let a = j .before .before .before .before .before .before .before .before .args in
-    ends-accepted (a .queue-data .now) (a .journal-data .now) (a .t7) (a .u) _ (sym (j .enter-journal .ensures .answer st sh) ∙ not-false (j .enter-journal .result) (q .before .before .before .before .if1 .left)) _ (q .queue-unit .result) (c .close2 .result) (search needs) (q .queue-unit .ensures) (c .close2 .ensures)
+    let a = j .before .before .before .before .before .args in
+    ends-accepted (a .queue-data .now) (a .journal-data .now) (a .t4) (a .u) _ (sym (j .enter-journal .ensures .answer st sh) ∙ not-false (j .enter-journal .result) (q .before .before .before .before .if1 .left)) _ (q .queue-unit .result) (c .close2 .result) (search needs) (q .queue-unit .ensures) (c .close2 .ensures)
 
 pub end-unit-spec : {M : Type 1} → statement M
 end-unit-spec =

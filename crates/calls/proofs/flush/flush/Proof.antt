@@ -58,13 +58,13 @@ same-length c = search needs
 
 returns : tie.Need-returns
 returns c =
-    let a = c .before .before .before .before .before .before .before .before .before .before .before .before .before .args in
+    let a = c .before .before .before .before .before .before .before .before .before .before .args in
     let x = rw (c .before .before .behind .given .1) at (c .before .before .before .before .examine .ensures) in
     outside (a .allowance) (disk (a .card .now) (a .queue-data .now) (a .journal-data .now) (a .rec)) (x .lengths) (x .sound) (c .if1 .taken)
 
 drain-requires : tie.Need-drain-requires
 drain-requires c κs =
-    let a = c .before .before .before .before .before .before .before .before .before .before .before .before .before .before .args in
+    let a = c .before .before .before .before .before .before .before .before .before .before .before .args in
     let x = rw (c .before .before .before .behind .given .1) at (c .before .before .before .before .before .examine .ensures) in
     flushable (disk (a .card .now) (a .queue-data .now) (a .journal-data .now) (a .rec)) _ (x .lengths) (x .sound) (x .place)
 
@@ -73,7 +73,7 @@ same-length-2 c = search needs
 
 returns-2 : tie.Need-returns-2
 returns-2 c =
-    let a = c .before .before .before .before .before .before .before .before .before .before .before .args in
+    let a = c .before .before .before .before .before .before .before .before .args in
     wrong-length (a .allowance) (disk (a .card .now) (a .queue-data .now) (a .journal-data .now) (a .rec)) (rw (c .enum-told .given .1) at (c .before .before .examine .ensures))
 
 same-length-3 : tie.Need-same-length-3
@@ -81,7 +81,7 @@ same-length-3 c = search needs
 
 returns-3 : tie.Need-returns-3
 returns-3 c =
-    let a = c .before .before .before .before .before .before .before .before .before .before .before .args in
+    let a = c .before .before .before .before .before .before .before .before .args in
     let x = rw (c .enum-told2 .given .1) at (c .before .before .examine .ensures) in
     unsound (a .allowance) (disk (a .card .now) (a .queue-data .now) (a .journal-data .now) (a .rec)) (x .0) (x .1)
 
@@ -90,7 +90,7 @@ same-length-4 c = search needs
 
 returns-4 : tie.Need-returns-4
 returns-4 c =
-    let a = c .before .before .before .before .before .before .before .before .before .before .before .before .before .before .before .before .before .args in
+    let a = c .before .before .before .before .before .before .before .before .before .before .before .before .before .before .args in
     let x = rw (c .before .before .before .before .before .before .behind .given .1) at (c .before .before .before .before .before .before .before .before .examine .ensures) in
     let d = disk (a .card .now) (a .queue-data .now) (a .journal-data .now) (a .rec) in
     performs-accepted (flush (a .allowance)) d _ (inside (a .allowance) d (x .lengths) (x .sound) (c .before .before .before .before .if1 .left)) (c .before .before .drain .ensures (a .journal-data .now))

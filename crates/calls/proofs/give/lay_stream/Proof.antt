@@ -20,7 +20,7 @@ enter-journal-requires : tie.Need-enter-journal-requires
 enter-journal-requires c κs = search needs
 
 returns-2 : tie.Need-returns-2
-returns-2 c st sh = rw (eqb-false _ 0 (c .before .before .before .before .before .before .if1 .left)) (c .enter-journal .ensures .shows st sh)
+returns-2 c st sh = rw (eqb-false _ 0 (c .before .before .before .if1 .left)) (c .enter-journal .ensures .shows st sh)
 
 pub lay-stream-spec : {M : Type 1} → statement M
 lay-stream-spec =

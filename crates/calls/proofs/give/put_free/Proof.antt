@@ -14,16 +14,16 @@ lay-stream-requires c κs = search needs
 
 put-ranged-requires : tie.Need-put-ranged-requires
 put-ranged-requires c κs =
-    let f = c .before .before .before .before .before .before in
+    let f = c .before .before .before in
     let s = f .before .before .before .before in
-    (s .pre .1, s .pre .2, free-block-limit (s .args .rec) (s .pre .0 .lists) _ (f .free-block .ensures _ _ _ (s .pre .0 .lists) (s .pre .0 .shows)))
+    (s .pre .1, s .pre .2, free-block-limit (s .args .rec) (s .pre .0 .lists) _ (f .free-block .ensures (s .pre .0 .lists) (s .pre .0 .shows)))
 
 returns : tie.Need-returns
 returns c st sh =
-    let f = c .before .before .before .before .before .before .before in
+    let f = c .before .before .before .before in
     let a = f .before .before .before .before .args in
     puts-number (viewHere (a .rec) (a .s) st .lists) (a .s) (a .l) (a .p) (f .free-block .result) _ (a .rec) (c .put-ranged .result .reply) (c .put-ranged .result .rec)
-    (f .free-block .ensures _ _ _ (st .lists) sh) (c .put-ranged .ensures _ _ _ (viewHere (a .rec) (a .s) st .lists) (c .before .before .lay-stream .ensures st sh))
+    (f .free-block .ensures (st .lists) sh) (c .put-ranged .ensures (viewHere (a .rec) (a .s) st .lists) (c .before .before .lay-stream .ensures st sh))
 
 pub put-free-spec : {M : Type 1} → statement M
 put-free-spec =

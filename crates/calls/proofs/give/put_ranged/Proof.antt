@@ -12,7 +12,7 @@ is-position-requires : tie.Need-is-position-requires
 is-position-requires c κs = search needs
 
 returns : tie.Need-returns
-returns c nx pv pl rs sh =
+returns c rs sh =
     let x = c .before .before .args in
     put-outside (x .s) (x .l) (x .p) (x .b) (x .rec) rs (sym (c .before .is-position .ensures) ∙ not-true (c .before .is-position .result) (c .if1 .taken))
 
@@ -29,11 +29,11 @@ put-on-requires c κs =
     (x .pre .0, x .pre .1, l, p, x .pre .2)
 
 returns-2 : tie.Need-returns-2
-returns-2 c nx pv pl rs sh =
+returns-2 c rs sh =
     let k = c .before in
     let x = k .before .before .args in
     put-inside (x .s) (x .l) (x .p) (x .b) (x .rec) rs (c .put-on .result .reply) (c .put-on .result .rec)
-    (sym (k .before .is-position .ensures) ∙ not-false (k .before .is-position .result) (k .if1 .left)) (c .put-on .ensures nx pv pl rs sh)
+    (sym (k .before .is-position .ensures) ∙ not-false (k .before .is-position .result) (k .if1 .left)) (c .put-on .ensures rs sh)
 
 pub put-ranged-spec : {M : Type 1} → statement M
 put-ranged-spec = tie.close (tie.spec is-position-requires returns cast-put-on cast-put-on-2 put-on-requires returns-2)

@@ -22,7 +22,7 @@ returns : tie.Need-returns
 unfolding refusal questions destination numberAnswer
 returns c =
     let l = c .before .before .before in
-    let a = l .before .before .before .before .before .before .before .before .args in
+    let a = l .before .before .before .before .before .args in
     let d = disk (a .card .now) (a .queue-data .now) (a .journal-data .now) (a .rec) in
     first-refused (newBlock (a .s) (a .l) (a .p)) d _ (entering true d (a .s)) _ tt refl (rw (c .before .x .given .1) at (l .enter .ensures))
 
@@ -31,17 +31,17 @@ enum-told c = search needs
 
 put-free-requires : tie.Need-put-free-requires
 put-free-requires c κs =
-    let l = c .before .before .before .before .before .before in
-    let a = l .before .before .before .before .before .before .before .before .args in
+    let l = c .before .before .before in
+    let a = l .before .before .before .before .before .args in
     let d = disk (a .card .now) (a .queue-data .now) (a .journal-data .now) (a .rec) in
-    stands-put (a .s) d _ (rw (c .before .before .before .before .enum-told .given .1) at (l .enter .ensures))
+    stands-put (a .s) d _ (rw (c .before .enum-told .given .1) at (l .enter .ensures))
 
 returns-2 : tie.Need-returns-2
 returns-2 c =
-    let l = c .before .before .before .before .before .before .before in
-    let a = l .before .before .before .before .before .before .before .before .args in
+    let l = c .before .before .before .before in
+    let a = l .before .before .before .before .before .args in
     let d = disk (a .card .now) (a .queue-data .now) (a .journal-data .now) (a .rec) in
-    let k = rw (c .before .before .before .before .before .enum-told .given .1) at (l .enter .ensures) in
+    let k = rw (c .before .before .enum-told .given .1) at (l .enter .ensures) in
     puts-performs (a .s) d _ k (a .l) (a .p) (c .put-free .result .reply) (c .put-free .result .rec) (c .put-free .ensures)
 
 pub new-block-spec : {M : Type 1} → statement M

@@ -23,7 +23,7 @@ returns : tie.Need-returns
 unfolding refusal questions destination numberAnswer
 returns c =
     let l = c .before .before .before in
-    let a = l .before .before .before .before .before .before .before .before .args in
+    let a = l .before .before .before .before .before .args in
     let d = disk (a .card .now) (a .queue-data .now) (a .journal-data .now) (a .rec) in
     first-refused (newList (a .s)) d _ (entering true d (a .s)) _ tt refl (rw (c .before .x .given .1) at (l .enter .ensures))
 
@@ -38,10 +38,10 @@ take-list-requires c κs =
 returns-2 : tie.Need-returns-2
 returns-2 c =
     let l = c .before .before .before .before in
-    let a = l .before .before .before .before .before .before .before .before .args in
+    let a = l .before .before .before .before .before .args in
     let d = disk (a .card .now) (a .queue-data .now) (a .journal-data .now) (a .rec) in
     let k = rw (c .before .before .enum-told .given .1) at (l .enter .ensures) in
-    takes-performs (a .s) d _ k (c .take-list .result .reply) (c .take-list .result .rec) (c .take-list .ensures _ _ _ (k .located .here .lists) (k .located .shows))
+    takes-performs (a .s) d _ k (c .take-list .result .reply) (c .take-list .result .rec) (c .take-list .ensures (k .located .here .lists) (k .located .shows))
 
 pub new-list-spec : {M : Type 1} → statement M
 new-list-spec =

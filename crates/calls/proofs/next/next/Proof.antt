@@ -9,14 +9,14 @@ use Rattle.calls.proofs.Lookups.{next-unseen, next-out, next-untaken, n
 use Rattle.calls.proofs.next.next.Statement.{statement}
 use Rattle.calls.proofs.next.next.Tie as tie
 
-look-requires : tie.Need-look-requires
-look-requires c κs = search needs
+look-view-requires : tie.Need-look-view-requires
+look-view-requires c κs = search needs
 
 enum-known-x : tie.Need-enum-known-x
 enum-known-x c = search needs
 
 returns : tie.Need-returns
-returns c = next-unseen _ _ _ _ _ (rw (c .before .x .given .1) at (c .before .before .before .look .ensures))
+returns c = next-unseen _ _ _ _ _ (rw (c .before .x .given .1) at (c .before .before .before .look-view .ensures))
 
 enum-told : tie.Need-enum-told
 enum-told c = search needs
@@ -27,17 +27,17 @@ is-position-requires c κs = search needs
 returns-2 : tie.Need-returns-2
 returns-2 c =
     let e = c .before .before in
-    next-out _ _ _ _ _ (rw (e .enum-told .given .1) at (e .before .before .look .ensures))
+    next-out _ _ _ _ _ (rw (e .enum-told .given .1) at (e .before .before .look-view .ensures))
     (sym (c .before .is-position .ensures) ∙ not-true (c .before .is-position .result) (c .if1 .taken))
 
 cast-list : tie.Need-cast-list
 cast-list c =
-    let a = c .before .before .before .before .before .before .before .before .before .before .before .before .args in
+    let a = c .before .before .before .before .before .before .before .before .before .args in
     omega (arith, position-range (a .l) (a .p) (sym (c .before .is-position .ensures) ∙ not-false (c .before .is-position .result) (c .if1 .left)) .0 .1)
 
 cast-predecessor : tie.Need-cast-predecessor
 cast-predecessor c =
-    let a = c .before .before .before .before .before .before .before .before .before .before .before .before .args in
+    let a = c .before .before .before .before .before .before .before .before .before .args in
     omega (arith, position-range (a .l) (a .p) (sym (c .before .is-position .ensures) ∙ not-false (c .before .is-position .result) (c .if1 .left)) .1)
 
 is-taken-requires : tie.Need-is-taken-requires
@@ -48,13 +48,13 @@ returns-3 c =
     let q = c .before .before .before in
     let e = q .before .before in
     let w = sym (q .before .is-position .ensures) ∙ not-false (q .before .is-position .result) (q .if1 .left) in
-    let s = rw (e .enum-told .given .1) at (e .before .before .look .ensures) in
+    let s = rw (e .enum-told .given .1) at (e .before .before .look-view .ensures) in
     next-untaken _ _ _ _ _ s w _ (taken-said (c .before .is-taken .ensures)) (not-true (c .before .is-taken .result) (c .if2 .taken))
 
 follows-requires : tie.Need-follows-requires
 follows-requires c κs =
     let q = c .before .before .before .before in
-    let a = q .before .before .before .before .before .before .before .before .before .before .before .before .args in
+    let a = q .before .before .before .before .before .before .before .before .before .args in
     position-range (a .l) (a .p) (sym (q .before .is-position .ensures) ∙ not-false (q .before .is-position .result) (q .if1 .left))
 
 returns-4 : tie.Need-returns-4
@@ -63,7 +63,7 @@ returns-4 c =
     let q = m .before .before .before in
     let e = q .before .before in
     let w = sym (q .before .is-position .ensures) ∙ not-false (q .before .is-position .result) (q .if1 .left) in
-    let s = rw (e .enum-told .given .1) at (e .before .before .look .ensures) in
+    let s = rw (e .enum-told .given .1) at (e .before .before .look-view .ensures) in
     next-elsewhere _ _ _ _ _ s w _ (taken-said (m .before .is-taken .ensures)) (not-false (m .before .is-taken .result) (m .if2 .left))
     _ (c .before .follows .ensures) (not-true (c .before .follows .result) (c .if3 .taken))
 
@@ -80,7 +80,7 @@ returns-5 c =
     let q = m .before .before .before in
     let e = q .before .before in
     let w = sym (q .before .is-position .ensures) ∙ not-false (q .before .is-position .result) (q .if1 .left) in
-    let s = rw (e .enum-told .given .1) at (e .before .before .look .ensures) in
+    let s = rw (e .enum-told .given .1) at (e .before .before .look-view .ensures) in
     next-found _ _ _ _ _ s w _ (taken-said (m .before .is-taken .ensures)) (not-false (m .before .is-taken .result) (m .if2 .left))
     _ (f .before .follows .ensures) (not-false (f .before .follows .result) (f .if3 .left)) (c .block-after .result) (block-said (c .block-after .ensures))
 
@@ -88,7 +88,7 @@ pub next-spec : {M : Type 1} → statement M
 next-spec =
     tie.close
     (tie.spec
-    look-requires
+    look-view-requires
     enum-known-x
     returns
     enum-told

@@ -10,14 +10,14 @@ use Rattle.calls.proofs.Reading.{read-range, read-unseen, read-out, rea
 use Rattle.calls.proofs.read.read.Statement.{statement}
 use Rattle.calls.proofs.read.read.Tie as tie
 
-look-requires : tie.Need-look-requires
-look-requires c κs = search needs
+look-view-requires : tie.Need-look-view-requires
+look-view-requires c κs = search needs
 
 enum-known-x : tie.Need-enum-known-x
 enum-known-x c = search needs
 
 returns : tie.Need-returns
-returns c = read-unseen _ _ _ _ _ (rw (c .before .x .given .1) at (c .before .before .before .look .ensures))
+returns c = read-unseen _ _ _ _ _ (rw (c .before .x .given .1) at (c .before .before .before .look-view .ensures))
 
 enum-told : tie.Need-enum-told
 enum-told c = search needs
@@ -32,11 +32,11 @@ returns-2 : tie.Need-returns-2
 returns-2 c =
     let e = c .before .before .before in
     let r = rw (c .before .before .is-block .ensures) at (c .before .both .ensures) in
-    read-out _ _ _ _ _ (rw (e .enum-told .given .1) at (e .before .before .look .ensures)) (sym r ∙ not-true (c .before .both .result) (c .if1 .taken))
+    read-out _ _ _ _ _ (rw (e .enum-told .given .1) at (e .before .before .look-view .ensures)) (sym r ∙ not-true (c .before .both .result) (c .if1 .taken))
 
 cast-block : tie.Need-cast-block
 cast-block c =
-    let a = c .before .before .before .before .before .before .before .before .before .before .before .before .before .before .args in
+    let a = c .before .before .before .before .before .before .before .before .before .before .before .args in
     let r = rw (c .before .before .is-block .ensures) at (c .before .both .ensures) in
     omega (arith, read-range (a .b) (length (a .dest .now)) (sym r ∙ not-false (c .before .both .result) (c .if1 .left)) .0 .1)
 
@@ -49,7 +49,7 @@ returns-3 c =
     let e = q .before .before .before in
     let r = rw (q .before .before .is-block .ensures) at (q .before .both .ensures) in
     let w = sym r ∙ not-false (q .before .both .result) (q .if1 .left) in
-    let s = rw (e .enum-told .given .1) at (e .before .before .look .ensures) in
+    let s = rw (e .enum-told .given .1) at (e .before .before .look-view .ensures) in
     read-unplaced _ _ _ _ _ s w _ (placed-said (c .before .is-placed .ensures)) (not-true (c .before .is-placed .result) (c .if2 .taken))
 
 location-of-requires : tie.Need-location-of-requires
@@ -60,10 +60,10 @@ copy-content-requires c κs =
     let m = c .before .before .before in
     let q = m .before .before .before in
     let e = q .before .before .before in
-    let a = e .before .before .before .before .before .before .before .before .before .before .before .args in
+    let a = e .before .before .before .before .before .before .before .before .args in
     let r = rw (q .before .before .is-block .ensures) at (q .before .both .ensures) in
     let w = sym r ∙ not-false (q .before .both .result) (q .if1 .left) in
-    let s = rw (e .enum-told .given .1) at (e .before .before .look .ensures) in (
+    let s = rw (e .enum-told .given .1) at (e .before .before .look-view .ensures) in (
       read-sized (disk (a .card .now) (a .queue-data .now) (a .journal-data .now) (a .rec)) (a .v) (a .b) (a .dest .now) _ s w
           _ (placed-said (m .before .is-placed .ensures)) (not-false (m .before .is-placed .result) (m .if2 .left)) (c .before .location-of .result) (location-said (c .before .location-of .ensures)),
       read-range (a .b) (length (a .dest .now)) w .1,
@@ -80,7 +80,7 @@ returns-4 c =
     let e = q .before .before .before in
     let r = rw (q .before .before .is-block .ensures) at (q .before .both .ensures) in
     let w = sym r ∙ not-false (q .before .both .result) (q .if1 .left) in
-    let s = rw (e .enum-told .given .1) at (e .before .before .look .ensures) in
+    let s = rw (e .enum-told .given .1) at (e .before .before .look-view .ensures) in
     read-given _ _ _ _ _ s w _ (placed-said (m .before .is-placed .ensures)) (not-false (m .before .is-placed .result) (m .if2 .left))
     (l .location-of .result) (location-said (l .location-of .ensures)) _ (c .before .before .copy-content .ensures)
 
@@ -88,7 +88,7 @@ pub read-spec : {M : Type 1} → statement M
 read-spec =
     tie.close
     (tie.spec
-    look-requires
+    look-view-requires
     enum-known-x
     returns
     enum-told

@@ -1,4 +1,4 @@
--- Questions 1, 3 and 4 are those of `look_owners`; behind them the owners are those of the stream's view, and an accepted content is copied to its place. Assumes nothing.
+-- Questions 1, 3 and 4 are those of `look_stream`; behind them the tables show the stream's view, and an accepted content is copied to its place. Assumes nothing.
 use mathlib.Core.Path.{refl}
 use mathlib.Core.Bool.{false}
 use borrow.Author.Needs.{needs}
@@ -11,8 +11,8 @@ use Rattle.calls.proofs.Refusing.{opens, first-refused, seen-ranges}
 use Rattle.calls.proofs.Writing.{write-decides, write-refused, write-accepted, write-fits}
 use Rattle.calls.proofs.write.write.Tie as tie
 
-look-owners-requires : tie.Need-look-owners-requires
-look-owners-requires c κs = search needs
+look-stream-requires : tie.Need-look-stream-requires
+look-stream-requires c κs = search needs
 
 enum-known-x : tie.Need-enum-known-x
 enum-known-x c = search needs
@@ -28,13 +28,13 @@ unfolding refusal questions destination replyAnswer
 returns c =
     let a = c .before .before .before .before .before .before .before .before .before .before .before .args in
     let d = (disk (a .card .now) (a .queue-data .now) (a .journal-data .now) (a .rec)) in
-    first-refused (writeBlock (a .s) (a .b) (a .content .now)) d _ (opens false d (a .s)) _ tt refl (rw (c .before .x .given .1) at (c .before .before .before .look-owners .ensures .3))
+    first-refused (writeBlock (a .s) (a .b) (a .content .now)) d _ (opens false d (a .s)) _ tt refl (rw (c .before .x .given .1) at (c .before .before .before .look-stream .ensures))
 
 enum-told : tie.Need-enum-told
 enum-told c = search needs
 
 write-placed-requires : tie.Need-write-placed-requires
-write-placed-requires c κs = seen-ranges (rw (c .before .enum-told .given .1) at (c .before .before .before .look-owners .ensures .3))
+write-placed-requires c κs = seen-ranges (rw (c .before .enum-told .given .1) at (c .before .before .before .look-stream .ensures))
 
 enum-told-2 : tie.Need-enum-told-2
 enum-told-2 c = search needs
@@ -44,7 +44,7 @@ copy-content-requires c κs =
     let a = c .before .before .before .before .before .before .before .before .before .before .before .before .before .before .before .before .args in
     let w = c .before .before .before .before .write-placed in
     let d = disk (a .card .now) (a .queue-data .now) (a .journal-data .now) (a .rec) in
-    let z = rw (c .before .before .before .before .before .before .enum-told .given .1) at (c .before .before .before .before .before .before .before .before .look-owners .ensures .3) in
+    let z = rw (c .before .before .before .before .before .before .enum-told .given .1) at (c .before .before .before .before .before .before .before .before .look-stream .ensures) in
     write-fits d (a .s) (a .b) (a .content .now) (w .result .reply) (w .result .rec) _ z (c .before .before .enum-told2 .given .1)
     (write-decides d (a .s) (a .b) (a .content .now) (w .result .reply) (w .result .rec) _ z (w .ensures))
 
@@ -62,7 +62,7 @@ returns-2 c =
     let a = c .before .before .before .before .before .before .before .before .before .before .before .before .before .before .before .before .before .before .before .before .before .args in
     let w = c .before .before .before .before .before .before .before .before .before .write-placed in
     let d = disk (a .card .now) (a .queue-data .now) (a .journal-data .now) (a .rec) in
-    let z = rw (c .before .before .before .before .before .before .before .before .before .before .before .enum-told .given .1) at (c .before .before .before .before .before .before .before .before .before .before .before .before .before .look-owners .ensures .3) in
+    let z = rw (c .before .before .before .before .before .before .before .before .before .before .before .enum-told .given .1) at (c .before .before .before .before .before .before .before .before .before .before .before .before .before .look-stream .ensures) in
     write-accepted d (a .s) (a .b) (a .content .now) (w .result .reply) (w .result .rec) (c .before .before .before .before .before .before .before .enum-told2 .given .1)
     (write-decides d (a .s) (a .b) (a .content .now) (w .result .reply) (w .result .rec) _ z (w .ensures))
     _ _ (c .before .before .before .before .copy-content .ensures)
@@ -78,7 +78,7 @@ returns-3 c =
     let a = c .before .before .before .before .before .before .before .before .before .before .before .before .before .before .args in
     let w = c .before .before .write-placed in
     let d = disk (a .card .now) (a .queue-data .now) (a .journal-data .now) (a .rec) in
-    let z = rw (c .before .before .before .before .enum-told .given .1) at (c .before .before .before .before .before .before .look-owners .ensures .3) in
+    let z = rw (c .before .before .before .before .enum-told .given .1) at (c .before .before .before .before .before .before .look-stream .ensures) in
     write-refused d (a .s) (a .b) (a .content .now) (w .result .reply) (w .result .rec) _ (c .enum-told3 .given .1)
     (write-decides d (a .s) (a .b) (a .content .now) (w .result .reply) (w .result .rec) _ z (w .ensures))
 
@@ -86,7 +86,7 @@ pub write-spec : {M : Type 1} → statement M
 write-spec =
     tie.close
     (tie.spec
-    look-owners-requires
+    look-stream-requires
     enum-known-x
     same-length
     same-length-2

@@ -25,7 +25,7 @@ both-requires c κs = search needs
 
 returns : tie.Need-returns
 unfolding number
-returns c = λ nx pv pl rs h.
+returns c = λ rs h.
     let a = c .before .before .before .args in
     first-no 5 8 (isBlock (a .b) && eqb (a .n) 256) (placed (a .b) rs) (a .s) (Write (a .b) 0) (a .rec) OutOfRange refl (sym (rw (c .before .before .is-block .ensures) at (c .before .both .ensures)) ∙ not-true (c .before .both .result) (c .if1 .taken))
 
@@ -39,21 +39,21 @@ is-placed-requires c κs = search needs
 
 returns-2 : tie.Need-returns-2
 unfolding number
-returns-2 c = λ nx pv pl rs h.
+returns-2 c = λ rs h.
     let a = c .before .before .before .before .before .args in
     let w = sym (rw (c .before .before .before .before .is-block .ensures) at (c .before .before .before .both .ensures)) ∙ not-false (c .before .before .before .both .result) (c .before .before .if1 .left) in
     second-no 5 8 (isBlock (a .b) && eqb (a .n) 256) (placed (a .b) rs) (a .s) (Write (a .b) 0) (a .rec) BlockNotPlaced refl w
-    (sym (placed-said (c .before .is-placed .ensures) nx pv pl rs h (inside 64 (a .b) (and-true (isBlock (a .b)) (eqb (a .n) 256) w .0))) ∙ not-true (c .before .is-placed .result) (c .if2 .taken))
+    (sym (placed-said (c .before .is-placed .ensures) rs h (inside 64 (a .b) (and-true (isBlock (a .b)) (eqb (a .n) 256) w .0))) ∙ not-true (c .before .is-placed .result) (c .if2 .taken))
 
 add-requires : tie.Need-add-requires
 add-requires c κs = search needs
 
 returns-3 : tie.Need-returns-3
-returns-3 c = λ nx pv pl rs h.
+returns-3 c = λ rs h.
     let a = c .before .before .before .before .before .before .args in
     let w = sym (rw (c .before .before .before .before .before .is-block .ensures) at (c .before .before .before .before .both .ensures)) ∙ not-false (c .before .before .before .before .both .result) (c .before .before .before .if1 .left) in
     both-yes 5 8 (isBlock (a .b) && eqb (a .n) 256) (placed (a .b) rs) (a .s) (Write (a .b) 0) (a .rec) (c .add .result .reply) (c .add .result .rec) w
-    (sym (placed-said (c .before .before .is-placed .ensures) nx pv pl rs h (inside 64 (a .b) (and-true (isBlock (a .b)) (eqb (a .n) 256) w .0))) ∙ not-false (c .before .before .is-placed .result) (c .before .if2 .left))
+    (sym (placed-said (c .before .before .is-placed .ensures) rs h (inside 64 (a .b) (and-true (isBlock (a .b)) (eqb (a .n) 256) w .0))) ∙ not-false (c .before .before .is-placed .result) (c .before .if2 .left))
     (c .add .ensures)
 
 pub write-placed-spec : {M : Type 1} → statement M

@@ -1,5 +1,5 @@
 -- The queue, the holders and the head are asked in turn, each over the tables that the one before left. Assumes nothing.
-use Rattle.lists.specs.Tables.{tables}
+use Rattle.lists.specs.Tables.{tablesIn}
 use Rattle.log.specs.Feed.{lent}
 use Rattle.inspect.proofs.Settling.{settles-refused, settles-held, settles-last}
 use borrow.Author.Needs.{needs}
@@ -13,10 +13,10 @@ enter-queue-requires c κs = search needs
 
 returns : tie.Need-returns
 returns c =
-    let s = c .before .before .before .before .before .before .before .before .before .before .args in
+    let s = c .before .before .before .before .before .before .args in
     let q = c .before .enter-queue in
-    let m = lent (s .next .now) (s .prev .now) (s .owner .now) (s .place .now) (s .members .now) (s .locations .now) in
-    let t = tables (q .last .0) (q .last .1 .0) (q .last .1 .1 .0) (q .last .1 .1 .1 .0) in
+    let m = lent (s .nodes .now) (s .members .now) in
+    let t = tablesIn (q .last .0) in
     settles-refused (s .card .now) (s .queue-data .now) m (s .run) (s .rec) (q .result) t (q .ensures) (not-true _ (c .if1 .taken))
 
 holders-right-requires : tie.Need-holders-right-requires
@@ -24,10 +24,10 @@ holders-right-requires c κs = search needs
 
 returns-2 : tie.Need-returns-2
 returns-2 c =
-    let s = c .before .before .before .before .before .before .before .before .before .before .before .before .before .args in
+    let s = c .before .before .before .before .before .before .before .before .before .args in
     let q = c .before .before .before .before .enter-queue in
-    let m = lent (s .next .now) (s .prev .now) (s .owner .now) (s .place .now) (s .members .now) (s .locations .now) in
-    let t = tables (q .last .0) (q .last .1 .0) (q .last .1 .1 .0) (q .last .1 .1 .1 .0) in
+    let m = lent (s .nodes .now) (s .members .now) in
+    let t = tablesIn (q .last .0) in
     settles-held (s .card .now) (s .queue-data .now) m (s .run) (s .rec) (q .result) t (q .ensures) (not-false _ (c .before .before .before .if1 .left)) (c .before .holders-right .result) (c .before .holders-right .ensures) (not-true _ (c .if2 .taken))
 
 head-stands-requires : tie.Need-head-stands-requires
@@ -35,10 +35,10 @@ head-stands-requires c κs = search needs
 
 returns-3 : tie.Need-returns-3
 returns-3 c =
-    let s = c .before .before .before .before .before .before .before .before .before .before .before .before .before .before .args in
+    let s = c .before .before .before .before .before .before .before .before .before .before .args in
     let q = c .before .before .before .before .before .enter-queue in
-    let m = lent (s .next .now) (s .prev .now) (s .owner .now) (s .place .now) (s .members .now) (s .locations .now) in
-    let t = tables (q .last .0) (q .last .1 .0) (q .last .1 .1 .0) (q .last .1 .1 .1 .0) in
+    let m = lent (s .nodes .now) (s .members .now) in
+    let t = tablesIn (q .last .0) in
     settles-last (s .card .now) (s .queue-data .now) m (s .run) (s .rec) (q .result) t (q .ensures) (not-false _ (c .before .before .before .before .if1 .left)) (c .before .before .holders-right .result) (c .before .before .holders-right .ensures) (not-false _ (c .before .if2 .left)) (c .head-stands .result) (c .head-stands .ensures [])
 
 pub settle-spec : {M : Type 1} → statement M

@@ -9,7 +9,7 @@ use lib.Dec.{eqb}
 use lib.ListN.{getD}
 use borrow.Author.Tests.{not-true, not-false}
 use Rattle.lists.specs.State.{Row, placed}
-use Rattle.lists.specs.Tables.{OfOwners}
+use Rattle.lists.specs.Tables.{OfShown, tablesIn}
 use Rattle.lists.proofs.Basic.{eqb-false}
 use Rattle.lists.proofs.Lookup.{placed-said}
 use Rattle.inspect.proofs.Searching.{Left, none-tried, found, passed, nowhere}
@@ -24,13 +24,13 @@ held : (hs : List ℕ) (rs : List (Row ℕ)) (b : ℕ) → getD hs (b - 1) 0 ≢
 held hs rs b h = rw (eqb-false (getD hs (b - 1) 0) 0 h) (or-true (placed b rs))
 
 abbrev Inv-loop : tie.InvT-loop
-Inv-loop owner holder last b₀ i₀ b i = (i ≤ 64) × OfOwners owner (λ rs. Left (used holder rs) 64 last i b)
+Inv-loop nodes holder last b₀ i₀ b i = (i ≤ 64) × OfShown (tablesIn nodes) (λ rs. Left (used holder rs) 64 last i b)
 
 abbrev μ-loop : tie.MeasureT-loop
-μ-loop owner holder last b₀ i₀ b i = 64 - i
+μ-loop nodes holder last b₀ i₀ b i = 64 - i
 
 loop-holds : tie.Need-loop-holds Inv-loop μ-loop
-loop-holds c = (omega arith, λ nx pv pl rs h. none-tried (used (c .args .holder .now) rs) 64 _)
+loop-holds c = (omega arith, λ rs h. none-tried (used (c .args .holder .now) rs) 64 _)
 
 add-b : tie.Need-add-b Inv-loop μ-loop
 add-b c = search needs
@@ -43,12 +43,12 @@ holder-of-requires c κs = search needs
 
 returns : tie.Need-returns Inv-loop μ-loop
 returns c =
-    λ nx pv pl rs h.
+    λ rs h.
     let o = c .before .before .before .before .before in
     let t = c .before .before .before .is-placed in
-    let a = sym (placed-said (t .ensures) nx pv pl rs h (omega arith)) ∙ not-true (t .result) (c .before .before .if1 .taken) in
+    let a = sym (placed-said (t .ensures) rs h (omega arith)) ∙ not-true (t .result) (c .before .before .if1 .taken) in
     let z = sym (c .before .holder-of .ensures) ∙ c .if2 .taken in
-    found (used (o .before .args .holder .now) rs) 64 _ (o .loop .i) (o .loop .b) (o .loop .inv .1 nx pv pl rs h) (omega arith) (rw (a, z))
+    found (used (o .before .args .holder .now) rs) 64 _ (o .loop .i) (o .loop .b) (o .loop .inv .1 rs h) (omega arith) (rw (a, z))
 
 add-i : tie.Need-add-i Inv-loop μ-loop
 add-i c = search needs
@@ -61,18 +61,18 @@ loop-again c =
     let o = c .before .before .before in
     let t = c .before .is-placed in (
       omega arith,
-      λ nx pv pl rs h.
-          passed (used (o .before .args .holder .now) rs) 64 _ (o .loop .i) (o .loop .b) (o .loop .inv .1 nx pv pl rs h) (omega arith)
+      λ rs h.
+          passed (used (o .before .args .holder .now) rs) 64 _ (o .loop .i) (o .loop .b) (o .loop .inv .1 rs h) (omega arith)
           (⊎-elim
           (λ w. held (o .before .args .holder .now) rs (o .loop .b % 64 + 1) (λ e. w .2 .left (w .1 .ensures ∙ e)))
-          (λ w. rw (sym (placed-said (t .ensures) nx pv pl rs h (omega arith)) ∙ not-false (t .result) (w .left)))
+          (λ w. rw (sym (placed-said (t .ensures) rs h (omega arith)) ∙ not-false (t .result) (w .left)))
           (c .if1 .came)),
     )
 
 returns-2 : tie.Need-returns-2 Inv-loop μ-loop
 returns-2 c =
-    λ nx pv pl rs h.
-    nowhere (used (c .before .before .args .holder .now) rs) 64 _ (c .before .loop .i) (c .before .loop .b) (c .before .loop .inv .1 nx pv pl rs h) (omega arith)
+    λ rs h.
+    nowhere (used (c .before .before .args .holder .now) rs) 64 _ (c .before .loop .i) (c .before .loop .b) (c .before .loop .inv .1 rs h) (omega arith)
 
 pub free-block-spec : {M : Type 1} → statement M
 free-block-spec =

@@ -4,7 +4,7 @@ use Prim.Native.Nat.{_-_, _≤_}
 use native.Mathlib.Omega.{arith}
 use borrow.Author.Tests.{not-true, not-false}
 use Rattle.lists.specs.State.{taken}
-use Rattle.lists.specs.Tables.{OfOwners}
+use Rattle.lists.specs.Tables.{OfShown, tablesIn}
 use Rattle.lists.proofs.Lookup.{taken-said}
 use Rattle.inspect.proofs.Searching.{Left, none-tried, found, passed, nowhere}
 use borrow.Author.Needs.{needs}
@@ -12,13 +12,13 @@ use Rattle.inspect.proofs.free.free_list.Statement.{statement}
 use Rattle.inspect.proofs.free.free_list.Tie as tie
 
 abbrev Inv-loop : tie.InvT-loop
-Inv-loop owner last l₀ i₀ l i = (i ≤ 16) × OfOwners owner (λ rs. Left (λ x. taken x rs) 16 last i l)
+Inv-loop nodes last l₀ i₀ l i = (i ≤ 16) × OfShown (tablesIn nodes) (λ rs. Left (λ x. taken x rs) 16 last i l)
 
 abbrev μ-loop : tie.MeasureT-loop
-μ-loop owner last l₀ i₀ l i = 16 - i
+μ-loop nodes last l₀ i₀ l i = 16 - i
 
 loop-holds : tie.Need-loop-holds Inv-loop μ-loop
-loop-holds c = (omega arith, λ nx pv pl rs h. none-tried (λ x. taken x rs) 16 _)
+loop-holds c = (omega arith, λ rs h. none-tried (λ x. taken x rs) 16 _)
 
 add-l : tie.Need-add-l Inv-loop μ-loop
 add-l c = search needs
@@ -28,10 +28,10 @@ is-taken-requires c κs = search needs
 
 returns : tie.Need-returns Inv-loop μ-loop
 returns c =
-    λ nx pv pl rs h.
+    λ rs h.
     let o = c .before .before .before .loop in
     let t = c .before .is-taken in
-    found (λ x. taken x rs) 16 _ (o .i) (o .l) (o .inv .1 nx pv pl rs h) (omega arith) (sym (taken-said (t .ensures) nx pv pl rs h (omega arith)) ∙ not-true (t .result) (c .if1 .taken))
+    found (λ x. taken x rs) 16 _ (o .i) (o .l) (o .inv .1 rs h) (omega arith) (sym (taken-said (t .ensures) rs h (omega arith)) ∙ not-true (t .result) (c .if1 .taken))
 
 add-i : tie.Need-add-i Inv-loop μ-loop
 add-i c = search needs
@@ -44,13 +44,13 @@ loop-again c =
     let o = c .before .before .before .loop in
     let t = c .before .is-taken in (
       omega arith,
-      λ nx pv pl rs h.
-          passed (λ x. taken x rs) 16 _ (o .i) (o .l) (o .inv .1 nx pv pl rs h) (omega arith)
-          (sym (taken-said (t .ensures) nx pv pl rs h (omega arith)) ∙ not-false (t .result) (c .if1 .left)),
+      λ rs h.
+          passed (λ x. taken x rs) 16 _ (o .i) (o .l) (o .inv .1 rs h) (omega arith)
+          (sym (taken-said (t .ensures) rs h (omega arith)) ∙ not-false (t .result) (c .if1 .left)),
     )
 
 returns-2 : tie.Need-returns-2 Inv-loop μ-loop
-returns-2 c = λ nx pv pl rs h. nowhere (λ x. taken x rs) 16 _ (c .before .loop .i) (c .before .loop .l) (c .before .loop .inv .1 nx pv pl rs h) (omega arith)
+returns-2 c = λ rs h. nowhere (λ x. taken x rs) 16 _ (c .before .loop .i) (c .before .loop .l) (c .before .loop .inv .1 rs h) (omega arith)
 
 pub free-list-spec : {M : Type 1} → statement M
 free-list-spec =

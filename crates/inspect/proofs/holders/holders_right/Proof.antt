@@ -7,7 +7,7 @@ use lib.ListN.{getD}
 use Rattle.lists.proofs.Lookup.{placed-said}
 use borrow.Author.Needs.{needs}
 use borrow.Author.Tests.{not-true, not-false}
-use Rattle.lists.specs.Tables.{OfOwners}
+use Rattle.lists.specs.Tables.{OfShown, tablesIn}
 use Rattle.disk.specs.Record.{holderOf}
 use Rattle.inspect.specs.Clauses.{holderRight}
 use Rattle.inspect.proofs.Judging.{Left, left-fails, left-passes, left-ends, open-high, open-unit, held-none, held-closed, held-placed, held-well, holders-all}
@@ -15,13 +15,13 @@ use Rattle.inspect.proofs.holders.holders_right.Statement.{statement}
 use Rattle.inspect.proofs.holders.holders_right.Tie as tie
 
 abbrev Inv-loop : tie.InvT-loop
-Inv-loop owner rec i₀ i = (i ≤ 64) × OfOwners owner (λ rs. Left (holderRight rec rs) (λ k. k + 1) 64 i)
+Inv-loop nodes rec i₀ i = (i ≤ 64) × OfShown (tablesIn nodes) (λ rs. Left (holderRight rec rs) (λ k. k + 1) 64 i)
 
 abbrev μ-loop : tie.MeasureT-loop
-μ-loop owner rec i₀ i = 64 - i
+μ-loop nodes rec i₀ i = 64 - i
 
 loop-holds : tie.Need-loop-holds Inv-loop μ-loop
-loop-holds c = (omega arith, λ nx pv pl rs s. refl)
+loop-holds c = (omega arith, λ rs s. refl)
 
 element-copy-out-h : tie.Need-element-copy-out-h Inv-loop μ-loop
 element-copy-out-h c = omega arith
@@ -35,8 +35,8 @@ returns c =
     let a = c .before .before .before .before .before .args in
     let e : l .i + 1 - 1 ≡ l .i = omega arith in
     let h = getD (a .t1 .holder) (l .i) 0 in
-    λ nx pv pl rs s.
-    left-fails (holderRight (a .t1) rs) (λ k. k + 1) 64 (l .i) (l .inv .1 nx pv pl rs s) (omega arith)
+    λ rs s.
+    left-fails (holderRight (a .t1) rs) (λ k. k + 1) 64 (l .i) (l .inv .1 rs s) (omega arith)
     (held-closed (a .t1) rs (l .i + 1) h (rw e) (c .before .if1 .taken) (open-high (a .t1) h (c .if2 .taken)))
     ∙ holders-all (a .t1) rs
 
@@ -55,8 +55,8 @@ returns-2 c =
     let a = c .before .before .before .before .before .before .args in
     let e : l .i + 1 - 1 ≡ l .i = omega arith in
     let h = getD (a .t1 .holder) (l .i) 0 in
-    λ nx pv pl rs s.
-    left-fails (holderRight (a .t1) rs) (λ k. k + 1) 64 (l .i) (l .inv .1 nx pv pl rs s) (omega arith)
+    λ rs s.
+    left-fails (holderRight (a .t1) rs) (λ k. k + 1) 64 (l .i) (l .inv .1 rs s) (omega arith)
     (held-closed (a .t1) rs (l .i + 1) h (rw e) (c .before .before .if1 .taken) (sym (not-true _ (c .if3 .taken)) ∙ open-unit (a .t1) h (omega arith) (omega arith)))
     ∙ holders-all (a .t1) rs
 
@@ -75,9 +75,9 @@ returns-3 c =
     let a = c .before .before .before .before .before .before .before .before .args in
     let e : l .i + 1 - 1 ≡ l .i = omega arith in
     let h = getD (a .t1 .holder) (l .i) 0 in
-    λ nx pv pl rs s.
-    left-fails (holderRight (a .t1) rs) (λ k. k + 1) 64 (l .i) (l .inv .1 nx pv pl rs s) (omega arith)
-    (held-placed (a .t1) rs (l .i + 1) h (rw e) (c .before .before .before .before .if1 .taken) (sym (placed-said (c .before .is-placed .ensures) nx pv pl rs s (omega arith, omega arith)) ∙ c .if4 .taken))
+    λ rs s.
+    left-fails (holderRight (a .t1) rs) (λ k. k + 1) 64 (l .i) (l .inv .1 rs s) (omega arith)
+    (held-placed (a .t1) rs (l .i + 1) h (rw e) (c .before .before .before .before .if1 .taken) (sym (placed-said (c .before .is-placed .ensures) rs s (omega arith, omega arith)) ∙ c .if4 .taken))
     ∙ holders-all (a .t1) rs
 
 add-i : tie.Need-add-i Inv-loop μ-loop
@@ -94,12 +94,12 @@ loop-again c =
     let h = getD (a .t1 .holder) (l .i) 0 in
     let k : holderOf (a .t1) (l .i + 1) ≡ h = rw e in (
       omega arith,
-      λ nx pv pl rs s.
-          left-passes (holderRight (a .t1) rs) (λ k. k + 1) 64 (l .i) (l .inv .1 nx pv pl rs s) (omega arith)
+      λ rs s.
+          left-passes (holderRight (a .t1) rs) (λ k. k + 1) 64 (l .i) (l .inv .1 rs s) (omega arith)
           (⊎-elim
           (λ w.
           held-well (a .t1) rs (l .i + 1) h k (w .0 .taken) (sym (open-unit (a .t1) h (omega arith) (omega arith)) ∙ not-false _ (w .2 .left))
-          (sym (placed-said (w .3 .ensures) nx pv pl rs s (omega arith, omega arith)) ∙ w .4 .left))
+          (sym (placed-said (w .3 .ensures) rs s (omega arith, omega arith)) ∙ w .4 .left))
           (λ w. held-none (a .t1) rs (l .i + 1) h k (w .left))
           (c .if1 .came)),
     )
@@ -108,7 +108,7 @@ returns-4 : tie.Need-returns-4 Inv-loop μ-loop
 returns-4 c =
     let l = c .before .loop in
     let a = c .before .before .args in
-    λ nx pv pl rs s. left-ends (holderRight (a .t1) rs) (λ k. k + 1) 64 (l .i) (l .inv .1 nx pv pl rs s) (omega arith) ∙ holders-all (a .t1) rs
+    λ rs s. left-ends (holderRight (a .t1) rs) (λ k. k + 1) 64 (l .i) (l .inv .1 rs s) (omega arith) ∙ holders-all (a .t1) rs
 
 pub holders-right-spec : {M : Type 1} → statement M
 holders-right-spec =

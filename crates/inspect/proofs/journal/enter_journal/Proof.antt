@@ -5,18 +5,18 @@ use Prim.Native.Nat.{ℕ, _+_, _-_, _*_, _≤_}
 use native.Mathlib.Omega.{arith}
 use borrow.Author.Tests.{not-true, not-false}
 use Rattle.lists.specs.State.{State}
-use Rattle.lists.specs.Tables.{tables, Shows}
+use Rattle.lists.specs.Tables.{Shows, tablesIn}
 use Rattle.inspect.proofs.Overlaying.{Laid, laid-none, laid-turn, laid-all}
 use borrow.Author.Needs.{needs}
 use Rattle.inspect.proofs.journal.enter_journal.Statement.{statement}
 use Rattle.inspect.proofs.journal.enter_journal.Tie as tie
 
 abbrev Inv-loop : tie.InvT-loop
-Inv-loop next₀ prev₀ owner₀ place₀ u unit first every₀ k₀ next prev owner place every k =
-    (k ≤ unit .len) × ((s : State ℕ) → Shows (tables next₀ prev₀ owner₀ place₀) (s .lists) → Laid unit u s every k (tables next prev owner place))
+Inv-loop nodes₀ u unit first every₀ k₀ nodes every k =
+    (k ≤ unit .len) × ((s : State ℕ) → Shows (tablesIn nodes₀) (s .lists) → Laid unit u s every k (tablesIn nodes))
 
 abbrev μ-loop : tie.MeasureT-loop
-μ-loop next₀ prev₀ owner₀ place₀ u unit first every₀ k₀ next prev owner place every k = unit .len - k
+μ-loop nodes₀ u unit first every₀ k₀ nodes every k = unit .len - k
 
 sub-first : tie.Need-sub-first Inv-loop μ-loop
 sub-first c = search needs
@@ -60,14 +60,14 @@ loop-less c = search needs
 loop-again : tie.Need-loop-again Inv-loop μ-loop
 loop-again c =
     let a = c .before .act in
-    let o = c .before .before .before .before .before .before .before .before .before in (
+    let o = c .before .before .before .before .before .before in (
       omega arith,
       λ s h.
           laid-turn _ _ s (o .before .pre .3) _ (a .result) _ (o .loop .k) (1057 + (o .before .args .u - 1) * 15 + o .loop .k)
-          (tables (o .loop .next) (o .loop .prev) (o .loop .owner) (o .loop .place))
-          (tables (a .last .0) (a .last .1 .0) (a .last .1 .1 .0) (a .last .1 .1 .1 .0)) (omega arith) (omega arith)
+          (tablesIn (o .loop .nodes))
+          (tablesIn (a .last .0)) (omega arith) (omega arith)
           (⊎-elim (λ w. inl (not-true (a .result) (w .0 .taken), w .1)) (λ w. inr (not-false (a .result) (w .0 .left), w .1)) (c .if1 .came))
-          (rw (c .before .before .before .before .before .before .fields-of .ensures) at (a .ensures))
+          (rw (c .before .before .before .fields-of .ensures) at (a .ensures))
           (o .loop .inv .1 s h),
     )
 

@@ -3,7 +3,7 @@ use mathlib.Core.Path.{sym, _∙_}
 use mathlib.Core.List.{[]}
 use native.Mathlib.Omega.{arith}
 use borrow.Author.Tests.{not-true, not-false}
-use Rattle.lists.specs.Tables.{Tables, tables}
+use Rattle.lists.specs.Tables.{Tables, tables, tablesIn}
 use Rattle.lists.proofs.Basic.{eqb-true, eqb-neq}
 use Rattle.disk.specs.Disk.{disk}
 use Rattle.inspect.proofs.Looking.{unit-lawful, open-range, look-length, look-unsound, look-persistent, look-no-stream, look-committed, look-closed, look-unit}
@@ -23,7 +23,7 @@ enum-told c = search needs
 
 returns : tie.Need-returns
 returns c =
-    let s = c .before .before .before .before .before .before .before .before .before .before .args in
+    let s = c .before .before .before .before .before .before .before .args in
     let d = disk (s .card .now) (s .queue-data .now) (s .journal-data .now) (s .t4) in
     look-length (s .looked) d (s .v) (rw (c .enum-told .given .1) at (c .before .before .examine .ensures)) any
 
@@ -32,7 +32,7 @@ enum-told-2 c = search needs
 
 returns-2 : tie.Need-returns-2
 returns-2 c =
-    let s = c .before .before .before .before .before .before .before .before .before .before .args in
+    let s = c .before .before .before .before .before .before .before .args in
     let d = disk (s .card .now) (s .queue-data .now) (s .journal-data .now) (s .t4) in
     let e = rw (c .enum-told2 .given .1) at (c .before .before .examine .ensures) in
     look-unsound (s .looked) d (s .v) (e .0) (e .1) any
@@ -43,23 +43,23 @@ enum-told-3 c = search needs
 returns-3 : tie.Need-returns-3
 returns-3 c =
     let x = c .before .before .before .before in
-    let s = x .before .before .before .before .before .before .before .before .args in
+    let s = x .before .before .before .before .before .args in
     let d = disk (s .card .now) (s .queue-data .now) (s .journal-data .now) (s .t4) in
     look-persistent (s .looked) d (s .v) _ _ (rw (c .before .before .enum-told3 .given .1) at (x .examine .ensures)) (eqb-true (s .v) 5 (c .before .if1 .taken)) (c .if2 .taken)
 
 returns-4 : tie.Need-returns-4
 returns-4 c =
     let x = c .before .before .before .before in
-    let s = x .before .before .before .before .before .before .before .before .args in
+    let s = x .before .before .before .before .before .args in
     let d = disk (s .card .now) (s .queue-data .now) (s .journal-data .now) (s .t4) in
     let m = x .examine .last .1 .1 .1 .1 .1 in
-    look-no-stream (s .looked) d (s .v) _ (tables (m .0) (m .1 .0) (m .1 .1 .0) (m .1 .1 .1 .0))
+    look-no-stream (s .looked) d (s .v) _ (tablesIn (m .0))
     (rw (c .before .before .enum-told3 .given .1) at (x .examine .ensures)) (eqb-true (s .v) 5 (c .before .if1 .taken)) (c .if2 .left) any
 
 returns-5 : tie.Need-returns-5
 returns-5 c =
     let x = c .before .before .before .before in
-    let s = x .before .before .before .before .before .before .before .before .args in
+    let s = x .before .before .before .before .before .args in
     let d = disk (s .card .now) (s .queue-data .now) (s .journal-data .now) (s .t4) in
     look-committed (s .looked) d (s .v) _ _ (rw (c .before .before .enum-told3 .given .1) at (x .examine .ensures)) (c .if3 .taken)
 
@@ -71,9 +71,9 @@ returns-6 c =
     let o = c .before in
     let g = o .before .before .before in
     let x = g .before .before in
-    let s = x .before .before .before .before .before .before .before .before .args in
+    let s = x .before .before .before .before .before .args in
     let m = x .examine .last .1 .1 .1 .1 .1 in
-    look-closed (s .looked) (disk (s .card .now) (s .queue-data .now) (s .journal-data .now) (s .t4)) (s .v) _ (tables (m .0) (m .1 .0) (m .1 .1 .0) (m .1 .1 .1 .0))
+    look-closed (s .looked) (disk (s .card .now) (s .queue-data .now) (s .journal-data .now) (s .t4)) (s .v) _ (tablesIn (m .0))
     (rw (g .enum-told3 .given .1) at (x .examine .ensures)) (eqb-neq (s .v) 5 (o .before .before .if1 .left)) (o .before .if3 .left)
     (sym (o .is-open .ensures) ∙ not-true (o .is-open .result) (c .if4 .taken)) any
 
@@ -82,41 +82,41 @@ sub-enter-journal c = search needs
 
 mul-enter-journal : tie.Need-mul-enter-journal
 mul-enter-journal c =
-    let o = c .before .before .before .before .before in
-    let s = o .before .before .before .before .before .before .before .before .before .before .before .before .before .args in
-    let r = open-range (s .t4) (s .v) (sym (o .is-open .ensures) ∙ not-false (o .is-open .result) (c .before .before .before .before .if4 .left)) in
+    let o = c .before .before in
+    let s = o .before .before .before .before .before .before .before .before .before .before .args in
+    let r = open-range (s .t4) (s .v) (sym (o .is-open .ensures) ∙ not-false (o .is-open .result) (c .before .if4 .left)) in
     omega arith
 
 element-copy-out-enter-journal : tie.Need-element-copy-out-enter-journal
 element-copy-out-enter-journal c =
-    let o = c .before .before .before .before .before in
-    let s = o .before .before .before .before .before .before .before .before .before .before .before .before .before .args in
-    let r = open-range (s .t4) (s .v) (sym (o .is-open .ensures) ∙ not-false (o .is-open .result) (c .before .before .before .before .if4 .left)) in
+    let o = c .before .before in
+    let s = o .before .before .before .before .before .before .before .before .before .before .args in
+    let r = open-range (s .t4) (s .v) (sym (o .is-open .ensures) ∙ not-false (o .is-open .result) (c .before .if4 .left)) in
     omega arith
 
 enter-journal-requires : tie.Need-enter-journal-requires
 enter-journal-requires c κs =
-    let o = c .before .before .before .before .before .before in
+    let o = c .before .before .before in
     let g = o .before .before .before in
     let x = g .before .before in
-    let s = x .before .before .before .before .before .before .before .before .args in
-    let r = open-range (s .t4) (s .v) (sym (o .is-open .ensures) ∙ not-false (o .is-open .result) (c .before .before .before .before .before .if4 .left)) in
+    let s = x .before .before .before .before .before .args in
+    let r = open-range (s .t4) (s .v) (sym (o .is-open .ensures) ∙ not-false (o .is-open .result) (c .before .before .if4 .left)) in
     let a = rw (g .enum-told3 .given .1) at (x .examine .ensures) in
     let k = unit-lawful (disk (s .card .now) (s .queue-data .now) (s .journal-data .now) (s .t4)) (s .v) (a .lengths) (a .sound) (r .0) (r .1) in
     (k .room, r .0, r .1, k .lawful)
 
 returns-7 : tie.Need-returns-7
 returns-7 c =
-    let o = c .before .before .before .before .before .before .before in
+    let o = c .before .before .before .before in
     let g = o .before .before .before in
     let x = g .before .before in
-    let s = x .before .before .before .before .before .before .before .before .args in
+    let s = x .before .before .before .before .before .args in
     let m = x .examine .last .1 .1 .1 .1 .1 in
     let n = c .enter-journal .last in
-    look-unit (s .looked) (disk (s .card .now) (s .queue-data .now) (s .journal-data .now) (s .t4)) (s .v) _ (tables (m .0) (m .1 .0) (m .1 .1 .0) (m .1 .1 .1 .0))
+    look-unit (s .looked) (disk (s .card .now) (s .queue-data .now) (s .journal-data .now) (s .t4)) (s .v) _ (tablesIn (m .0))
     (rw (g .enum-told3 .given .1) at (x .examine .ensures)) (eqb-neq (s .v) 5 (o .before .before .if1 .left)) (o .before .if3 .left)
-    (sym (o .is-open .ensures) ∙ not-false (o .is-open .result) (c .before .before .before .before .before .before .if4 .left))
-    (c .enter-journal .result) (tables (n .0) (n .1 .0) (n .1 .1 .0) (n .1 .1 .1 .0)) (c .enter-journal .ensures)
+    (sym (o .is-open .ensures) ∙ not-false (o .is-open .result) (c .before .before .before .if4 .left))
+    (c .enter-journal .result) (tablesIn (n .0)) (c .enter-journal .ensures)
 
 pub look-spec : {M : Type 1} → statement M
 look-spec =

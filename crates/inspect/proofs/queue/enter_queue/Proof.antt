@@ -11,17 +11,17 @@ use Rattle.inspect.proofs.queue.enter_queue.Statement.{statement}
 use Rattle.inspect.proofs.queue.enter_queue.Tie as tie
 
 abbrev Inv-loop : tie.InvT-loop
-Inv-loop next₀ prev₀ owner₀ place₀ members₀ locations₀ run rec members-in-run₀ k₀ next prev owner place members locations members-in-run k =
+Inv-loop nodes₀ members₀ run rec members-in-run₀ k₀ nodes members members-in-run k =
     (k ≤ rec .len) × (members-in-run ≤ run + k)
-    × ((x : Reader ℕ) → Kept (lent next₀ prev₀ owner₀ place₀ members₀ locations₀) run x → FedUpTo rec x k members-in-run (lent next prev owner place members locations))
+    × ((x : Reader ℕ) → Kept (lent nodes₀ members₀) run x → FedUpTo rec x k members-in-run (lent nodes members))
 
 abbrev μ-loop : tie.MeasureT-loop
-μ-loop next₀ prev₀ owner₀ place₀ members₀ locations₀ run rec members-in-run₀ k₀ next prev owner place members locations members-in-run k = rec .len - k
+μ-loop nodes₀ members₀ run rec members-in-run₀ k₀ nodes members members-in-run k = rec .len - k
 
 loop-holds : tie.Need-loop-holds Inv-loop μ-loop
 loop-holds c =
     let s = c .args in
-    (omega arith, omega arith, λ x h. fed-none (s .t7) x (s .run) (lent (s .next .now) (s .prev .now) (s .owner .now) (s .place .now) (s .members .now) (s .locations .now)) h)
+    (omega arith, omega arith, λ x h. fed-none (s .t3) x (s .run) (lent (s .nodes .now) (s .members .now)) h)
 
 add-at : tie.Need-add-at Inv-loop μ-loop
 add-at c = omega arith
@@ -61,7 +61,7 @@ returns-2 : tie.Need-returns-2 Inv-loop μ-loop
 returns-2 c =
     λ x h.
     let f = c .before .before .feed in
-    let i = c .before .before .before .before .before .before .before .before .before in
+    let i = c .before .before .before .before .before in
     let l = i .before .before .before .before .loop in
     let a = i .before .is-legal in
     let w = l .inv .2 x h in
@@ -77,12 +77,12 @@ loop-less c = omega arith
 loop-again : tie.Need-loop-again Inv-loop μ-loop
 loop-again c =
     let f = c .before .before .before .feed in
-    let i = c .before .before .before .before .before .before .before .before .before .before in
+    let i = c .before .before .before .before .before .before in
     let l = i .before .before .before .before .loop in
     let a = i .before .is-legal in
     let legal = sym (a .ensures) ∙ not-false (a .result) (i .if1 .left) in
     let told = c .before .n .given .1 in
-    let t = lent (f .last .0) (f .last .1 .0) (f .last .1 .1 .0) (f .last .1 .1 .1 .0) (f .last .1 .1 .1 .1 .0) (f .last .1 .1 .1 .1 .1 .0) in (
+    let t = lent (f .last .0) (f .last .1 .0) in (
       omega arith,
       omega (arith, rw told at (f .ensures .short)),
       λ x h.

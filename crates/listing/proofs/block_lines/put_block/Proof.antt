@@ -21,8 +21,8 @@ returns c =
     let t = c .before .is-placed in
     let a = c .before .before .before .before .args in (
       refl,
-      λ nx pv rs w g.
-          let u : placed (a .block) rs ≡ false = sym (placed-said (t .ensures) nx pv (a .place .now) rs w g) ∙ not-true (t .result) (c .if1 .taken) in
+      λ rs w g.
+          let u : placed (a .block) rs ≡ false = sym (placed-said (t .ensures) rs w g) ∙ not-true (t .result) (c .if1 .taken) in
           rw (block-none rs (sumAt (a .card .now)) (a .block) (content-none (a .block) rs u)) (puts-none (a .out .now) (a .at)),
     )
 
@@ -67,9 +67,9 @@ returns-2 c =
     let a = i .before .before .before .before .args in (
       puts-length (e .put-byte .ensures) ∙ puts-length (d .put-decimal2 .ensures) ∙ puts-length (d .before .before .before .before .put-bytes2 .ensures)
           ∙ puts-length (d .before .before .before .before .before .before .before .before .before .put-decimal .ensures) ∙ puts-length (d .before .before .before .before .before .before .before .before .before .before .before .before .before .put-bytes .ensures),
-      λ nx pv rs w g.
-          let t : placed (a .block) rs ≡ true = sym (placed-said (i .before .is-placed .ensures) nx pv (a .place .now) rs w g) ∙ not-false (i .before .is-placed .result) (i .if1 .left) in
-          rw (block-some rs (sumAt (a .card .now)) (a .block) (l .result) (location-said (l .ensures) nx pv (a .owner .now) rs w t), ← m .ensures)
+      λ rs w g.
+          let t : placed (a .block) rs ≡ true = sym (placed-said (i .before .is-placed .ensures) rs w g) ∙ not-false (i .before .is-placed .result) (i .if1 .left) in
+          rw (block-some rs (sumAt (a .card .now)) (a .block) (l .result) (location-said (l .ensures) rs w t), ← m .ensures)
           (puts-more
           (puts-more
           (puts-more

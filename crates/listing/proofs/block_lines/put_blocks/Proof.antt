@@ -3,26 +3,27 @@ use mathlib.Core.Path.{_≡_, refl, _∙_}
 use Prim.Native.Nat.{_-_, _≤_}
 use native.Mathlib.Omega.{arith}
 use lib.ListN.{length}
+use Rattle.lists.specs.Tables.{tablesIn, OfShown}
 use Rattle.lists.specs.Basic.{from, joined}
 use Rattle.text.specs.Written.{Puts}
 use Rattle.text.proofs.Writing.{puts-none, puts-more}
 use Rattle.listing.specs.Listing.{blockPart, blockLines}
-use Rattle.listing.specs.Shown.{OfContents, sumAt}
+use Rattle.listing.specs.Shown.{sumAt}
 use Rattle.listing.proofs.Lines.{lines-more}
 use Rattle.listing.proofs.block_lines.put_blocks.Statement.{statement}
 use Rattle.listing.proofs.block_lines.put_blocks.Tie as tie
 
 abbrev Inv-loop : tie.InvT-loop
-Inv-loop out₀ at card owner place position₀ block₀ out position block =
+Inv-loop out₀ at card nodes position₀ block₀ out position block =
     (1 ≤ block) × (block ≤ 65) × (length out ≡ length out₀)
-    × OfContents owner place (λ rs. Puts out₀ at (joined (from (blockPart (sumAt card) rs) 1 (block - 1))) out position)
+    × OfShown (tablesIn nodes) (λ rs. Puts out₀ at (joined (from (blockPart (sumAt card) rs) 1 (block - 1))) out position)
 
 abbrev μ-loop : tie.MeasureT-loop
-μ-loop out₀ at card owner place position₀ block₀ out position block = 65 - block
+μ-loop out₀ at card nodes position₀ block₀ out position block = 65 - block
 
 loop-holds : tie.Need-loop-holds Inv-loop μ-loop
 unfolding joined from
-loop-holds c = let a = c .before .before .args in (omega arith, omega arith, refl, λ nx pv rs w. puts-none (a .out .now) (a .at))
+loop-holds c = let a = c .before .before .args in (omega arith, omega arith, refl, λ rs w. puts-none (a .out .now) (a .at))
 
 put-block-requires : tie.Need-put-block-requires Inv-loop μ-loop
 put-block-requires c κs = tt
@@ -41,9 +42,9 @@ loop-again c =
       omega arith,
       omega arith,
       d .put-block .ensures .0 ∙ s .inv .2,
-      λ nx pv rs w.
+      λ rs w.
           rw (lines-more (blockPart (sumAt card) rs) (s .block) (omega arith))
-          (puts-more (s .inv .3 nx pv rs w) (d .put-block .ensures .1 nx pv rs w (omega arith, omega arith))),
+          (puts-more (s .inv .3 rs w) (d .put-block .ensures .1 rs w (omega arith, omega arith))),
     )
 
 same-length : tie.Need-same-length Inv-loop μ-loop
@@ -54,7 +55,7 @@ unfolding blockLines
 returns c =
     let s = c .before .loop in
     let e : s .block - 1 ≡ 64 = omega arith in
-    (s .inv .2, λ nx pv rs w. rw e at (s .inv .3 nx pv rs w))
+    (s .inv .2, λ rs w. rw e at (s .inv .3 rs w))
 
 pub put-blocks-spec : {M : Type 1} → statement M
 put-blocks-spec =

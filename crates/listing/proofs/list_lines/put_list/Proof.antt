@@ -18,7 +18,7 @@ returns : tie.Need-returns
 returns c =
     let t = c .before .is-taken in
     let a = c .before .before .before .args in
-    (refl, λ pv pl rs w g. rw (list-none rs (a .list) (sym (taken-said (t .ensures) (a .next .now) pv pl rs w g) ∙ not-true (t .result) (c .if1 .taken))) (puts-none (a .out .now) (a .at)))
+    (refl, λ rs w g. rw (list-none rs (a .list) (sym (taken-said (t .ensures) rs w g) ∙ not-true (t .result) (c .if1 .taken))) (puts-none (a .out .now) (a .at)))
 
 slice-aggregate-put-bytes : tie.Need-slice-aggregate-put-bytes
 slice-aggregate-put-bytes c = search needs
@@ -50,15 +50,15 @@ returns-2 c =
     let a = i .before .before .before .args in (
       puts-length (e .put-byte2 .ensures) ∙ d .put-numbers .ensures .0 ∙ puts-length (d .before .before .before .before .put-byte .ensures)
           ∙ puts-length (d .before .before .before .before .before .before .before .before .put-decimal .ensures) ∙ puts-length (d .before .before .before .before .before .before .before .before .before .before .before .before .put-bytes .ensures),
-      λ pv pl rs w g.
-          let t : taken (a .list) rs ≡ true = sym (taken-said (i .before .is-taken .ensures) (a .next .now) pv pl rs w g) ∙ not-false (i .before .is-taken .result) (i .if1 .left) in
+      λ rs w g.
+          let t : taken (a .list) rs ≡ true = sym (taken-said (i .before .is-taken .ensures) rs w g) ∙ not-false (i .before .is-taken .result) (i .if1 .left) in
           rw (list-some rs (a .list) t)
           (puts-more
           (puts-more
           (puts-more
           (puts-more (d .before .before .before .before .before .before .before .before .before .before .before .before .put-bytes .ensures) (d .before .before .before .before .before .before .before .before .put-decimal .ensures))
           (d .before .before .before .before .put-byte .ensures))
-          (d .put-numbers .ensures .1 pv (a .owner .now) pl rs w t))
+          (d .put-numbers .ensures .1 rs w t))
           (e .put-byte2 .ensures)),
     )
 

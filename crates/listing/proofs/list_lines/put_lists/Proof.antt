@@ -3,26 +3,26 @@ use mathlib.Core.Path.{_≡_, refl, _∙_}
 use Prim.Native.Nat.{_-_, _≤_}
 use native.Mathlib.Omega.{arith}
 use lib.ListN.{length}
+use Rattle.lists.specs.Tables.{tablesIn, OfShown}
 use Rattle.lists.specs.Basic.{from, joined}
 use Rattle.text.specs.Written.{Puts}
 use Rattle.text.proofs.Writing.{puts-none, puts-more}
 use Rattle.listing.specs.Listing.{listPart, listLines}
-use Rattle.listing.specs.Shown.{OfLinks}
 use Rattle.listing.proofs.Lines.{lines-more}
 use Rattle.listing.proofs.list_lines.put_lists.Statement.{statement}
 use Rattle.listing.proofs.list_lines.put_lists.Tie as tie
 
 abbrev Inv-loop : tie.InvT-loop
-Inv-loop out₀ at next owner position₀ list₀ out position list =
+Inv-loop out₀ at nodes position₀ list₀ out position list =
     (1 ≤ list) × (list ≤ 17) × (length out ≡ length out₀)
-    × OfLinks next owner (λ rs. Puts out₀ at (joined (from (listPart rs) 1 (list - 1))) out position)
+    × OfShown (tablesIn nodes) (λ rs. Puts out₀ at (joined (from (listPart rs) 1 (list - 1))) out position)
 
 abbrev μ-loop : tie.MeasureT-loop
-μ-loop out₀ at next owner position₀ list₀ out position list = 17 - list
+μ-loop out₀ at nodes position₀ list₀ out position list = 17 - list
 
 loop-holds : tie.Need-loop-holds Inv-loop μ-loop
 unfolding joined from
-loop-holds c = let a = c .before .args in (omega arith, omega arith, refl, λ pv pl rs w. puts-none (a .out .now) (a .at))
+loop-holds c = let a = c .before .args in (omega arith, omega arith, refl, λ rs w. puts-none (a .out .now) (a .at))
 
 put-list-requires : tie.Need-put-list-requires Inv-loop μ-loop
 put-list-requires c κs = tt
@@ -40,9 +40,9 @@ loop-again c =
       omega arith,
       omega arith,
       d .put-list .ensures .0 ∙ s .inv .2,
-      λ pv pl rs w.
+      λ rs w.
           rw (lines-more (listPart rs) (s .list) (omega arith))
-          (puts-more (s .inv .3 pv pl rs w) (d .put-list .ensures .1 pv pl rs w (omega arith, omega arith))),
+          (puts-more (s .inv .3 rs w) (d .put-list .ensures .1 rs w (omega arith, omega arith))),
     )
 
 same-length : tie.Need-same-length Inv-loop μ-loop
@@ -53,7 +53,7 @@ unfolding listLines
 returns c =
     let s = c .before .loop in
     let e : s .list - 1 ≡ 16 = omega arith in
-    (s .inv .2, λ pv pl rs w. rw e at (s .inv .3 pv pl rs w))
+    (s .inv .2, λ rs w. rw e at (s .inv .3 rs w))
 
 pub put-lists-spec : {M : Type 1} → statement M
 put-lists-spec =

@@ -6,18 +6,18 @@ use native.Mathlib.Omega.{arith}
 use lib.ListN.{length}
 use Rattle.lists.proofs.Lookup.{block-said}
 use Rattle.lists.specs.State.{taken}
-use Rattle.lists.specs.Tables.{tables, OfNext}
+use Rattle.lists.specs.Tables.{OfShown, tablesIn}
 use Rattle.text.proofs.Writing.{puts-length}
 use Rattle.listing.proofs.Blocks.{Putting, putting-none, putting-more, putting-end, putting-full}
 use Rattle.listing.proofs.list_lines.put_numbers.Statement.{statement}
 use Rattle.listing.proofs.list_lines.put_numbers.Tie as tie
 
 abbrev Inv-loop : tie.InvT-loop
-Inv-loop out₀ at next list position₀ block₀ i₀ out position block i =
-    (i ≤ 64) × (length out ≡ length out₀) × OfNext next (λ rs. taken list rs ≡ true → Putting out₀ at rs list i out position block)
+Inv-loop out₀ at nodes list position₀ block₀ i₀ out position block i =
+    (i ≤ 64) × (length out ≡ length out₀) × OfShown (tablesIn nodes) (λ rs. taken list rs ≡ true → Putting out₀ at rs list i out position block)
 
 abbrev μ-loop : tie.MeasureT-loop
-μ-loop out₀ at next list position₀ block₀ i₀ out position block i = 64 - i
+μ-loop out₀ at nodes list position₀ block₀ i₀ out position block i = 64 - i
 
 block-after-requires : tie.Need-block-after-requires Inv-loop μ-loop
 block-after-requires c κs = tt
@@ -25,7 +25,7 @@ block-after-requires c κs = tt
 loop-holds : tie.Need-loop-holds Inv-loop μ-loop
 loop-holds c =
     let a = c .before .before .args in
-    (omega arith, refl, λ pv ow pl rs w h. putting-none (a .out .now) (a .at) rs (a .list) (c .block-after .result) (block-said (c .block-after .ensures) pv ow pl rs w h refl))
+    (omega arith, refl, λ rs w h. putting-none (a .out .now) (a .at) rs (a .list) (c .block-after .result) (block-said (c .block-after .ensures) rs w h refl))
 
 same-length : tie.Need-same-length Inv-loop μ-loop
 same-length c = c .before .before .loop .inv .1
@@ -34,7 +34,7 @@ returns : tie.Need-returns Inv-loop μ-loop
 returns c =
     let s = c .before .before .loop in
     let a = c .before .before .before .before .before .args in
-    (s .inv .1, λ pv ow pl rs w h. putting-end (tables (a .next .now) pv ow pl) rs w (a .list) (s .inv .2 pv ow pl rs w h) (c .if1 .taken))
+    (s .inv .1, λ rs w h. putting-end (tablesIn (a .nodes .now)) rs w (a .list) (s .inv .2 rs w h) (c .if1 .taken))
 
 put-number-requires : tie.Need-put-number-requires Inv-loop μ-loop
 put-number-requires c κs = tt
@@ -55,8 +55,8 @@ loop-again c =
     let a = d .before .before .before .before .before .before .before .args in (
       omega arith,
       puts-length (d .put-number .ensures) ∙ s .inv .1,
-      λ pv ow pl rs w h. putting-more (tables (a .next .now) pv ow pl) rs w (a .list) (s .inv .2 pv ow pl rs w h)
-          (d .before .before .if1 .left) (d .put-number .ensures) (λ k. block-said (c .block-after2 .ensures) pv ow pl rs w h k),
+      λ rs w h. putting-more (tablesIn (a .nodes .now)) rs w (a .list) (s .inv .2 rs w h)
+          (d .before .before .if1 .left) (d .put-number .ensures) (λ k. block-said (c .block-after2 .ensures) rs w h k),
     )
 
 same-length-2 : tie.Need-same-length-2 Inv-loop μ-loop
@@ -66,7 +66,7 @@ returns-2 : tie.Need-returns-2 Inv-loop μ-loop
 returns-2 c =
     let s = c .before .loop in
     let a = c .before .before .before .before .args in
-    (s .inv .1, λ pv ow pl rs w h. putting-full (tables (a .next .now) pv ow pl) rs w (a .list) (s .inv .2 pv ow pl rs w h) (omega arith))
+    (s .inv .1, λ rs w h. putting-full (tablesIn (a .nodes .now)) rs w (a .list) (s .inv .2 rs w h) (omega arith))
 
 pub put-numbers-spec : {M : Type 1} → statement M
 put-numbers-spec =

@@ -24,10 +24,10 @@ returns c =
     let h = l .before .before .before .before in
     let a = h .before .before .before .before .args in (
       b .put-blocks .ensures .0 ∙ l .put-lists .ensures .0 ∙ puts-length (h .put-head .ensures),
-      λ pv rs w.
+      λ rs w.
           puts-more
-          (puts-more (h .put-head .ensures) (l .put-lists .ensures .1 pv (a .place .now) rs w))
-          (b .put-blocks .ensures .1 (a .next .now) pv rs w),
+          (puts-more (h .put-head .ensures) (l .put-lists .ensures .1 rs w))
+          (b .put-blocks .ensures .1 rs w),
     )
 
 pub put-state-spec : {M : Type 1} → statement M

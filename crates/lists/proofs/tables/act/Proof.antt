@@ -1,4 +1,4 @@
--- Each arm is the function of its kind; the tables that it is not lent stay. Assumes nothing.
+-- Each arm is the function of its kind. Assumes nothing.
 use Rattle.lists.specs.Tables.{ofKind}
 use Rattle.lists.proofs.Acting.{put-first, no-kind, did-none}
 use borrow.Author.Needs.{needs}
@@ -28,27 +28,27 @@ delete-list-requires c κs = search needs
 
 returns : tie.Need-returns
 unfolding ofKind
-returns c = rw (c .before .before .before .before .match .keys1) (c .take .ensures (c .before .before .before .before .before .args .place .now))
+returns c = rw (c .before .before .match .keys1) (c .take .ensures)
 
 returns-2 : tie.Need-returns-2
 unfolding ofKind
-returns-2 c = rw (c .before .before .before .before .before .before .match .keys2) (put-first _ _ _ _ _ (rw (c .before .list-node .ensures) at (c .put .ensures)))
+returns-2 c = rw (c .before .before .before .match .keys2) (put-first _ _ _ _ _ (rw (c .before .list-node .ensures) at (c .put .ensures)))
 
 returns-3 : tie.Need-returns-3
 unfolding ofKind
-returns-3 c = rw (c .before .before .before .before .before .match .keys3) (c .put2 .ensures)
+returns-3 c = rw (c .before .before .match .keys3) (c .put2 .ensures)
 
 returns-4 : tie.Need-returns-4
 unfolding ofKind
-returns-4 c = rw (c .before .before .before .match .keys4) (c .write-block .ensures (c .before .before .before .before .args .next .now) (c .before .before .before .before .args .prev .now))
+returns-4 c = rw (c .before .before .match .keys4) (c .write-block .ensures)
 
 returns-5 : tie.Need-returns-5
 unfolding ofKind
-returns-5 c = rw (c .before .before .before .before .match .keys5) (c .delete-block .ensures (c .before .before .before .before .before .args .place .now))
+returns-5 c = rw (c .before .before .match .keys5) (c .delete-block .ensures)
 
 returns-6 : tie.Need-returns-6
 unfolding ofKind
-returns-6 c = rw (c .before .before .before .before .match .keys6) (c .delete-list .ensures (c .before .before .before .before .before .args .place .now))
+returns-6 c = rw (c .before .before .match .keys6) (c .delete-list .ensures)
 
 returns-7 : tie.Need-returns-7
 returns-7 c =

@@ -6,37 +6,40 @@ use borrow.Author.Needs.{needs}
 use Rattle.lists.proofs.tables.delete_block.Statement.{statement}
 use Rattle.lists.proofs.tables.delete_block.Tie as tie
 
-element-copy-out-if1 : tie.Need-element-copy-out-if1
-element-copy-out-if1 c = search needs
+owner-of-requires : tie.Need-owner-of-requires
+owner-of-requires c κs = search needs
 
 returns : tie.Need-returns
 unfolding fits
-returns c = λ pl. did-not _ _ (rw (eq-true _ _ (c .if1 .taken)))
+returns c = did-not _ _ (rw (eq-true _ _ (rw (c .before .owner-of .ensures) at (c .if1 .taken))))
 
-element-copy-out-x : tie.Need-element-copy-out-x
-element-copy-out-x c = search needs
+prev-of-requires : tie.Need-prev-of-requires
+prev-of-requires c κs = search needs
 
-element-copy-out-y : tie.Need-element-copy-out-y
-element-copy-out-y c = search needs
+next-of-requires : tie.Need-next-of-requires
+next-of-requires c κs = search needs
 
 link-requires : tie.Need-link-requires
 link-requires c κs = search needs
 
-element-write-owner : tie.Need-element-write-owner
-element-write-owner c = search needs
+set-owner-requires : tie.Need-set-owner-requires
+set-owner-requires c κs = search needs
 
 returns-2 : tie.Need-returns-2
 unfolding fits done cutBetween
-returns-2 c = λ pl. did-so _ _ _ (rw (eqb-false _ _ (c .before .before .before .before .before .if1 .left))) (rw (c .link .ensures .0, c .link .ensures .1))
+returns-2 c =
+    did-so _ _ _
+    (rw (eqb-false _ _ (rw (c .before .before .before .before .before .before .before .before .before .owner-of .ensures) at (c .before .before .before .before .before .before .before .before .if1 .left))))
+    (rw (c .set-owner .ensures, c .before .before .link .ensures, c .before .before .before .before .before .before .prev-of .ensures, c .before .before .before .before .next-of .ensures))
 
 pub delete-block-spec : {M : Type 1} → statement M
 delete-block-spec =
     tie.close
     (tie.spec
-    element-copy-out-if1
+    owner-of-requires
     returns
-    element-copy-out-x
-    element-copy-out-y
+    prev-of-requires
+    next-of-requires
     link-requires
-    element-write-owner
+    set-owner-requires
     returns-2)

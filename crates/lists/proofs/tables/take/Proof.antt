@@ -9,21 +9,15 @@ use Rattle.lists.proofs.tables.take.Tie as tie
 list-node-requires : tie.Need-list-node-requires
 list-node-requires c κs = search needs
 
-cast-if1 : tie.Need-cast-if1
-cast-if1 c = search needs
-
-element-copy-out-if1 : tie.Need-element-copy-out-if1
-element-copy-out-if1 c = search needs
+owner-of-requires : tie.Need-owner-of-requires
+owner-of-requires c κs = search needs
 
 returns : tie.Need-returns
 unfolding fits
-returns c = λ pl. did-not _ _ (eqb-false _ _ (rw (c .before .before .list-node .ensures) at (c .if1 .taken)))
+returns c = did-not _ _ (eqb-false _ _ (rw (c .before .owner-of .ensures, c .before .before .before .list-node .ensures) at (c .if1 .taken)))
 
-cast-last : tie.Need-cast-last
-cast-last c = search needs
-
-element-copy-out-last : tie.Need-element-copy-out-last
-element-copy-out-last c = search needs
+prev-of-requires : tie.Need-prev-of-requires
+prev-of-requires c κs = search needs
 
 insert-requires : tie.Need-insert-requires
 insert-requires c κs = search needs
@@ -32,17 +26,15 @@ returns-2 : tie.Need-returns-2
 unfolding fits done
 returns-2 c =
     let n = c .before .before .before .before .before .before .before .list-node .ensures in
-    λ pl. did-so _ _ _ (eq-true _ _ (rw n at (c .before .before .before .before .before .if1 .left))) (rw n at (c .insert .ensures pl))
+    did-so _ _ _ (eq-true _ _ (rw (c .before .before .before .before .before .owner-of .ensures, n) at (c .before .before .before .before .if1 .left))) (rw (c .before .before .prev-of .ensures, n) at (c .insert .ensures))
 
 pub take-spec : {M : Type 1} → statement M
 take-spec =
     tie.close
     (tie.spec
     list-node-requires
-    cast-if1
-    element-copy-out-if1
+    owner-of-requires
     returns
-    cast-last
-    element-copy-out-last
+    prev-of-requires
     insert-requires
     returns-2)

@@ -1,5 +1,4 @@
 -- A block that is on some list gets its place. Assumes nothing.
-use mathlib.Core.Path.{refl}
 use Rattle.lists.specs.Tables.{fits, done, placeAt}
 use Rattle.lists.proofs.Basic.{eqb-false, eq-true}
 use Rattle.lists.proofs.Acting.{did-not, did-so}
@@ -7,23 +6,19 @@ use borrow.Author.Needs.{needs}
 use Rattle.lists.proofs.tables.write_block.Statement.{statement}
 use Rattle.lists.proofs.tables.write_block.Tie as tie
 
-element-copy-out-if1 : tie.Need-element-copy-out-if1
-element-copy-out-if1 c = search needs
+owner-of-requires : tie.Need-owner-of-requires
+owner-of-requires c κs = search needs
 
 returns : tie.Need-returns
 unfolding fits
-returns c = λ nx pv. did-not _ _ (rw (eq-true _ _ (c .if1 .taken)))
+returns c = did-not _ _ (rw (eq-true _ _ (rw (c .before .owner-of .ensures) at (c .if1 .taken))))
 
-mul-place : tie.Need-mul-place
-mul-place c = search needs
-
-element-write-place : tie.Need-element-write-place
-element-write-place c = search needs
+set-place-requires : tie.Need-set-place-requires
+set-place-requires c κs = search needs
 
 returns-2 : tie.Need-returns-2
 unfolding fits done placeAt
-returns-2 c = λ nx pv. did-so _ _ _ (rw (eqb-false _ _ (c .if1 .left))) refl
+returns-2 c = did-so _ _ _ (rw (eqb-false _ _ (rw (c .before .before .before .owner-of .ensures) at (c .before .before .if1 .left)))) (c .set-place .ensures)
 
 pub write-block-spec : {M : Type 1} → statement M
-write-block-spec =
-    tie.close (tie.spec element-copy-out-if1 returns mul-place element-write-place returns-2)
+write-block-spec = tie.close (tie.spec owner-of-requires returns set-place-requires returns-2)

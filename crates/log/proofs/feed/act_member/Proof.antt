@@ -4,14 +4,11 @@ use borrow.Author.Needs.{needs}
 use Rattle.log.proofs.feed.act_member.Statement.{statement}
 use Rattle.log.proofs.feed.act_member.Tie as tie
 
-mul-kind : tie.Need-mul-kind
-mul-kind c = search needs
+mul-i : tie.Need-mul-i
+mul-i c = search needs
 
 element-copy-out-kind : tie.Need-element-copy-out-kind
 element-copy-out-kind c = search needs
-
-mul-block : tie.Need-mul-block
-mul-block c = search needs
 
 add-block : tie.Need-add-block
 add-block c = search needs
@@ -19,17 +16,11 @@ add-block c = search needs
 element-copy-out-block : tie.Need-element-copy-out-block
 element-copy-out-block c = search needs
 
-mul-list : tie.Need-mul-list
-mul-list c = search needs
-
 add-list : tie.Need-add-list
 add-list c = search needs
 
 element-copy-out-list : tie.Need-element-copy-out-list
 element-copy-out-list c = search needs
-
-mul-predecessor : tie.Need-mul-predecessor
-mul-predecessor c = search needs
 
 add-predecessor : tie.Need-add-predecessor
 add-predecessor c = search needs
@@ -37,34 +28,43 @@ add-predecessor c = search needs
 element-copy-out-predecessor : tie.Need-element-copy-out-predecessor
 element-copy-out-predecessor c = search needs
 
-mul-location : tie.Need-mul-location
-mul-location c = search needs
+add-of-bytes : tie.Need-add-of-bytes
+add-of-bytes c = search needs
 
-element-copy-out-location : tie.Need-element-copy-out-location
-element-copy-out-location c = search needs
+element-copy-out-of-bytes : tie.Need-element-copy-out-of-bytes
+element-copy-out-of-bytes c = search needs
+
+add-of-bytes-2 : tie.Need-add-of-bytes-2
+add-of-bytes-2 c = search needs
+
+element-copy-out-of-bytes-2 : tie.Need-element-copy-out-of-bytes-2
+element-copy-out-of-bytes-2 c = search needs
+
+of-bytes-requires : tie.Need-of-bytes-requires
+of-bytes-requires c κs = search needs
 
 act-requires : tie.Need-act-requires
 act-requires c κs = search needs
 
 returns : tie.Need-returns
-returns c = λ d s w h. did-apply d _ _ _ s (w .ranged) h (rw (w .found) at (c .act .ensures))
+returns c = λ d s w h. did-apply d _ _ _ s (w .ranged) h (rw (c .before .before .of-bytes .ensures, w .found) at (c .act .ensures))
 
 pub act-member-spec : {M : Type 1} → statement M
 act-member-spec =
     tie.close
     (tie.spec
-    mul-kind
+    mul-i
     element-copy-out-kind
-    mul-block
     add-block
     element-copy-out-block
-    mul-list
     add-list
     element-copy-out-list
-    mul-predecessor
     add-predecessor
     element-copy-out-predecessor
-    mul-location
-    element-copy-out-location
+    add-of-bytes
+    element-copy-out-of-bytes
+    add-of-bytes-2
+    element-copy-out-of-bytes-2
+    of-bytes-requires
     act-requires
     returns)

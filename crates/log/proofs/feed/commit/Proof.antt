@@ -9,7 +9,7 @@ use lib.ListN.{drop, getD}
 use borrow.Author.Tests.{not-true, not-false}
 use Rattle.lists.specs.Change.{Change, takeList}
 use Rattle.lists.specs.State.{State, apply, applyAll}
-use Rattle.lists.specs.Tables.{tables, Shows, Represents}
+use Rattle.lists.specs.Tables.{tablesIn, Shows, Represents}
 use Rattle.log.specs.Reader.{Reader, lastOf}
 use Rattle.log.specs.Feed.{lent, Kept}
 use Rattle.log.proofs.Feeding.{read-short, read-commit, last-from, turn-made, turn-refused, all-made, none-refused}
@@ -18,13 +18,13 @@ use Rattle.log.proofs.feed.commit.Statement.{statement}
 use Rattle.log.proofs.feed.commit.Tie as tie
 
 abbrev Inv-loop : tie.InvT-loop
-Inv-loop next₀ prev₀ owner₀ place₀ members locations run n j₀ next prev owner place j =
+Inv-loop nodes₀ members run n j₀ nodes j =
     (n ≤ run) × (run - n ≤ j) × (j ≤ run)
-    × ((r : Reader ℕ) → Kept (lent next₀ prev₀ owner₀ place₀ members locations) run r → n ≤ 15
-    → (s : State ℕ) × Shows (tables next prev owner place) (s .lists) × (applyAll 0 (drop j (r .run)) s ≡ applyAll 0 (lastOf n (r .run)) (r .state)))
+    × ((r : Reader ℕ) → Kept (lent nodes₀ members) run r → n ≤ 15
+    → (s : State ℕ) × Shows (tablesIn nodes) (s .lists) × (applyAll 0 (drop j (r .run)) s ≡ applyAll 0 (lastOf n (r .run)) (r .state)))
 
 abbrev μ-loop : tie.MeasureT-loop
-μ-loop next₀ prev₀ owner₀ place₀ members locations run n j₀ next prev owner place j = run - j
+μ-loop nodes₀ members run n j₀ nodes j = run - j
 
 returns : tie.Need-returns Inv-loop μ-loop
 returns c = λ r k h. read-short _ _ r k _ (c .if1 .taken)
@@ -39,11 +39,11 @@ act-member-requires c κs = search needs
 returns-2 : tie.Need-returns-2 Inv-loop μ-loop
 returns-2 c =
     λ r k h.
-    let s = c .before .before .before .before .before .before .before .before .before .args in
-    let l = c .before .before .before .before .before .before .before .loop in
+    let s = c .before .before .before .before .before .before .args in
+    let l = c .before .before .before .before .loop in
     let (v, w, e) = l .inv .3 r k h in
-    let u = tables (c .before .act-member .last .0) (c .before .act-member .last .1 .0) (c .before .act-member .last .1 .1 .0) (c .before .act-member .last .1 .1 .1 .0) in
-    let a = c .before .act-member .ensures (getD (r .run) (l .j) (takeList 0)) v (k .recalls .each (l .j) (c .before .before .before .before .before .before .loop-test .taken) (omega arith)) w in
+    let u = tablesIn (c .before .act-member .last .0) in
+    let a = c .before .act-member .ensures (getD (r .run) (l .j) (takeList 0)) v (k .recalls .each (l .j) (c .before .before .before .loop-test .taken) (omega arith)) w in
     let b : Represents (apply 0 (getD (r .run) (l .j) (takeList 0)) v) false u = rw (not-true (c .before .act-member .result) (c .if2 .taken)) at a in
     read-commit _ (s .run) r k (s .n) false u (l .inv .0) (none-refused _ u (sym e ∙ turn-refused (r .run) (l .j) v u (omega (arith, k .recalls .size)) b))
 
@@ -55,14 +55,14 @@ loop-less c = omega arith
 
 loop-again : tie.Need-loop-again Inv-loop μ-loop
 loop-again c =
-    let l = c .before .before .before .before .before .before .before .loop in (
+    let l = c .before .before .before .before .loop in (
       l .inv .0,
       omega arith,
       omega arith,
       λ r k h.
           let (v, w, e) = l .inv .3 r k h in
-          let u = tables (c .before .act-member .last .0) (c .before .act-member .last .1 .0) (c .before .act-member .last .1 .1 .0) (c .before .act-member .last .1 .1 .1 .0) in
-          let a = c .before .act-member .ensures (getD (r .run) (l .j) (takeList 0)) v (k .recalls .each (l .j) (c .before .before .before .before .before .before .loop-test .taken) (omega arith)) w in
+          let u = tablesIn (c .before .act-member .last .0) in
+          let a = c .before .act-member .ensures (getD (r .run) (l .j) (takeList 0)) v (k .recalls .each (l .j) (c .before .before .before .loop-test .taken) (omega arith)) w in
           let b : Represents (apply 0 (getD (r .run) (l .j) (takeList 0)) v) true u = rw (not-false (c .before .act-member .result) (c .if2 .left)) at a in
           let (q, x, y) = turn-made (r .run) (l .j) v u (omega (arith, k .recalls .size)) b in
           (q, x, y ∙ e),
@@ -74,7 +74,7 @@ returns-3 c =
     let s = c .before .before .before .args in
     let l = c .before .loop in
     let (v, w, e) = l .inv .3 r k h in
-    let u = tables (l .next) (l .prev) (l .owner) (l .place) in
+    let u = tablesIn (l .nodes) in
     read-commit _ (s .run) r k (s .n) true u (l .inv .0) (all-made (r .run) (l .j) v u _ (omega (arith, k .recalls .size)) w e)
 
 pub commit-spec : {M : Type 1} → statement M

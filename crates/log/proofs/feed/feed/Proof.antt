@@ -1,7 +1,6 @@
 -- A commit, a member that is kept, a change that acts: in each way what the tables keep is the reader behind the entry. Assumes nothing.
 use mathlib.Core.Path.{sym, ap, _∙_}
 use native.Mathlib.Omega.{arith}
-use Rattle.lists.specs.Tables.{tables}
 use Rattle.log.specs.declared.feed.Fields.{Fields}
 use Rattle.log.proofs.Feeding.{run-settled, fed-commit, fed-member, fed-plain}
 use borrow.Author.Needs.{needs}
@@ -24,26 +23,26 @@ returns : tie.Need-returns
 returns c = record {
   short = rw (c .settle .ensures) (run-settled _ (c .before .commit .result));
   reads = λ r k l.
-      let s = c .before .before .before .before .before .before .before .before .before .before .before .before .args in
-      let q = c .before .before .before .before .before .before .before .before .before .before .before .fields-of .ensures in
+      let s = c .before .before .before .before .before .before .before .before .args in
+      let q = c .before .before .before .before .before .before .before .fields-of .ensures in
       rw (c .settle .ensures)
-      (fed-commit _ (s .run) r k (s .location) (s .member) (s .e) l (c .before .commit .result) _ (ap (λ (f : Fields). f .kind) (sym q) ∙ c .before .before .before .before .before .before .before .before .before .if1 .taken) (rw q at (c .before .commit .ensures)));
+      (fed-commit _ (s .run) r k (s .location) (s .member) (s .e) l (c .before .commit .result) _ (ap (λ (f : Fields). f .kind) (sym q) ∙ c .before .before .before .before .before .if1 .taken) (rw q at (c .before .commit .ensures)));
 }
 
 keep-requires : tie.Need-keep-requires
 keep-requires c κs = search needs
 
-add-t24 : tie.Need-add-t24
-add-t24 c = search needs
+add-t15 : tie.Need-add-t15
+add-t15 c = search needs
 
 returns-2 : tie.Need-returns-2
 returns-2 c = record {
   short = omega arith;
   reads = λ r k l.
-      let s = c .before .before .before .before .before .before .before .args in
-      let q = c .before .before .before .before .before .before .fields-of .ensures in
-      rw (c .keep .ensures .1, c .keep .ensures .2, q)
-      (fed-member _ (s .run) r k (s .location) (s .member) (s .e) l (λ z. c .before .before .before .before .if1 .left (ap (λ (f : Fields). f .kind) q ∙ z)) (c .before .before .before .if2 .taken));
+      let s = c .before .before .before .before .before .before .args in
+      let q = c .before .before .before .before .before .fields-of .ensures in
+      rw (c .keep .ensures .1, q)
+      (fed-member _ (s .run) r k (s .location) (s .member) (s .e) l (λ z. c .before .before .before .if1 .left (ap (λ (f : Fields). f .kind) q ∙ z)) (c .before .before .if2 .taken));
 }
 
 act-requires : tie.Need-act-requires
@@ -56,10 +55,10 @@ returns-3 : tie.Need-returns-3
 returns-3 c = record {
   short = rw (c .settle2 .ensures) (run-settled _ (c .before .act .result));
   reads = λ r k l.
-      let s = c .before .before .before .before .before .before .before .before .before .before .args in
-      let q = c .before .before .before .before .before .before .before .before .before .fields-of .ensures in
+      let s = c .before .before .before .before .before .before .before .args in
+      let q = c .before .before .before .before .before .before .fields-of .ensures in
       rw (c .settle2 .ensures)
-      (fed-plain _ (s .run) r k (s .location) (s .member) (s .e) l (λ z. c .before .before .before .before .before .before .before .if1 .left (ap (λ (f : Fields). f .kind) q ∙ z)) (c .before .act .result) _ (c .before .before .before .before .before .before .if2 .left) (rw q at (c .before .act .ensures)));
+      (fed-plain _ (s .run) r k (s .location) (s .member) (s .e) l (λ z. c .before .before .before .before .if1 .left (ap (λ (f : Fields). f .kind) q ∙ z)) (c .before .act .result) _ (c .before .before .before .if2 .left) (rw q at (c .before .act .ensures)));
 }
 
 pub feed-spec : {M : Type 1} → statement M
@@ -72,7 +71,7 @@ feed-spec =
     settle-requires
     returns
     keep-requires
-    add-t24
+    add-t15
     returns-2
     act-requires
     settle-requires-2

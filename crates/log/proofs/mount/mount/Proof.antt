@@ -14,7 +14,7 @@ returns : tie.Need-returns
 returns c = sym (c .before .is-card .ensures) ∙ not-true (c .before .is-card .result) (c .if1 .taken)
 
 walk-requires : tie.Need-walk-requires
-walk-requires c κs = sym (c .before .before .before .before .before .before .before .is-card .ensures) ∙ not-false (c .before .before .before .before .before .before .before .is-card .result) (c .before .before .before .before .before .before .if1 .left)
+walk-requires c κs = sym (c .before .before .before .is-card .ensures) ∙ not-false (c .before .before .before .is-card .result) (c .before .before .if1 .left)
 
 enum-known-behind : tie.Need-enum-known-behind
 enum-known-behind c = search needs
@@ -24,15 +24,15 @@ enum-known-g c = search needs
 
 returns-2 : tie.Need-returns-2
 returns-2 c =
-    let s = c .before .before .before .before .before .before .before .before .before .before .before .before .before .args in
-    let l = sym (c .before .before .before .before .before .before .before .before .before .before .before .is-card .ensures) ∙ not-false (c .before .before .before .before .before .before .before .before .before .before .before .is-card .result) (c .before .before .before .before .before .before .before .before .before .before .if1 .left) in
+    let s = c .before .before .before .before .before .before .before .before .before .args in
+    let l = sym (c .before .before .before .before .before .before .before .is-card .ensures) ∙ not-false (c .before .before .before .before .before .before .before .is-card .result) (c .before .before .before .before .before .before .if1 .left) in
     let w = rw (c .before .behind .given .1) at (c .before .before .before .walk .ensures) in
     record { right = l; place = w .place; reader = _; walked = sound-at (s .card .now) [] [] (w .reader) l (w .walked) }
 
 returns-3 : tie.Need-returns-3
 returns-3 c =
-    let s = c .before .before .before .before .before .before .before .before .before .before .before .before .before .args in
-    let l = sym (c .before .before .before .before .before .before .before .before .before .before .before .is-card .ensures) ∙ not-false (c .before .before .before .before .before .before .before .before .before .before .before .is-card .result) (c .before .before .before .before .before .before .before .before .before .before .if1 .left) in
+    let s = c .before .before .before .before .before .before .before .before .before .args in
+    let l = sym (c .before .before .before .before .before .before .before .is-card .ensures) ∙ not-false (c .before .before .before .before .before .before .before .is-card .result) (c .before .before .before .before .before .before .if1 .left) in
     (l, fault-at (s .card .now) _ _ l (rw (c .before .g .given .1) at (c .before .before .before .walk .ensures)))
 
 pub mount-spec : {M : Type 1} → statement M

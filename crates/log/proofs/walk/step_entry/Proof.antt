@@ -1,6 +1,6 @@
 -- Found, then entered: what each way says of the segment's items from the cursor on. Assumes nothing.
 use mathlib.Core.Bool.{true, false}
-use Rattle.lists.specs.Tables.{tables}
+use Rattle.lists.specs.Tables.{tablesIn}
 use Rattle.log.specs.Feed.{lent}
 use Rattle.log.proofs.Entering.{steps-bad, steps-entered}
 use borrow.Author.Needs.{needs}
@@ -27,28 +27,28 @@ enum-told c = search needs
 
 returns : tie.Need-returns
 returns c =
-    let z = c .before .before .before .before .before .before .before .before in
+    let z = c .before .before .before .before .before .before .before in
     let s = z .args in
-    let m = (lent (s .next .now) (s .prev .now) (s .owner .now) (s .place .now) (s .members .now) (s .locations .now)) in
-    let f = rw (c .before .before .before .before .e .given .1) at (c .before .before .before .before .before .before .entry-at .ensures) in
+    let m = (lent (s .nodes .now) (s .members .now)) in
+    let f = rw (c .before .before .before .e .given .1) at (c .before .before .before .before .before .entry-at .ensures) in
     let y = c .member in
-    steps-entered (s .card .now) (s .g) (s .cur) m (lent (s .next .now) (s .prev .now) (s .owner .now) (s .place .now) (y .last .0) (y .last .1 .0)) (z .pre .holds) true _ _ f (y .result)
-    (y .ensures (tables (s .next .now) (s .prev .now) (s .owner .now) (s .place .now)))
+    steps-entered (s .card .now) (s .g) (s .cur) m (lent (s .nodes .now) (y .last .0)) (z .pre .holds) true _ _ f (y .result)
+    (y .ensures (tablesIn (s .nodes .now)))
 
 returns-2 : tie.Need-returns-2
 returns-2 c =
-    let z = c .before .before .before .before .before .before .before .before .before .before .before .before in
+    let z = c .before .before .before .before .before .before .before .before in
     let s = z .args in
-    let m = (lent (s .next .now) (s .prev .now) (s .owner .now) (s .place .now) (s .members .now) (s .locations .now)) in
-    let f = rw (c .before .before .before .before .before .before .before .before .e2 .given .1) at (c .before .before .before .before .before .before .before .before .before .before .entry-at .ensures) in
+    let m = (lent (s .nodes .now) (s .members .now)) in
+    let f = rw (c .before .before .before .before .e2 .given .1) at (c .before .before .before .before .before .before .entry-at .ensures) in
     let y = c .plain in
-    steps-entered (s .card .now) (s .g) (s .cur) m (lent (y .last .0) (y .last .1 .0) (y .last .1 .1 .0) (y .last .1 .1 .1 .0) (s .members .now) (s .locations .now)) (z .pre .holds) false _ _ f (y .result)
+    steps-entered (s .card .now) (s .g) (s .cur) m (lent (y .last .0) (s .members .now)) (z .pre .holds) false _ _ f (y .result)
     (y .ensures)
 
 returns-3 : tie.Need-returns-3
 returns-3 c =
     let s = c .before .before .before .before .args in
-    let m = (lent (s .next .now) (s .prev .now) (s .owner .now) (s .place .now) (s .members .now) (s .locations .now)) in
+    let m = (lent (s .nodes .now) (s .members .now)) in
     steps-bad (s .card .now) (s .g) (s .cur) m m (rw (c .enum-told .given .1) at (c .before .before .entry-at .ensures))
 
 pub step-entry-spec : {M : Type 1} → statement M

@@ -14,12 +14,12 @@ use Rattle.log.proofs.walk.walk_segment.Reads as reads
 use Rattle.log.proofs.walk.walk_segment.Lts as lts
 
 abbrev Inv-loop : tie.InvT-loop
-Inv-loop card next₀ prev₀ owner₀ place₀ members₀ locations₀ g run start n cur₀ i₀ next prev owner place members locations cur i =
+Inv-loop card nodes₀ members₀ g run start n cur₀ i₀ nodes members cur i =
     (i ≤ n) × (n < 256) × (4096 * g + 3585 ≤ cur .at) × (cur .at ≤ 4096 * g + 4096) × (cur .slots ≤ i) × (cur .run ≤ run + i)
-    × ((r : Reader ℕ) → Kept (lent next₀ prev₀ owner₀ place₀ members₀ locations₀) run r → Past card g n i cur r (lent next prev owner place members locations))
+    × ((r : Reader ℕ) → Kept (lent nodes₀ members₀) run r → Past card g n i cur r (lent nodes members))
 
 abbrev μ-loop : tie.MeasureT-loop
-μ-loop card next₀ prev₀ owner₀ place₀ members₀ locations₀ g run start n cur₀ i₀ next prev owner place members locations cur i = n - i
+μ-loop card nodes₀ members₀ g run start n cur₀ i₀ nodes members cur i = n - i
 
 mul-start : tie.Need-mul-start Inv-loop μ-loop
 mul-start c = omega arith
@@ -49,13 +49,13 @@ loop-holds c =
       omega arith,
       omega arith,
       omega arith,
-      λ r k. past-start (s .card .now) (s .g) (getD (s .card .now) (4096 * s .g + 3584) 0) (s .run) r (lent (s .next .now) (s .prev .now) (s .owner .now) (s .place .now) (s .members .now) (s .locations .now)) refl k,
+      λ r k. past-start (s .card .now) (s .g) (getD (s .card .now) (4096 * s .g + 3584) 0) (s .run) r (lent (s .nodes .now) (s .members .now)) refl k,
     )
 
 step-entry-requires : tie.Need-step-entry-requires Inv-loop μ-loop
 step-entry-requires c κs =
-    let p = c .before .before .before .before .before .before .before .before .before .before .pre in
-    let l = c .before .before .before .before .before .before .before .loop in
+    let p = c .before .before .before .before .before .before .pre in
+    let l = c .before .before .before .loop in
     record { holds = p .holds; small = p .small; until = l .inv .3; few = omega arith; short = omega arith }
 
 enum-known-after : tie.Need-enum-known-after Inv-loop μ-loop
@@ -66,11 +66,11 @@ enum-told c = search needs
 
 returns : tie.Need-returns Inv-loop μ-loop
 returns c =
-    let s = c .before .before .before .before .before .before .before .before .before .before .before .before .before .args in
-    let l = c .before .before .before .before .before .before .before .before .before .before .loop in
+    let s = c .before .before .before .before .before .before .before .before .before .args in
+    let l = c .before .before .before .before .before .before .loop in
     λ r k.
     let w = l .inv .6 r k in
-    past-stuck (s .card .now) (s .g) _ (l .i) (l .cur) r (lent (l .next) (l .prev) (l .owner) (l .place) (l .members) (l .locations)) w (c .before .before .before .before .before .before .before .before .before .loop-test .taken) ((rw (c .enum-told .given .1) at (c .before .before .step-entry .ensures)) (w .reader) (w .kept))
+    past-stuck (s .card .now) (s .g) _ (l .i) (l .cur) r (lent (l .nodes) (l .members)) w (c .before .before .before .before .before .loop-test .taken) ((rw (c .enum-told .given .1) at (c .before .before .step-entry .ensures)) (w .reader) (w .kept))
 
 add-i : tie.Need-add-i Inv-loop μ-loop
 add-i c = omega arith
@@ -80,8 +80,8 @@ loop-less c = omega arith
 
 loop-again : tie.Need-loop-again Inv-loop μ-loop
 loop-again c =
-    let s = c .before .before .before .before .before .before .before .before .before .before .before .before .before .before .args in
-    let l = c .before .before .before .before .before .before .before .before .before .before .before .loop in
+    let s = c .before .before .before .before .before .before .before .before .before .before .args in
+    let l = c .before .before .before .before .before .before .before .loop in
     let y = c .before .before .before .step-entry in
     let e = rw (c .before .after .given .1) at (y .ensures) in (
       omega arith,
@@ -92,11 +92,11 @@ loop-again c =
       omega (arith, e .short),
       λ r k.
           let w = l .inv .6 r k in
-          past-more (s .card .now) (s .g) _ (l .i) (l .cur) r (lent (l .next) (l .prev) (l .owner) (l .place) (l .members) (l .locations)) w _ (lent (y .last .1 .0) (y .last .1 .1 .0) (y .last .1 .1 .1 .0) (y .last .1 .1 .1 .1 .0) (y .last .1 .1 .1 .1 .1 .0) (y .last .1 .1 .1 .1 .1 .1 .0)) (c .before .before .before .before .before .before .before .before .before .before .loop-test .taken) (l .inv .2) (e .went (w .reader) (w .kept)),
+          past-more (s .card .now) (s .g) _ (l .i) (l .cur) r (lent (l .nodes) (l .members)) w _ (lent (y .last .1 .0) (y .last .1 .1 .0)) (c .before .before .before .before .before .before .loop-test .taken) (l .inv .2) (e .went (w .reader) (w .kept)),
     )
 
-sub-t16 : tie.Need-sub-t16 Inv-loop μ-loop
-sub-t16 c = c .before .before .loop .inv .2
+sub-t12 : tie.Need-sub-t12 Inv-loop μ-loop
+sub-t12 c = c .before .before .loop .inv .2
 
 returns-2 : tie.Need-returns-2 Inv-loop μ-loop
 unfolding count
@@ -108,7 +108,7 @@ returns-2 c =
     record {
       here = refl;
       short = omega arith;
-      through = λ r k. past-end (s .card .now) (s .g) _ (l .i) (l .cur) r (lent (l .next) (l .prev) (l .owner) (l .place) (l .members) (l .locations)) (l .inv .6 r k) (c .before .loop-test .left) z q;
+      through = λ r k. past-end (s .card .now) (s .g) _ (l .i) (l .cur) r (lent (l .nodes) (l .members)) (l .inv .6 r k) (c .before .loop-test .left) z q;
     }
 
 pub walk-segment-spec : {M : Type 1} → statement M
@@ -131,5 +131,5 @@ walk-segment-spec =
     add-i
     loop-less
     loop-again
-    sub-t16
+    sub-t12
     returns-2)
