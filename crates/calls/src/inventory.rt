@@ -28,7 +28,7 @@ pub fn inventory(
     v: usize,
     dest: &mut [u8],
 ) -> NumberReply
-    ensures { λ r. ⌜ Performs (call.inventory v (now (dest .entry))) (disk (now (card .entry)) (now (queue_data .entry)) (now (journal_data .entry)) rec) (disk (now (card .entry)) (now (queue_data .entry)) (now (journal_data .entry)) rec) (numberAnswer r) (now (dest .exit)) ⌝ }
+    ensures { λ r. ⌜ Performs (call.inView v (call.inventory (now (dest .entry)))) (disk (now (card .entry)) (now (queue_data .entry)) (now (journal_data .entry)) rec) (disk (now (card .entry)) (now (queue_data .entry)) (now (journal_data .entry)) rec) (numberAnswer r) (now (dest .exit)) ⌝ }
 {
     let mut next = [0u8; 256];
     let mut prev = [0u8; 256];

@@ -76,7 +76,7 @@ unfolding hasMember putAt
 put-member b l zero = refl
 put-member b l (suc p) = refl
 
-pub put-stream : (s b l p : ℕ) → streamFor s (putAt b l p) ≡ s
+put-stream : (s b l p : ℕ) → streamFor s (putAt b l p) ≡ s
 unfolding streamFor
 put-stream s b l p = rw (put-member b l p)
 
