@@ -14,16 +14,16 @@ use Rattle.lists.proofs.Basic.{eqb-false, le-true, lt-true, gt-false, ge-false}
 use Rattle.log.specs.declared.entry.LogEntry.{LogEntry}
 use Rattle.log.specs.declared.entry.LogEntry.the-variants.{DeleteBlock, DeleteList}
 use Rattle.log.specs.Card.{Content}
-use Rattle.log.specs.Entry.{carried, isBlock, isList, logChange}
+use Rattle.log.specs.Entry.{carried, hasMember, isBlock, isList, logChange}
 use Rattle.disk.specs.declared.record.Record.{Record}
 use Rattle.disk.specs.declared.answer.Refusal.{Refusal}
 use Rattle.disk.specs.declared.answer.Reply.{Reply}
 use Rattle.disk.specs.declared.answer.Reply.the-variants.{Accepted, Refused}
 use Rattle.disk.specs.Record.{unitAt}
 use Rattle.disk.specs.Disk.{Disk, withRecord, unitOf, view}
-use Rattle.disk.specs.Questions.{journalRoom, queueRoom, streamRoom, questions, ask, firstNo, refusal}
-use Rattle.disk.specs.Call.{Call, deleteBlock, deleteList, destination}
-use Rattle.disk.specs.Perform.{reply, accepted, change, enqueue, journalAdd, queuedEntry, spliceSome}
+use Rattle.disk.specs.Questions.{journalRoom, queueRoom, streamRoom, editQuestions, questions, ask, firstNo, refusal}
+use Rattle.disk.specs.Call.{deleteBlock, deleteList, Call, onStream, destination}
+use Rattle.disk.specs.Perform.{reply, accepted, change, noted, streamFor, made, numberGiven, changeFor, enqueue, journalAdd, queuedEntry, spliceSome}
 use Rattle.disk.specs.Answers.{number, replyAnswer}
 use Rattle.calls.specs.Performs.{Performs}
 use Rattle.inspect.specs.Inspect.{Sees}
@@ -105,16 +105,16 @@ decides-performs k d s c Accepted r u t n y h = performs-accepted k d _ (h .1) (
 
 pub deletes-block : (d : Disk) (s b : ℕ) (t : Tables) (a : Reply) (r : Record) → Sees false d s t
     → OfShown t (λ rs. AddsAfter ((5, isBlock b) ∷ (8, placed b rs) ∷ []) s (DeleteBlock b) (d .rec) a r)
-    → Performs (deleteBlock s b) d (withRecord d r) (replyAnswer a) []
-unfolding refusal questions destination accepted carriedBy logChange
+    → Performs (onStream s (deleteBlock b)) d (withRecord d r) (replyAnswer a) []
+unfolding refusal questions editQuestions destination accepted made noted streamFor hasMember numberGiven changeFor carriedBy logChange
 deletes-block d s b t a r z f =
-    decides-performs (deleteBlock s b) d s (delBlock b) a r tt refl refl refl
-    (seen-decides (deleteBlock s b) d s (DeleteBlock b) 8 (isBlock b) (placed b (view d s .lists)) (placed b) t a r refl z (placed-here d t (view d s) (z .located) b) f)
+    decides-performs (onStream s (deleteBlock b)) d s (delBlock b) a r tt refl refl refl
+    (seen-decides (onStream s (deleteBlock b)) d s (DeleteBlock b) 8 (isBlock b) (placed b (view d s .lists)) (placed b) t a r refl z (placed-here d t (view d s) (z .located) b) f)
 
 pub deletes-list : (d : Disk) (s l : ℕ) (t : Tables) (a : Reply) (r : Record) → Sees false d s t
     → OfShown t (λ rs. AddsAfter ((5, isList l) ∷ (7, taken l rs) ∷ []) s (DeleteList l) (d .rec) a r)
-    → Performs (deleteList s l) d (withRecord d r) (replyAnswer a) []
-unfolding refusal questions destination accepted carriedBy logChange
+    → Performs (onStream s (deleteList l)) d (withRecord d r) (replyAnswer a) []
+unfolding refusal questions editQuestions destination accepted made noted streamFor hasMember numberGiven changeFor carriedBy logChange
 deletes-list d s l t a r z f =
-    decides-performs (deleteList s l) d s (delList l) a r tt refl refl refl
-    (seen-decides (deleteList s l) d s (DeleteList l) 7 (isList l) (taken l (view d s .lists)) (taken l) t a r refl z (taken-here d t (view d s) (z .located) l) f)
+    decides-performs (onStream s (deleteList l)) d s (delList l) a r tt refl refl refl
+    (seen-decides (onStream s (deleteList l)) d s (DeleteList l) 7 (isList l) (taken l (view d s .lists)) (taken l) t a r refl z (taken-here d t (view d s) (z .located) l) f)

@@ -12,7 +12,7 @@ use Rattle.lists.specs.Change.{carriedBy}
 use Rattle.lists.specs.State.{Row, taken, placed, onList}
 use Rattle.lists.specs.Tables.{Tables}
 use Rattle.lists.proofs.Basic.{eqb-false, le-true, gt-false}
-use Rattle.log.specs.Entry.{isList, carried, logChange}
+use Rattle.log.specs.Entry.{hasMember, isList, carried, logChange}
 use Rattle.disk.specs.declared.record.Record.{Record}
 use Rattle.disk.specs.declared.answer.Refusal.{Refusal}
 use Rattle.disk.specs.declared.answer.Refusal.the-variants.{OutOfRange, ListNotTaken, PredecessorElsewhere, NoNumberFree, QueueFull}
@@ -21,9 +21,9 @@ use Rattle.disk.specs.declared.answer.NumberReply.the-variants.{Number, Refused
 use Rattle.disk.specs.declared.answer.Reply.the-variants as A
 use Rattle.disk.specs.Record.{holderOf, withLastBlock}
 use Rattle.disk.specs.Disk.{Disk, withRecord, committed}
-use Rattle.disk.specs.Call.{newList, destination}
-use Rattle.disk.specs.Questions.{freeFrom, freeList, queueRoom, questions, firstNo, refusal}
-use Rattle.disk.specs.Perform.{accepted, enqueue, gaveList, queuedEntry, spliceSome}
+use Rattle.disk.specs.Call.{newList, onStream, destination}
+use Rattle.disk.specs.Questions.{freeFrom, freeList, queueRoom, editQuestions, questions, firstNo, refusal}
+use Rattle.disk.specs.Perform.{accepted, change, noted, streamFor, made, numberGiven, changeFor, enqueue, gaveList, queuedEntry, spliceSome}
 use Rattle.disk.specs.Answers.{number, numberAnswer}
 use Rattle.disk.proofs.Questions.{free-from}
 use Rattle.calls.specs.Performs.{Performs}
@@ -92,19 +92,19 @@ module _ (r : Record) (rs : List (Row ℕ)) (n : ℕ) (h : n ≡ orElse 0 (freeL
     takes l r′ e = (e, given, le-true (r .len + 1) 32 (omega arith))
 
 pub takes-performs : (s : ℕ) (d : Disk) (t : Tables) (k : Stands true d s t) (a : NumberReply) (r′ : Record)
-    → Takes (d .rec) (k .located .here .lists) a r′ → Performs (newList s) d (withRecord d r′) (numberAnswer a) []
-unfolding numberAnswer refusal questions freeList queueRoom destination accepted gaveList enqueue queuedEntry carried carriedBy spliceSome logChange orElse isSome
+    → Takes (d .rec) (k .located .here .lists) a r′ → Performs (onStream s newList) d (withRecord d r′) (numberAnswer a) []
+unfolding numberAnswer refusal questions editQuestions freeList queueRoom destination accepted made noted streamFor hasMember numberGiven changeFor change gaveList enqueue queuedEntry carried carriedBy spliceSome logChange orElse isSome
 takes-performs s d t k a r′ = go a
   where
     free : freeList d ≡ freeListIn (d .rec) (k .located .here .lists)
     free = free-ext _ _ 16 16 (d .rec .«last_list») (taken-here d t (committed d) (k .located))
 
-    rest : refusal (newList s) d ≡ firstNo ((10, isSome (freeListIn (d .rec) (k .located .here .lists))) ∷ (13, leb (d .rec .len + 1) 32) ∷ [])
+    rest : refusal (onStream s newList) d ≡ firstNo ((10, isSome (freeListIn (d .rec) (k .located .here .lists))) ∷ (13, leb (d .rec .len + 1) 32) ∷ [])
     rest = entered true d s t _ k ∙ ap (λ (o : Option ℕ). firstNo ((10, isSome o) ∷ (13, leb (d .rec .len + 1) 32) ∷ [])) free
 
-    go : (a : NumberReply) → Takes (d .rec) (k .located .here .lists) a r′ → Performs (newList s) d (withRecord d r′) (numberAnswer a) []
-    go (Refused x) h = rw (h .0) (usual-performs-refused (newList s) d x tt (rest ∙ h .1))
-    go (Number l) h = performs-accepted (newList s) d _ (rest ∙ rw (h .1) (ask-yes 10 _ _ refl ∙ last-yes 13 _ (h .2))) (rw (free, h .1, h .0))
+    go : (a : NumberReply) → Takes (d .rec) (k .located .here .lists) a r′ → Performs (onStream s newList) d (withRecord d r′) (numberAnswer a) []
+    go (Refused x) h = rw (h .0) (usual-performs-refused (onStream s newList) d x tt (rest ∙ h .1))
+    go (Number l) h = performs-accepted (onStream s newList) d _ (rest ∙ rw (h .1) (ask-yes 10 _ _ refl ∙ last-yes 13 _ (h .2))) (rw (free, h .1, h .0))
 
 -- A put: a question more before the others.
 module _ (qs : List (ℕ × Bool)) (s l p b : ℕ) (r : Record) (n : ℕ) (q : Bool) where

@@ -1,5 +1,5 @@
 -- What the look-ups perform, from what the tables of a view answer.
-use mathlib.Core.Path.{_≡_, refl, sym, _∙_}
+use mathlib.Core.Path.{_≡_, sym, _∙_}
 use mathlib.Core.Logic.{_≢_}
 use mathlib.Core.Bool.{Bool, true, false, _&&_, _||_}
 use mathlib.Core.List.{List, []}
@@ -15,31 +15,27 @@ use Rattle.disk.specs.declared.answer.Refusal.{Refusal}
 use Rattle.disk.specs.declared.answer.Refusal.the-variants.{OutOfRange, ListNotTaken, PredecessorElsewhere}
 use Rattle.disk.specs.declared.answer.NumberReply as N
 use Rattle.disk.specs.Disk.{Disk, view}
-use Rattle.disk.specs.Call.{blockAfter, inventory, destination}
-use Rattle.disk.specs.Questions.{predecessorRight, questions, firstNo, refusal}
-use Rattle.disk.specs.Perform.{accepted}
+use Rattle.disk.specs.Call.{blockAfter, inventory, inView, lentTo, destination}
+use Rattle.disk.specs.Questions.{predecessorRight, lookQuestions, questions, refusal}
+use Rattle.disk.specs.Perform.{found, accepted}
 use Rattle.disk.specs.Answers.{number, numberAnswer}
 use Rattle.calls.specs.Performs.{Performs}
 use Rattle.inspect.specs.Inspect.{Sees}
 use Rattle.inspect.proofs.Locating.{onList-here, listNums-here, of-shown, taken-told, nextAfter-told}
 use Rattle.calls.proofs.Taken.{Stored}
-use Rattle.calls.proofs.Refusing.{ask-yes, ask-no, last-yes, opens, seen, position-range, usual-performs-refused, first-refused, performs-accepted}
+use Rattle.calls.proofs.Refusing.{ask-yes, ask-no, last-yes, seen, position-range, usual-performs-refused, performs-accepted}
 
 module _ (d : Disk) (v l p : ℕ) where
   abbrev Nexts : N.NumberReply → Type 0
-  Nexts r = Performs (blockAfter v l p) d d (numberAnswer r) []
+  Nexts r = Performs (inView v (blockAfter l p)) d d (numberAnswer r) []
 
-  next-refused : (x : Refusal) → refusal (blockAfter v l p) d ≡ number x → Nexts (N.the-variants.Refused x)
-  unfolding destination numberAnswer
-  next-refused x h = usual-performs-refused (blockAfter v l p) d x tt h
-
-  pub next-unseen : (x : Refusal) → firstNo (opens true d v) ≡ number x → Nexts (N.the-variants.Refused x)
-  unfolding refusal questions destination numberAnswer
-  next-unseen x h = first-refused (blockAfter v l p) d x (opens true d v) _ tt refl h
+  next-refused : (x : Refusal) → refusal (inView v (blockAfter l p)) d ≡ number x → Nexts (N.the-variants.Refused x)
+  unfolding destination lentTo numberAnswer
+  next-refused x h = usual-performs-refused (inView v (blockAfter l p)) d x tt h
 
   module _ (t : Tables) (s : Sees true d v t) where
     pub next-out : isList l && leb p 64 ≡ false → Nexts (N.the-variants.Refused OutOfRange)
-    unfolding refusal questions number
+    unfolding refusal questions lookQuestions number
     next-out a = next-refused OutOfRange (seen _ s ∙ ask-no 5 _ _ a)
 
     -- behind question 5, with what the tables answer
@@ -57,38 +53,34 @@ module _ (d : Disk) (v l p : ℕ) where
       follows-view b f = rw (onList-here d t (view d v) (s .located) l p) (sym (of-shown d t (view d v) (s .located) (λ rs. b ≡ eqb p 0 || onList l p rs) f))
 
       pub next-untaken : (b : Bool) → TakenIs b → b ≡ false → Nexts (N.the-variants.Refused ListNotTaken)
-      unfolding refusal questions number
+      unfolding refusal questions lookQuestions number
       next-untaken b f h = next-refused ListNotTaken (seen _ s ∙ ask-yes 5 _ _ w ∙ ask-no 7 _ _ (taken-view b f ∙ h))
 
       module _ (b : Bool) (f : TakenIs b) (h : b ≡ true) where
         module _ (o : Bool) (g : FollowsIs o) where
           pub next-elsewhere : o ≡ false → Nexts (N.the-variants.Refused PredecessorElsewhere)
-          unfolding refusal questions number predecessorRight
+          unfolding refusal questions lookQuestions number predecessorRight
           next-elsewhere e =
               next-refused PredecessorElsewhere (seen _ s ∙ ask-yes 5 _ _ w ∙ ask-yes 7 _ _ (taken-view b f ∙ h) ∙ ask-no 9 _ _ (follows-view o g ∙ e))
 
           pub next-found : o ≡ true → (n : ℕ)
               → OfShown t (λ rs. taken l rs ≡ true → eqb p 0 || onList l p rs ≡ true → n ≡ nextAfter rs l p) → Nexts (N.the-variants.Number n)
-          unfolding refusal questions predecessorRight accepted numberAnswer
+          unfolding refusal questions lookQuestions predecessorRight accepted found numberAnswer
           next-found e n k =
-              performs-accepted (blockAfter v l p) d _ (seen _ s ∙ ask-yes 5 _ _ w ∙ ask-yes 7 _ _ (taken-view b f ∙ h) ∙ last-yes 9 _ (follows-view o g ∙ e))
+              performs-accepted (inView v (blockAfter l p)) d _ (seen _ s ∙ ask-yes 5 _ _ w ∙ ask-yes 7 _ _ (taken-view b f ∙ h) ∙ last-yes 9 _ (follows-view o g ∙ e))
               (rw (nextAfter-told d t (view d v) (s .located) l p n k (taken-view b f ∙ h) (follows-view o g ∙ e)))
 
 module _ (d : Disk) (v : ℕ) (x : List ℕ) where
   abbrev Inventories : N.NumberReply → List ℕ → Type 0
-  Inventories r y = Performs (inventory v x) d d (numberAnswer r) y
-
-  pub inventory-unseen : (r : Refusal) → firstNo (opens true d v) ≡ number r → Inventories (N.the-variants.Refused r) x
-  unfolding refusal questions destination numberAnswer
-  inventory-unseen r h = first-refused (inventory v x) d r (opens true d v) _ tt refl h
+  Inventories r y = Performs (inView v (inventory x)) d d (numberAnswer r) y
 
   module _ (t : Tables) (s : Sees true d v t) where
     pub inventory-out : length x ≢ 16 → Inventories (N.the-variants.Refused OutOfRange) x
-    unfolding refusal questions destination numberAnswer number
-    inventory-out h = usual-performs-refused (inventory v x) d OutOfRange tt (seen _ s ∙ ask-no 5 _ _ (eqb-false (length x) 16 h))
+    unfolding refusal questions lookQuestions destination lentTo numberAnswer number
+    inventory-out h = usual-performs-refused (inView v (inventory x)) d OutOfRange tt (seen _ s ∙ ask-no 5 _ _ (eqb-false (length x) 16 h))
 
     pub inventory-given : length x ≡ 16 → (n : ℕ) (y : List ℕ) → OfShown t (λ rs. Stored x rs n y) → Inventories (N.the-variants.Number n) y
-    unfolding refusal questions accepted numberAnswer
+    unfolding refusal questions lookQuestions accepted found numberAnswer
     inventory-given h n y f =
         let (a, b) = of-shown d t (view d v) (s .located) (λ rs. Stored x rs n y) f in
-        performs-accepted (inventory v x) d _ (seen _ s ∙ last-yes 5 _ (eq-true (length x) 16 h)) (rw (listNums-here d t (view d v) (s .located), a, b))
+        performs-accepted (inView v (inventory x)) d _ (seen _ s ∙ last-yes 5 _ (eq-true (length x) 16 h)) (rw (listNums-here d t (view d v) (s .located), a, b))

@@ -15,17 +15,17 @@ use Rattle.lists.proofs.Basic.{or-cases, eqb-true, eqb-false}
 use Rattle.lists.proofs.Naturality.{taken-map, onList-map}
 use Rattle.log.specs.declared.entry.LogEntry.{LogEntry}
 use Rattle.log.specs.Card.{zeros}
-use Rattle.log.specs.Entry.{isList, member, raw, legal, logChange}
+use Rattle.log.specs.Entry.{hasMember, isList, member, raw, legal, logChange}
 use Rattle.log.specs.Location.{blank}
 use Rattle.disk.specs.declared.record.Record.{Record}
 use Rattle.disk.specs.declared.answer.NumberReply.{NumberReply}
 use Rattle.disk.specs.declared.answer.NumberReply.the-variants.{Number, Refused}
 use Rattle.disk.specs.Record.{holderOf, unitAt}
 use Rattle.disk.specs.Disk.{Disk, withRecord, unitOf, journalOf, committed, view}
-use Rattle.disk.specs.Call.{newBlock, destination}
+use Rattle.disk.specs.Call.{newBlock, onStream, destination}
 use Rattle.disk.specs.Sound.{lengthsRight, recordSound, isOpenUnit}
-use Rattle.disk.specs.Questions.{streamOpen, freeBlock, predecessorRight, questions, firstNo, refusal}
-use Rattle.disk.specs.Perform.{accepted, change, hold, gaveBlock, putAt}
+use Rattle.disk.specs.Questions.{streamOpen, freeBlock, predecessorRight, editQuestions, questions, firstNo, refusal}
+use Rattle.disk.specs.Perform.{accepted, change, hold, gaveBlock, noted, streamFor, made, putAt, numberGiven, changeFor}
 use Rattle.disk.specs.Answers.{numberAnswer}
 use Rattle.disk.proofs.Questions.{unit-range}
 use Rattle.disk.proofs.Clauses.{right}
@@ -63,10 +63,16 @@ unfolding hold
 hold-record zero b d r = refl
 hold-record (suc u) b d r = rw (eqb·suc-zero u)
 
-pub put-disk : (s l p b : ℕ) (d : Disk) → gaveBlock b (hold s b (change s (putAt b l p) d)) ≡ withRecord d (putBlock s l p b (d .rec))
+put-made : (s l p b : ℕ) (d : Disk) → made s (putAt b l p) d ≡ gaveBlock b (hold s b (change s (putAt b l p) d))
+unfolding made noted streamFor hasMember putAt
+put-made s l zero b d = refl
+put-made s l (suc p) b d = refl
+
+pub put-disk : (s l p b : ℕ) (d : Disk) → made s (putAt b l p) d ≡ withRecord d (putBlock s l p b (d .rec))
 unfolding gaveBlock putBlock
 put-disk s l p b d =
-    ap (λ (x : Disk). gaveBlock b (hold s b x)) (change-added s (putAt b l p) d (put-carries b l p) ∙ ap (λ (e : LogEntry). withRecord d (added s e (d .rec))) (put-entry b l p))
+    put-made s l p b d
+    ∙ ap (λ (x : Disk). gaveBlock b (hold s b x)) (change-added s (putAt b l p) d (put-carries b l p) ∙ ap (λ (e : LogEntry). withRecord d (added s e (d .rec))) (put-entry b l p))
     ∙ ap (gaveBlock b) (hold-record s b d (added s (putEntry b l p) (d .rec)))
 
 -- A stream's number, and its view at locations.
@@ -110,8 +116,8 @@ module _ (s : ℕ) (d : Disk) (t : Tables) (k : Stands true d s t) where
   given : ℕ
   given = orElse 0 (freeBlockIn (d .rec) (here .lists))
 
-  asked : (l p : ℕ) → refusal (newBlock s l p) d ≡ firstNo (rangedPutQuestions l p given (viewHere (d .rec) s here .lists) ++ rooms d s)
-  unfolding refusal questions predecessorRight given
+  asked : (l p : ℕ) → refusal (onStream s (newBlock l p)) d ≡ firstNo (rangedPutQuestions l p given (viewHere (d .rec) s here .lists) ++ rooms d s)
+  unfolding refusal questions editQuestions predecessorRight given
   asked l p =
       let v = viewHere (d .rec) s here .lists in
       entered true d s t
@@ -119,13 +125,13 @@ module _ (s : ℕ) (d : Disk) (t : Tables) (k : Stands true d s t) where
       k
       ∙ rw (view-here, free, taken-map (contents d) l v, onList-map (contents d) l p v, free-number (λ b. placed b (here .lists) || not (eqb (holderOf (d .rec) b) 0)) 64 64 (d .rec .«last_block») (omega arith))
 
-  pub puts-performs : (l p : ℕ) (a : NumberReply) (r′ : Record) → PutsFree t s l p (d .rec) a r′ → Performs (newBlock s l p) d (withRecord d r′) (numberAnswer a) []
-  unfolding numberAnswer destination accepted given here
+  pub puts-performs : (l p : ℕ) (a : NumberReply) (r′ : Record) → PutsFree t s l p (d .rec) a r′ → Performs (onStream s (newBlock l p)) d (withRecord d r′) (numberAnswer a) []
+  unfolding numberAnswer destination accepted numberGiven changeFor given here
   puts-performs l p a r′ f = go a (f here (k .located .shows))
     where
       go : (a : NumberReply) → Puts (rangedPutQuestions l p given (viewHere (d .rec) s here .lists)) s l p given (d .rec) a r′
-          → Performs (newBlock s l p) d (withRecord d r′) (numberAnswer a) []
-      go (Refused x) h = rw (h .0) (usual-performs-refused (newBlock s l p) d x tt (asked l p ∙ h .1 d refl))
+          → Performs (onStream s (newBlock l p)) d (withRecord d r′) (numberAnswer a) []
+      go (Refused x) h = rw (h .0) (usual-performs-refused (onStream s (newBlock l p)) d x tt (asked l p ∙ h .1 d refl))
       go (Number n) h =
-          performs-accepted (newBlock s l p) d _ (asked l p ∙ h .2 d refl)
+          performs-accepted (onStream s (newBlock l p)) d _ (asked l p ∙ h .2 d refl)
           (rw (free, put-disk s l p given d, h .0, h .1))

@@ -1,5 +1,5 @@
 -- What reading a block performs, from what the tables of a view answer.
-use mathlib.Core.Path.{_≡_, refl, sym, _∙_}
+use mathlib.Core.Path.{_≡_, sym, _∙_}
 use mathlib.Core.Bool.{Bool, true, false, _&&_}
 use mathlib.Core.Option.{some}
 use mathlib.Core.List.{List}
@@ -16,16 +16,16 @@ use Rattle.disk.specs.declared.answer.Refusal.{Refusal}
 use Rattle.disk.specs.declared.answer.Refusal.the-variants.{OutOfRange, BlockNotPlaced}
 use Rattle.disk.specs.declared.answer.Reply as R
 use Rattle.disk.specs.Disk.{Disk, view}
-use Rattle.disk.specs.Call.{readBlock, destination}
-use Rattle.disk.specs.Questions.{questions, firstNo, refusal}
-use Rattle.disk.specs.Perform.{accepted}
+use Rattle.disk.specs.Call.{readBlock, inView, lentTo, destination}
+use Rattle.disk.specs.Questions.{lookQuestions, questions, refusal}
+use Rattle.disk.specs.Perform.{found, accepted}
 use Rattle.disk.specs.Answers.{number, replyAnswer}
 use Rattle.disk.proofs.Contents.{view-sized}
 use Rattle.calls.specs.Performs.{Performs}
 use Rattle.inspect.specs.Located.{contents}
 use Rattle.inspect.specs.Inspect.{Sees}
 use Rattle.inspect.proofs.Locating.{placed-told, content-told}
-use Rattle.calls.proofs.Refusing.{ask-yes, ask-no, last-yes, opens, seen, usual-performs-refused, first-refused, performs-accepted}
+use Rattle.calls.proofs.Refusing.{ask-yes, ask-no, last-yes, seen, usual-performs-refused, performs-accepted}
 
 pub read-range : (b n : ℕ) → isBlock b && eqb n 256 ≡ true → IsBlock b × (n ≡ 256)
 read-range b n h =
@@ -35,19 +35,15 @@ read-range b n h =
 
 module _ (d : Disk) (v b : ℕ) (x : List ℕ) where
   abbrev Reads : R.Reply → List ℕ → Type 0
-  Reads r y = Performs (readBlock v b x) d d (replyAnswer r) y
+  Reads r y = Performs (inView v (readBlock b x)) d d (replyAnswer r) y
 
-  read-refused : (r : Refusal) → refusal (readBlock v b x) d ≡ number r → Reads (R.the-variants.Refused r) x
-  unfolding destination replyAnswer
-  read-refused r h = usual-performs-refused (readBlock v b x) d r tt h
-
-  pub read-unseen : (r : Refusal) → firstNo (opens true d v) ≡ number r → Reads (R.the-variants.Refused r) x
-  unfolding refusal questions destination replyAnswer
-  read-unseen r h = first-refused (readBlock v b x) d r (opens true d v) _ tt refl h
+  read-refused : (r : Refusal) → refusal (inView v (readBlock b x)) d ≡ number r → Reads (R.the-variants.Refused r) x
+  unfolding destination lentTo replyAnswer
+  read-refused r h = usual-performs-refused (inView v (readBlock b x)) d r tt h
 
   module _ (t : Tables) (s : Sees true d v t) where
     pub read-out : isBlock b && eqb (length x) 256 ≡ false → Reads (R.the-variants.Refused OutOfRange) x
-    unfolding refusal questions number
+    unfolding refusal questions lookQuestions number
     read-out w = read-refused OutOfRange (seen _ s ∙ ask-no 5 _ _ w)
 
     -- behind question 5, with what the tables answer
@@ -56,7 +52,7 @@ module _ (d : Disk) (v b : ℕ) (x : List ℕ) where
       placed-view = sym (placed-told d t (view d v) (s .located) b o f (read-range b (length x) w .0))
 
       pub read-unplaced : o ≡ false → Reads (R.the-variants.Refused BlockNotPlaced) x
-      unfolding refusal questions number
+      unfolding refusal questions lookQuestions number
       read-unplaced h = read-refused BlockNotPlaced (seen _ s ∙ ask-yes 5 _ _ w ∙ ask-no 8 _ _ (placed-view ∙ h))
 
       module _ (h : o ≡ true) (m : ℕ) (g : OfShown t (λ rs. placed b rs ≡ true → contentOf rs b ≡ some m)) where
@@ -67,5 +63,5 @@ module _ (d : Disk) (v b : ℕ) (x : List ℕ) where
         read-sized = view-sized d (s .lengths) (s .sound) v b (contents d m) (s .opened) content-view
 
         pub read-given : (y : List ℕ) → y ≡ contents d m → Reads R.the-variants.Accepted y
-        unfolding refusal questions accepted replyAnswer orElse
-        read-given y e = performs-accepted (readBlock v b x) d _ (seen _ s ∙ ask-yes 5 _ _ w ∙ last-yes 8 _ (placed-view ∙ h)) (rw (content-view, orElse, e))
+        unfolding refusal questions lookQuestions accepted found replyAnswer orElse
+        read-given y e = performs-accepted (inView v (readBlock b x)) d _ (seen _ s ∙ ask-yes 5 _ _ w ∙ last-yes 8 _ (placed-view ∙ h)) (rw (content-view, orElse, e))

@@ -2,22 +2,23 @@
 use mathlib.Core.Path.{_≡_, refl, sym, ap, _∙_}
 use mathlib.Core.Logic.{_⊎_, inl, inr, ⊎-elim, _≢_}
 use mathlib.Core.Bool.{Bool, true, false, _&&_, false≢true, and-false}
+use mathlib.Core.Option.{none}
 use mathlib.Core.List.{List, [], _∷_, _++_}
 use Prim.Native.Nat.{ℕ, suc, _≤_, _<_}
 use native.Mathlib.Omega.{arith}
 use lib.Dec.{leb, eqb}
-use Rattle.lists.specs.Basic.{any}
 use Rattle.lists.specs.Tables.{Tables, IsList}
 use Rattle.lists.proofs.Basic.{and-true, or-cases, leb-true, eqb-true, eqb-false, gt-false}
 use Rattle.log.specs.Entry.{isList}
 use Rattle.disk.specs.declared.answer.Refusal.{Refusal}
 use Rattle.disk.specs.declared.answer.Refusal.the-variants.{WrongLength, LogFault, RecordUnsound, StreamClosed, OutOfRange, UnitOpen, ListNotTaken, BlockNotPlaced, PredecessorElsewhere, NoNumberFree, JournalFull, Conflict, QueueFull}
-use Rattle.disk.specs.Disk.{Disk}
+use Rattle.disk.specs.Disk.{Disk, view}
 use Rattle.disk.specs.Sound.{lengthsRight, recordSound, isOpenUnit}
-use Rattle.disk.specs.Questions.{streamOpen, questions, ask, firstNo, refusal}
-use Rattle.disk.specs.Call.{Call, format, mount, conflictCount, newList, newBlock, writeBlock, readBlock, deleteBlock, deleteList, begin, end, flush, blockAfter, inventory, ends, destination}
+use Rattle.disk.specs.Questions.{streamOpen, editQuestions, lookQuestions, questions, ask, firstNo, refusal}
+use Rattle.disk.specs.Call.{Edit, Look, Call, format, mount, conflictCount, onStream, inView, begin, end, flush, ends, lentTo, destination}
 use Rattle.disk.specs.Perform.{Result, accepted, refused, refusalAnswer, perform}
 use Rattle.disk.specs.Answers.{number, refusedAnswer}
+use Rattle.disk.proofs.Order.{asks, Behind, edit-behind, look-behind, rising-above, asks-above}
 use Rattle.disk.proofs.Questions.{numbered, unit-range}
 use Rattle.disk.proofs.Clauses.{right}
 use Rattle.disk.proofs.Performing.{perform-accepted, perform-refused, refusedResult}
@@ -114,59 +115,36 @@ abbrev pub Usual : Call → Type 0
 Usual format = Unit {0}
 Usual mount = ⊥
 Usual conflictCount = Unit {0}
-Usual (newList s) = Unit {0}
-Usual (newBlock s l p) = Unit {0}
-Usual (writeBlock s b x) = Unit {0}
-Usual (readBlock v b x) = Unit {0}
-Usual (deleteBlock s b) = Unit {0}
-Usual (deleteList s l) = Unit {0}
+Usual (onStream s e) = Unit {0}
+Usual (inView v k) = Unit {0}
 Usual (begin u) = Unit {0}
 Usual (end u) = ⊥
 Usual (flush a) = Unit {0}
-Usual (blockAfter v l p) = Unit {0}
-Usual (inventory v x) = Unit {0}
 
--- such a call does not ask whether the log is acceptable
-asks-two : (c : Call) (d : Disk) → Usual c → any (λ q. eqb (q .0) 2) (questions c d) ≡ false
-unfolding questions
-asks-two format d u = refl
-asks-two mount d u = absurd u
-asks-two conflictCount d u = refl
-asks-two (newList s) d u = refl
-asks-two (newBlock s l p) d u = refl
-asks-two (writeBlock s b x) d u = refl
-asks-two (readBlock v b x) d u = refl
-asks-two (deleteBlock s b) d u = refl
-asks-two (deleteList s l) d u = refl
-asks-two (begin w) d u = refl
-asks-two (end w) d u = absurd u
-asks-two (flush a) d u = refl
-asks-two (blockAfter v l p) d u = refl
-asks-two (inventory v x) d u = refl
+-- what stands behind question 4 does not ask whether the log is acceptable
+behind-two : {qs : List (ℕ × Bool)} → Behind qs → asks 2 qs ≡ false
+behind-two {qs} h = asks-above 2 4 qs (omega arith) (rising-above 4 4 qs (omega arith) (h .rises))
 
-usual-refused : (c : Call) (n : ℕ) (d : Disk) → Usual c → refused c n d ≡ d
-unfolding refused ends
-usual-refused format n d u = refl
-usual-refused mount n d u = absurd u
-usual-refused conflictCount n d u = refl
-usual-refused (newList s) n d u = refl
-usual-refused (newBlock s l p) n d u = refl
-usual-refused (writeBlock s b x) n d u = refl
-usual-refused (readBlock v b x) n d u = refl
-usual-refused (deleteBlock s b) n d u = refl
-usual-refused (deleteList s l) n d u = refl
-usual-refused (begin w) n d u = refl
-usual-refused (end w) n d u = absurd u
-usual-refused (flush a) n d u = refl
-usual-refused (blockAfter v l p) n d u = refl
-usual-refused (inventory v x) n d u = refl
+-- such a call ends no unit, and does not ask it either
+usual : (c : Call) (d : Disk) → Usual c → (ends c ≡ none) × (asks 2 (questions c d) ≡ false)
+unfolding ends questions
+usual format d u = (refl, refl)
+usual mount d u = absurd u
+usual conflictCount d u = (refl, refl)
+usual (onStream s e) d u = (refl, behind-two (edit-behind s e d))
+usual (inView v k) d u = (refl, behind-two (look-behind k (view d v .lists)))
+usual (begin w) d u = (refl, refl)
+usual (end w) d u = absurd u
+usual (flush a) d u = (refl, refl)
 
 pub usual-performs-refused : (c : Call) (d : Disk) (x : Refusal) → Usual c → refusal c d ≡ number x → Performs c d d (refusedAnswer x) (destination c)
-unfolding refusal
-usual-performs-refused c d x u h = performs-refused c d d x (λ e. false≢true (sym (asks-two c d u) ∙ numbered (questions c d) 2 (omega arith) (h ∙ e))) (usual-refused c (number x) d u) h
+unfolding refusal refused
+usual-performs-refused c d x u h =
+    let (n, t) = usual c d u in
+    performs-refused c d d x (λ e. false≢true (sym t ∙ numbered (questions c d) 2 (omega arith) (h ∙ e))) (rw (n, refused)) h
 
 -- a refused End, which 12 closes
-end-asks-two : (u : ℕ) (d : Disk) → any (λ q. eqb (q .0) 2) (questions (end u) d) ≡ false
+end-asks-two : (u : ℕ) (d : Disk) → asks 2 (questions (end u) d) ≡ false
 unfolding questions
 end-asks-two u d = refl
 
@@ -179,6 +157,15 @@ end-performs-refused u d d′ x r h =
 pub first-refused : (k : Call) (d : Disk) (x : Refusal) (ps qs : List (ℕ × Bool)) → Usual k → refusal k d ≡ firstNo (ps ++ qs) → firstNo ps ≡ number x
     → Performs k d d (refusedAnswer x) (destination k)
 first-refused k d x ps qs u q h = usual-performs-refused k d x u (q ∙ refused-more x ps qs h)
+
+-- refused by question 1, 3 or 4: every edit and every look-up
+pub edit-unseen : (d : Disk) (s : ℕ) (e : Edit) (x : Refusal) → firstNo (opens false d s) ≡ number x → Performs (onStream s e) d d (refusedAnswer x) []
+unfolding refusal questions destination
+edit-unseen d s e x h = first-refused (onStream s e) d x (opens false d s) (editQuestions s e d) tt refl h
+
+pub look-unseen : (d : Disk) (v : ℕ) (k : Look) (x : Refusal) → firstNo (opens true d v) ≡ number x → Performs (inView v k) d d (refusedAnswer x) (lentTo k)
+unfolding refusal questions destination
+look-unseen d v k x h = first-refused (inView v k) d x (opens true d v) (lookQuestions k (view d v .lists)) tt refl h
 
 -- Accepted calls.
 pub performs-accepted : (c : Call) (d : Disk) (r : Result) → refusal c d ≡ 0 → accepted c d ≡ r → perform c d ≡ r

@@ -12,16 +12,16 @@ use Rattle.lists.specs.Tables.{Tables, OfShown}
 use Rattle.lists.proofs.Basic.{and-true, eqb-true}
 use Rattle.log.specs.declared.entry.LogEntry.the-variants.{Write}
 use Rattle.log.specs.Card.{Content, slotBytes}
-use Rattle.log.specs.Entry.{isBlock, carried, logChange}
+use Rattle.log.specs.Entry.{hasMember, isBlock, carried, logChange}
 use Rattle.disk.specs.declared.record.Record.{Record}
 use Rattle.disk.specs.declared.answer.Refusal.{Refusal}
 use Rattle.disk.specs.declared.answer.Reply.{Reply}
 use Rattle.disk.specs.declared.answer.Reply.the-variants.{Accepted, Refused}
 use Rattle.disk.specs.Record.{unitAt}
 use Rattle.disk.specs.Disk.{Disk, disk, withRecord, unitOf, view}
-use Rattle.disk.specs.Questions.{journalRoom, questions, refusal}
-use Rattle.disk.specs.Call.{writeBlock, destination}
-use Rattle.disk.specs.Perform.{accepted, change, enqueue, journalAdd, queuedEntry, spliceSome}
+use Rattle.disk.specs.Questions.{journalRoom, editQuestions, questions, refusal}
+use Rattle.disk.specs.Call.{writeBlock, onStream, destination}
+use Rattle.disk.specs.Perform.{accepted, change, noted, streamFor, made, numberGiven, changeFor, enqueue, journalAdd, queuedEntry, spliceSome}
 use Rattle.disk.specs.Answers.{replyAnswer}
 use Rattle.disk.proofs.Questions.{yes-all, queue-data, journal-data, journal-room}
 use Rattle.disk.proofs.Clauses.{right}
@@ -40,29 +40,29 @@ change-written (suc u) d b x q j k = rw (k .queue, k .journal, eqb·suc-zero u)
 
 module _ (d : Disk) (s b : ℕ) (x : Content) (a : Reply) (r : Record) where
   pub write-decides : (t : Tables) → Sees false d s t → OfShown t (λ rs. AddsAfter ((5, isBlock b && eqb (length x) slotBytes) ∷ (8, placed b rs) ∷ []) s (Write b 0) (d .rec) a r)
-      → Decides (writeBlock s b x) d s (Write b 0) a r
-  unfolding refusal questions
+      → Decides (onStream s (writeBlock b x)) d s (Write b 0) a r
+  unfolding refusal questions editQuestions
   write-decides t z f =
-      seen-decides (writeBlock s b x) d s (Write b 0) 8 (isBlock b && eqb (length x) slotBytes) (placed b (view d s .lists)) (placed b) t a r refl z (placed-here d t (view d s) (z .located) b) f
+      seen-decides (onStream s (writeBlock b x)) d s (Write b 0) 8 (isBlock b && eqb (length x) slotBytes) (placed b (view d s .lists)) (placed b) t a r refl z (placed-here d t (view d s) (z .located) b) f
 
-  pub write-refused : (y : Refusal) → a ≡ Refused y → Decides (writeBlock s b x) d s (Write b 0) a r → Performs (writeBlock s b x) d (withRecord d r) (replyAnswer a) []
+  pub write-refused : (y : Refusal) → a ≡ Refused y → Decides (onStream s (writeBlock b x)) d s (Write b 0) a r → Performs (onStream s (writeBlock b x)) d (withRecord d r) (replyAnswer a) []
   unfolding replyAnswer destination
-  write-refused y e h = let k = rw e at h in rw (e, k .0) (usual-performs-refused (writeBlock s b x) d y tt (k .1))
+  write-refused y e h = let k = rw e at h in rw (e, k .0) (usual-performs-refused (onStream s (writeBlock b x)) d y tt (k .1))
 
-  pub write-accepted : a ≡ Accepted → Decides (writeBlock s b x) d s (Write b 0) a r → (q j : List ℕ) → Copies s (d .rec) x (d .queueData) (d .journalData) q j
-      → Performs (writeBlock s b x) d (disk (d .card) q j r) (replyAnswer a) []
-  unfolding replyAnswer accepted
+  pub write-accepted : a ≡ Accepted → Decides (onStream s (writeBlock b x)) d s (Write b 0) a r → (q j : List ℕ) → Copies s (d .rec) x (d .queueData) (d .journalData) q j
+      → Performs (onStream s (writeBlock b x)) d (disk (d .card) q j r) (replyAnswer a) []
+  unfolding replyAnswer accepted made noted streamFor hasMember numberGiven changeFor
   write-accepted e h q j k =
       let w = rw e at h in
-      rw (e, w .0) (performs-accepted (writeBlock s b x) d _ (w .1) (rw (change-written s d b x q j k)))
+      rw (e, w .0) (performs-accepted (onStream s (writeBlock b x)) d _ (w .1) (rw (change-written s d b x q j k)))
 
   -- what copying needs then
-  pub write-fits : (t : Tables) → Sees false d s t → a ≡ Accepted → Decides (writeBlock s b x) d s (Write b 0) a r
+  pub write-fits : (t : Tables) → Sees false d s t → a ≡ Accepted → Decides (onStream s (writeBlock b x)) d s (Write b 0) a r
       → (length (d .queueData) ≡ 8192) × (length (d .journalData) ≡ 15360) × (length x ≡ 256) × Fits s (d .rec)
-  unfolding questions unitOf
+  unfolding questions editQuestions unitOf
   write-fits t z e h =
       let w = rw e at h in
-      let yes = yes-all (writeBlock s b x) d (w .1) in (
+      let yes = yes-all (onStream s (writeBlock b x)) d (w .1) in (
         queue-data d (z .lengths),
         journal-data d (z .lengths),
         eqb-true (length x) 256 (and-true (isBlock b) (eqb (length x) 256) (yes 3) .1),

@@ -16,7 +16,7 @@ ghost use Rattle.lists.specs.Tables.{tablesIn, OfShown};
 ghost use Rattle.log.specs.declared.entry.LogEntry.the-variants as E;
 ghost use Rattle.log.specs.Entry.{isList};
 ghost use Rattle.disk.specs.Disk.{disk};
-ghost use Rattle.disk.specs.Call.{deleteList};
+ghost use Rattle.disk.specs.Call.{deleteList, onStream};
 ghost use Rattle.disk.specs.Answers.{replyAnswer};
 ghost use Rattle.calls.specs.Adds.{AddsAfter};
 ghost use Rattle.calls.specs.Performs.{Performs};
@@ -47,7 +47,7 @@ pub fn delete_list(
     s: usize,
     l: usize,
 ) -> Replied
-    ensures { λ r. ⌜ Performs (deleteList s l) (disk (now (card .entry)) (now (queue_data .entry)) (now (journal_data .entry)) rec) (disk (now (card .entry)) (now (queue_data .entry)) (now (journal_data .entry)) (r .rec)) (replyAnswer (r .reply)) [] ⌝ }
+    ensures { λ r. ⌜ Performs (onStream s (deleteList l)) (disk (now (card .entry)) (now (queue_data .entry)) (now (journal_data .entry)) rec) (disk (now (card .entry)) (now (queue_data .entry)) (now (journal_data .entry)) (r .rec)) (replyAnswer (r .reply)) [] ⌝ }
 {
     let mut nodes = [0u8; 1280];
     match look_stream(card, queue_data, journal_data, rec, s, &mut nodes) {

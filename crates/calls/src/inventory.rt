@@ -28,7 +28,7 @@ pub fn inventory(
     v: usize,
     dest: &mut [u8],
 ) -> NumberReply
-    ensures { λ r. ⌜ Performs (call.inventory v (now (dest .entry))) (disk (now (card .entry)) (now (queue_data .entry)) (now (journal_data .entry)) rec) (disk (now (card .entry)) (now (queue_data .entry)) (now (journal_data .entry)) rec) (numberAnswer r) (now (dest .exit)) ⌝ }
+    ensures { λ r. ⌜ Performs (call.inView v (call.inventory (now (dest .entry)))) (disk (now (card .entry)) (now (queue_data .entry)) (now (journal_data .entry)) rec) (disk (now (card .entry)) (now (queue_data .entry)) (now (journal_data .entry)) rec) (numberAnswer r) (now (dest .exit)) ⌝ }
 {
     let mut nodes = [0u8; 1280];
     match look_view(card, queue_data, journal_data, rec, v, &mut nodes) {

@@ -10,7 +10,7 @@ use lists::tables::block_after;
 use lists::tables::is_taken;
 ghost use mathlib.Core.List.{[]};
 ghost use Rattle.disk.specs.Disk.{disk};
-ghost use Rattle.disk.specs.Call.{blockAfter};
+ghost use Rattle.disk.specs.Call.{blockAfter, inView};
 ghost use Rattle.disk.specs.Answers.{numberAnswer};
 ghost use Rattle.calls.specs.Performs.{Performs};
 
@@ -25,7 +25,7 @@ pub fn next(
     l: usize,
     p: usize,
 ) -> NumberReply
-    ensures { λ r. ⌜ Performs (blockAfter v l p) (disk (now (card .entry)) (now (queue_data .entry)) (now (journal_data .entry)) rec) (disk (now (card .entry)) (now (queue_data .entry)) (now (journal_data .entry)) rec) (numberAnswer r) [] ⌝ }
+    ensures { λ r. ⌜ Performs (inView v (blockAfter l p)) (disk (now (card .entry)) (now (queue_data .entry)) (now (journal_data .entry)) rec) (disk (now (card .entry)) (now (queue_data .entry)) (now (journal_data .entry)) rec) (numberAnswer r) [] ⌝ }
 {
     let mut nodes = [0u8; 1280];
     match look_view(card, queue_data, journal_data, rec, v, &mut nodes) {

@@ -11,7 +11,7 @@ use log::content::copy_content;
 use log::layout::SLOT;
 use log::legal::both;
 ghost use Rattle.disk.specs.Disk.{disk};
-ghost use Rattle.disk.specs.Call.{readBlock};
+ghost use Rattle.disk.specs.Call.{readBlock, inView};
 ghost use Rattle.disk.specs.Answers.{replyAnswer};
 ghost use Rattle.calls.specs.Performs.{Performs};
 
@@ -26,7 +26,7 @@ pub fn read(
     b: usize,
     dest: &mut [u8],
 ) -> Reply
-    ensures { λ r. ⌜ Performs (readBlock v b (now (dest .entry))) (disk (now (card .entry)) (now (queue_data .entry)) (now (journal_data .entry)) rec) (disk (now (card .entry)) (now (queue_data .entry)) (now (journal_data .entry)) rec) (replyAnswer r) (now (dest .exit)) ⌝ }
+    ensures { λ r. ⌜ Performs (inView v (readBlock b (now (dest .entry)))) (disk (now (card .entry)) (now (queue_data .entry)) (now (journal_data .entry)) rec) (disk (now (card .entry)) (now (queue_data .entry)) (now (journal_data .entry)) rec) (replyAnswer r) (now (dest .exit)) ⌝ }
 {
     let mut nodes = [0u8; 1280];
     match look_view(card, queue_data, journal_data, rec, v, &mut nodes) {

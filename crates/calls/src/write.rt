@@ -25,7 +25,7 @@ ghost use Rattle.log.specs.declared.entry.LogEntry.the-variants as E;
 ghost use Rattle.log.specs.Card.{slotBytes};
 ghost use Rattle.log.specs.Entry.{isBlock};
 ghost use Rattle.disk.specs.Disk.{disk};
-ghost use Rattle.disk.specs.Call.{writeBlock};
+ghost use Rattle.disk.specs.Call.{writeBlock, onStream};
 ghost use Rattle.disk.specs.Answers.{replyAnswer};
 ghost use Rattle.calls.specs.Adds.{AddsAfter, Copies, Fits};
 ghost use Rattle.calls.specs.Performs.{Performs};
@@ -78,7 +78,7 @@ pub fn write(
     b: usize,
     content: &[u8],
 ) -> Replied
-    ensures { λ r. ⌜ Performs (writeBlock s b (now (content .entry))) (disk (now (card .entry)) (now (queue_data .entry)) (now (journal_data .entry)) rec) (disk (now (card .entry)) (now (queue_data .exit)) (now (journal_data .exit)) (r .rec)) (replyAnswer (r .reply)) [] ⌝ }
+    ensures { λ r. ⌜ Performs (onStream s (writeBlock b (now (content .entry)))) (disk (now (card .entry)) (now (queue_data .entry)) (now (journal_data .entry)) rec) (disk (now (card .entry)) (now (queue_data .exit)) (now (journal_data .exit)) (r .rec)) (replyAnswer (r .reply)) [] ⌝ }
 {
     let mut nodes = [0u8; 1280];
     match look_stream(card, queue_data, journal_data, rec, s, &mut nodes) {

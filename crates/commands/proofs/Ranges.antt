@@ -18,9 +18,9 @@ use Rattle.lists.proofs.Placed.{placed-apply}
 use Rattle.log.specs.Entry.{legalChange, isBlock, isList}
 use Rattle.log.specs.Card.{Content, zeros}
 use Rattle.disk.specs.Disk.{Disk, view}
-use Rattle.disk.specs.Call.{blockAfter}
+use Rattle.disk.specs.Call.{blockAfter, inView}
 use Rattle.disk.specs.Questions.{viewOpen, questions, refusal}
-use Rattle.disk.specs.Perform.{Result, perform, accepted}
+use Rattle.disk.specs.Perform.{Result, found, perform, accepted}
 use Rattle.disk.specs.declared.answer.NumberReply as N
 use Rattle.disk.specs.Answers.{numberAnswer}
 use Rattle.calls.specs.Performs.{Performs}
@@ -84,18 +84,18 @@ module _ (b : ℕ) (far : 64 < b) where
   next-other rs l p h = following p (0 ∷ blocksOf rs l) (rw (eqb-false 0 b (λ e. absurd (omega arith))) (away l rs h))
 
 module _ (d : Disk) (v l p : ℕ) where
-  next-most : refusal (blockAfter v l p) d ≡ 0 → perform (blockAfter v l p) d .answer .value ≤ 64
-  unfolding questions accepted
+  next-most : refusal (inView v (blockAfter l p)) d ≡ 0 → perform (inView v (blockAfter l p)) d .answer .value ≤ 64
+  unfolding questions accepted found
   next-most h =
-      let y = yes-all (blockAfter v l p) d h in
+      let y = yes-all (inView v (blockAfter l p)) d h in
       let n = nextAfter (view d v .lists) l p in
-      rw (perform-accepted (blockAfter v l p) d h)
+      rw (perform-accepted (inView v (blockAfter l p)) d h)
       (go n (λ b f. next-other b f (view d v .lists) l p (unplaced b f d (right d (y 0) (y 1)) v (y 2))))
     where
       go : (n : ℕ) → ((b : ℕ) → 64 < b → n ≢ b) → n ≤ 64
       go n f = elim (decLe n 64) [ yes q ↦ q | no q ↦ absurd (f n (omega arith) refl) ]
 
   -- an answer that is a number is one of an accepted call
-  pub behind-most : (n : ℕ) → Performs (blockAfter v l p) d d (numberAnswer (N.the-variants.Number n)) [] → n ≤ 64
+  pub behind-most : (n : ℕ) → Performs (inView v (blockAfter l p)) d d (numberAnswer (N.the-variants.Number n)) [] → n ≤ 64
   unfolding numberAnswer
-  behind-most n h = rw (← (ap (λ (x : Result). x .answer .value) h)) (next-most (code-accepted (blockAfter v l p) d (ap (λ (x : Result). x .answer .code) h)))
+  behind-most n h = rw (← (ap (λ (x : Result). x .answer .value) h)) (next-most (code-accepted (inView v (blockAfter l p)) d (ap (λ (x : Result). x .answer .code) h)))

@@ -14,7 +14,7 @@ use Rattle.disk.specs.declared.answer.Refusal.{Refusal}
 use Rattle.disk.specs.declared.answer.Reply as R
 use Rattle.disk.specs.declared.answer.NumberReply as N
 use Rattle.disk.specs.Disk.{Disk}
-use Rattle.disk.specs.Call.{readBlock, blockAfter, inventory}
+use Rattle.disk.specs.Call.{readBlock, blockAfter, inventory, inView}
 use Rattle.disk.specs.Perform.{Answer, Result}
 use Rattle.disk.specs.Answers.{number, replyAnswer, numberAnswer}
 use Rattle.calls.specs.Performs.{Performs}
@@ -39,7 +39,7 @@ stored-more bs n b h =
 
 module _ (d : Disk) (v : ℕ) where
   module _ (l : ℕ) where
-    pub behind-is : (p : ℕ) (a : Answer) → Performs (blockAfter v l p) d d a [] → blockBehind d v l p ≡ a .value
+    pub behind-is : (p : ℕ) (a : Answer) → Performs (inView v (blockAfter l p)) d d a [] → blockBehind d v l p ≡ a .value
     unfolding blockBehind
     behind-is p a h = ap (λ (x : Result). x .answer .value) h
 
@@ -81,18 +81,18 @@ module _ (d : Disk) (v : ℕ) where
           let z : 64 - n ≡ 0 = omega arith in
           sym (append-nil (take n bs)) ∙ (rw z at (g .2))
 
-  pub block-read : (b : ℕ) (x : List ℕ) → Performs (readBlock v b zeros) d d (replyAnswer R.the-variants.Accepted) x → blockShown d v b ≡ blockLine b x
+  pub block-read : (b : ℕ) (x : List ℕ) → Performs (inView v (readBlock b zeros)) d d (replyAnswer R.the-variants.Accepted) x → blockShown d v b ≡ blockLine b x
   unfolding blockShown replyAnswer
   block-read b x h = rw h
 
-  pub block-unread : (b : ℕ) (r : Refusal) (x : List ℕ) → Performs (readBlock v b zeros) d d (replyAnswer (R.the-variants.Refused r)) x → blockShown d v b ≡ []
+  pub block-unread : (b : ℕ) (r : Refusal) (x : List ℕ) → Performs (inView v (readBlock b zeros)) d d (replyAnswer (R.the-variants.Refused r)) x → blockShown d v b ≡ []
   unfolding blockShown replyAnswer
   block-unread b r x h = rw (h, eqb-false (number r) 0 (number-nonzero r))
 
-  pub view-seen : (n : ℕ) (x : List ℕ) → Performs (inventory v (replicate 16 0)) d d (numberAnswer (N.the-variants.Number n)) x → shown v d ≡ viewShown d v (slice 0 n x)
+  pub view-seen : (n : ℕ) (x : List ℕ) → Performs (inView v (inventory (replicate 16 0))) d d (numberAnswer (N.the-variants.Number n)) x → shown v d ≡ viewShown d v (slice 0 n x)
   unfolding shown numberAnswer
   view-seen n x h = rw h
 
-  pub view-unseen : (r : Refusal) (x : List ℕ) → Performs (inventory v (replicate 16 0)) d d (numberAnswer (N.the-variants.Refused r)) x → shown v d ≡ numberLine (number r)
+  pub view-unseen : (r : Refusal) (x : List ℕ) → Performs (inView v (inventory (replicate 16 0))) d d (numberAnswer (N.the-variants.Refused r)) x → shown v d ≡ numberLine (number r)
   unfolding shown numberAnswer
   view-unseen r x h = rw (h, eqb-false (number r) 0 (number-nonzero r))

@@ -5,7 +5,7 @@ use mathlib.Core.List.{List, [], _++_}
 use Prim.Native.Nat.{ℕ}
 use lib.ListN.{take, replicate}
 use Rattle.disk.specs.Disk.{Disk}
-use Rattle.disk.specs.Call.{Call, format, mount, conflictCount, newList, newBlock, writeBlock, readBlock, deleteBlock, deleteList, begin, end, flush, blockAfter, inventory}
+use Rattle.disk.specs.Call.{newList, newBlock, writeBlock, deleteBlock, deleteList, readBlock, blockAfter, inventory, Call, format, mount, conflictCount, onStream, inView, begin, end, flush}
 use Rattle.disk.specs.Perform.{perform}
 use Rattle.text.specs.Hex.{hexBytes}
 use Rattle.text.specs.Written.{Puts}
@@ -31,16 +31,16 @@ callOf line C.Format = some format
 callOf line C.Mount = some mount
 callOf line (C.Begin u) = some (begin u)
 callOf line (C.End u) = some (end u)
-callOf line (C.NewList s) = some (newList s)
-callOf line (C.NewBlock s l p) = some (newBlock s l p)
-callOf line (C.Write s b n w) = some (writeBlock s b (dataLent (textOf line w) n))
-callOf line (C.Read v b n) = some (readBlock v b (bytesLent n))
-callOf line (C.DeleteBlock s b) = some (deleteBlock s b)
-callOf line (C.DeleteList s l) = some (deleteList s l)
+callOf line (C.NewList s) = some (onStream s newList)
+callOf line (C.NewBlock s l p) = some (onStream s (newBlock l p))
+callOf line (C.Write s b n w) = some (onStream s (writeBlock b (dataLent (textOf line w) n)))
+callOf line (C.Read v b n) = some (inView v (readBlock b (bytesLent n)))
+callOf line (C.DeleteBlock s b) = some (onStream s (deleteBlock b))
+callOf line (C.DeleteList s l) = some (onStream s (deleteList l))
 callOf line (C.Flush a) = some (flush a)
-callOf line (C.Next v l p) = some (blockAfter v l p)
+callOf line (C.Next v l p) = some (inView v (blockAfter l p))
 callOf line C.Conflicts = some conflictCount
-callOf line (C.Inventory v n) = some (inventory v (bytesLent n))
+callOf line (C.Inventory v n) = some (inView v (inventory (bytesLent n)))
 callOf line C.Cut = none
 callOf line (C.CutFlush n k) = none
 callOf line (C.CutFormat k) = none

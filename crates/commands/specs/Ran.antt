@@ -6,7 +6,7 @@ use Prim.Native.Nat.{ℕ, _%_, _≤_, min}
 use lib.Dec.{ltb}
 use lib.ListN.{length, drop, replicate, set}
 use Rattle.disk.specs.Disk.{Disk, disk}
-use Rattle.disk.specs.Call.{format, mount, conflictCount, newList, newBlock, writeBlock, readBlock, deleteBlock, deleteList, begin, end, flush, blockAfter, inventory}
+use Rattle.disk.specs.Call.{newList, newBlock, writeBlock, deleteBlock, deleteList, readBlock, blockAfter, inventory, format, mount, conflictCount, onStream, inView, begin, end, flush}
 use Rattle.crash.specs.Event.{leaves}
 use Rattle.text.specs.Adler.{adler}
 use Rattle.text.specs.Written.{Puts}
@@ -61,16 +61,16 @@ ran line C.Format s = called format s
 ran line C.Mount s = called mount s
 ran line (C.Begin u) s = called (begin u) s
 ran line (C.End u) s = called (end u) s
-ran line (C.NewList t) s = called (newList t) s
-ran line (C.NewBlock t l p) s = called (newBlock t l p) s
-ran line (C.Write t b n w) s = called (writeBlock t b (dataLent (textOf line w) n)) s
-ran line (C.Read v b n) s = called (readBlock v b (bytesLent n)) s
-ran line (C.DeleteBlock t b) s = called (deleteBlock t b) s
-ran line (C.DeleteList t l) s = called (deleteList t l) s
+ran line (C.NewList t) s = called (onStream t newList) s
+ran line (C.NewBlock t l p) s = called (onStream t (newBlock l p)) s
+ran line (C.Write t b n w) s = called (onStream t (writeBlock b (dataLent (textOf line w) n))) s
+ran line (C.Read v b n) s = called (inView v (readBlock b (bytesLent n))) s
+ran line (C.DeleteBlock t b) s = called (onStream t (deleteBlock b)) s
+ran line (C.DeleteList t l) s = called (onStream t (deleteList l)) s
 ran line (C.Flush n) s = called (flush n) s
-ran line (C.Next v l p) s = called (blockAfter v l p) s
+ran line (C.Next v l p) s = called (inView v (blockAfter l p)) s
 ran line C.Conflicts s = called conflictCount s
-ran line (C.Inventory v n) s = called (inventory v (bytesLent n)) s
+ran line (C.Inventory v n) s = called (inView v (inventory (bytesLent n))) s
 ran line C.Cut s = cutBetween s
 ran line (C.CutFlush n k) s = cutFlush n k s
 ran line (C.CutFormat k) s = cutFormat k s

@@ -4,7 +4,7 @@ use mathlib.Core.List.{List}
 use Prim.Native.Nat.{ℕ}
 use lib.Dec.{eqb}
 use lib.Seq.{slice}
-use Rattle.disk.specs.Call.{Call, format, mount, conflictCount, newList, newBlock, writeBlock, readBlock, deleteBlock, deleteList, begin, end, flush, blockAfter, inventory}
+use Rattle.disk.specs.Call.{Edit, newList, newBlock, writeBlock, deleteBlock, deleteList, Look, readBlock, blockAfter, inventory, Call, format, mount, conflictCount, onStream, inView, begin, end, flush}
 use Rattle.disk.specs.Perform.{Answer, Result}
 use Rattle.script.specs.Spelling.{bytes}
 use Rattle.script.specs.Lines.{numberLine, pairLine, tripleLine, endedLine, contentLine, countedLine}
@@ -34,18 +34,25 @@ readLine a x = cond (eqb (a .code) 0) (contentLine x) (plainLine a)
 unfoldable pub inventoryLine : Answer → List ℕ → List ℕ
 inventoryLine a x = cond (eqb (a .code) 0) (countedLine (a .value) (slice 0 (a .value) x)) (numberedLine a)
 
+-- an edit: the number where one is given
+unfoldable pub editLine : Edit → Answer → List ℕ
+editLine newList a = numberedLine a
+editLine (newBlock l p) a = numberedLine a
+editLine (writeBlock b x) a = plainLine a
+editLine (deleteBlock b) a = plainLine a
+editLine (deleteList l) a = plainLine a
+
+unfoldable pub lookLine : Look → Result → List ℕ
+lookLine (readBlock b x) r = readLine (r .answer) (r .lent)
+lookLine (blockAfter l p) r = numberedLine (r .answer)
+lookLine (inventory x) r = inventoryLine (r .answer) (r .lent)
+
 unfoldable pub lineOf : Call → Result → List ℕ
 lineOf format r = plainLine (r .answer)
 lineOf mount r = mountedLine (r .answer)
 lineOf conflictCount r = numberedLine (r .answer)
-lineOf (newList s) r = numberedLine (r .answer)
-lineOf (newBlock s l p) r = numberedLine (r .answer)
-lineOf (writeBlock s b x) r = plainLine (r .answer)
-lineOf (readBlock v b x) r = readLine (r .answer) (r .lent)
-lineOf (deleteBlock s b) r = plainLine (r .answer)
-lineOf (deleteList s l) r = plainLine (r .answer)
+lineOf (onStream s e) r = editLine e (r .answer)
+lineOf (inView v k) r = lookLine k r
 lineOf (begin u) r = plainLine (r .answer)
 lineOf (end u) r = plainLine (r .answer)
 lineOf (flush a) r = flushedLine (r .answer)
-lineOf (blockAfter v l p) r = numberedLine (r .answer)
-lineOf (inventory v x) r = inventoryLine (r .answer) (r .lent)

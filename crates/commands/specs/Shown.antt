@@ -9,7 +9,7 @@ use lib.Seq.{slice}
 use Rattle.lists.specs.Basic.{joined}
 use Rattle.log.specs.Card.{zeros}
 use Rattle.disk.specs.Disk.{Disk}
-use Rattle.disk.specs.Call.{readBlock, blockAfter, inventory}
+use Rattle.disk.specs.Call.{readBlock, blockAfter, inventory, inView}
 use Rattle.disk.specs.Perform.{perform}
 use Rattle.listing.specs.Listing.{listLine}
 use Rattle.script.specs.Lines.{numberLine, blockLine}
@@ -21,7 +21,7 @@ eachOf f ns = joined (map f ns)
 module _ (d : Disk) (v : ℕ) where
   -- the block behind another on a list, 0 if there is none
   unfoldable pub blockBehind : ℕ → ℕ → ℕ
-  blockBehind l p = perform (blockAfter v l p) d .answer .value
+  blockBehind l p = perform (inView v (blockAfter l p)) d .answer .value
 
   -- a list's blocks from b on, at most n
   unfoldable pub blocksFrom : ℕ → ℕ → ℕ → List ℕ
@@ -37,7 +37,7 @@ module _ (d : Disk) (v : ℕ) where
 
   unfoldable pub blockShown : ℕ → List ℕ
   blockShown b =
-      let r = perform (readBlock v b zeros) d in
+      let r = perform (inView v (readBlock b zeros)) d in
       cond (eqb (r .answer .code) 0) (blockLine b (r .lent)) []
 
   abbrev pub blocksShown : List ℕ → List ℕ
@@ -57,5 +57,5 @@ module _ (d : Disk) (v : ℕ) where
 
 unfoldable pub shown : ℕ → Disk → List ℕ
 shown v d =
-    let r = perform (inventory v (replicate 16 0)) d in
+    let r = perform (inView v (inventory (replicate 16 0))) d in
     cond (eqb (r .answer .code) 0) (viewShown d v (slice 0 (r .answer .value) (r .lent))) (numberLine (r .answer .code))

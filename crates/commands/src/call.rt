@@ -20,7 +20,7 @@ ghost use mathlib.Core.Option.{some};
 ghost use Prim.Native.Nat.{ℕ};
 ghost use lib.ListN.{take, replicate};
 ghost use Rattle.disk.specs.Disk.{disk};
-ghost use Rattle.disk.specs.Call.{writeBlock};
+ghost use Rattle.disk.specs.Call.{writeBlock, onStream};
 ghost use Rattle.disk.specs.Answers.{replyAnswer};
 ghost use Rattle.calls.specs.Performs.{Performs};
 ghost use Rattle.script.specs.Arguments.{textOf};
@@ -168,7 +168,7 @@ fn write(
     out: &mut [u8],
     at: usize,
 ) -> Called
-    ensures { λ r. ⌜ Calls (some (writeBlock stream block (dataLent (textOf (now (line .entry)) digits) lent))) (disk (now (card .entry)) (now (queue .entry)) (now (journal .entry)) rec) (disk (now (card .entry)) (now (queue .exit)) (now (journal .exit)) (r .rec)) (now (out .entry)) at (now (out .exit)) (r .at) ⌝ }
+    ensures { λ r. ⌜ Calls (some (onStream stream (writeBlock block (dataLent (textOf (now (line .entry)) digits) lent)))) (disk (now (card .entry)) (now (queue .entry)) (now (journal .entry)) rec) (disk (now (card .entry)) (now (queue .exit)) (now (journal .exit)) (r .rec)) (now (out .entry)) at (now (out .exit)) (r .at) ⌝ }
 {
     let mut bytes = [0u8; 256];
     hex(part(line, digits.start, digits.end), &mut bytes);
@@ -187,7 +187,7 @@ fn write_part(
     stream: usize,
     block: usize,
 ) -> Replied
-    ensures { λ r. ⌜ Performs (writeBlock stream block (take lent (now (bytes .entry) ++ replicate 44 0))) (disk (now (card .entry)) (now (queue .entry)) (now (journal .entry)) rec) (disk (now (card .entry)) (now (queue .exit)) (now (journal .exit)) (r .rec)) (replyAnswer (r .reply)) [] ⌝ }
+    ensures { λ r. ⌜ Performs (onStream stream (writeBlock block (take lent (now (bytes .entry) ++ replicate 44 0)))) (disk (now (card .entry)) (now (queue .entry)) (now (journal .entry)) rec) (disk (now (card .entry)) (now (queue .exit)) (now (journal .exit)) (r .rec)) (replyAnswer (r .reply)) [] ⌝ }
 {
     let mut content = [0u8; 300];
     put_bytes(&mut content, 0, bytes);

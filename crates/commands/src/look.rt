@@ -100,7 +100,7 @@ fn read(
     out: &mut [u8],
     at: usize,
 ) -> usize
-    ensures { λ r. ⌜ Calls (some (call.readBlock view block (bytesLent lent))) (disk (now (card .entry)) (now (queue .entry)) (now (journal .entry)) rec) (disk (now (card .entry)) (now (queue .entry)) (now (journal .entry)) rec) (now (out .entry)) at (now (out .exit)) r ⌝ }
+    ensures { λ r. ⌜ Calls (some (call.inView view (call.readBlock block (bytesLent lent)))) (disk (now (card .entry)) (now (queue .entry)) (now (journal .entry)) rec) (disk (now (card .entry)) (now (queue .entry)) (now (journal .entry)) rec) (now (out .entry)) at (now (out .exit)) r ⌝ }
 {
     let mut content = [0u8; PART];
     let reply = read_part(card, queue, journal, rec, view, block, lent, &mut content);
@@ -118,7 +118,7 @@ fn read_part(
     lent: usize,
     content: &mut [u8],
 ) -> Reply
-    ensures { λ r. ⌜ Performs (call.readBlock view block (take lent (now (content .entry)))) (disk (now (card .entry)) (now (queue .entry)) (now (journal .entry)) rec) (disk (now (card .entry)) (now (queue .entry)) (now (journal .entry)) rec) (replyAnswer r) (take lent (now (content .exit))) ⌝ }
+    ensures { λ r. ⌜ Performs (call.inView view (call.readBlock block (take lent (now (content .entry))))) (disk (now (card .entry)) (now (queue .entry)) (now (journal .entry)) rec) (disk (now (card .entry)) (now (queue .entry)) (now (journal .entry)) rec) (replyAnswer r) (take lent (now (content .exit))) ⌝ }
 {
     let n = within(lent, content);
     calls::read::read(card, queue, journal, rec, view, block, &mut content[..n])
@@ -134,7 +134,7 @@ fn inventory(
     out: &mut [u8],
     at: usize,
 ) -> usize
-    ensures { λ r. ⌜ Calls (some (call.inventory view (bytesLent lent))) (disk (now (card .entry)) (now (queue .entry)) (now (journal .entry)) rec) (disk (now (card .entry)) (now (queue .entry)) (now (journal .entry)) rec) (now (out .entry)) at (now (out .exit)) r ⌝ }
+    ensures { λ r. ⌜ Calls (some (call.inView view (call.inventory (bytesLent lent)))) (disk (now (card .entry)) (now (queue .entry)) (now (journal .entry)) rec) (disk (now (card .entry)) (now (queue .entry)) (now (journal .entry)) rec) (now (out .entry)) at (now (out .exit)) r ⌝ }
 {
     let mut lists = [0u8; PART];
     let reply = inventory_part(card, queue, journal, rec, view, lent, &mut lists);
@@ -150,7 +150,7 @@ fn inventory_part(
     lent: usize,
     lists: &mut [u8],
 ) -> NumberReply
-    ensures { λ r. ⌜ Performs (call.inventory view (take lent (now (lists .entry)))) (disk (now (card .entry)) (now (queue .entry)) (now (journal .entry)) rec) (disk (now (card .entry)) (now (queue .entry)) (now (journal .entry)) rec) (numberAnswer r) (take lent (now (lists .exit))) ⌝ }
+    ensures { λ r. ⌜ Performs (call.inView view (call.inventory (take lent (now (lists .entry))))) (disk (now (card .entry)) (now (queue .entry)) (now (journal .entry)) rec) (disk (now (card .entry)) (now (queue .entry)) (now (journal .entry)) rec) (numberAnswer r) (take lent (now (lists .exit))) ⌝ }
 {
     let n = within(lent, lists);
     calls::inventory::inventory(card, queue, journal, rec, view, &mut lists[..n])

@@ -1,29 +1,26 @@
 -- Every accepted call that changes the disk keeps the invariant.
 use mathlib.Core.Path.{_≡_, refl, _∙_}
 use mathlib.Core.Bool.{true}
-use mathlib.Core.List.{List}
 use Prim.Native.Nat.{ℕ, zero, suc, _+_}
 use native.Mathlib.Omega.{arith}
-use lib.Dec.{leb, eqb}
-use lib.ListN.{length}
-use Rattle.lists.specs.Basic.{orElse}
-use Rattle.lists.specs.Change.{Change, takeList, write, delBlock, delList, carriedBy}
-use Rattle.lists.specs.State.{taken, placed, applies, applyAll}
-use Rattle.lists.proofs.Basic.{and-true, not-false, eqb-true, leb-true, some-of}
-use Rattle.log.specs.Entry.{plain, carried, isBlock, isList}
+use lib.Dec.{leb}
+use Rattle.lists.specs.Change.{Change, takeList, putFirst, putAfter, write, delBlock, delList, carriedBy}
+use Rattle.lists.specs.State.{applies, applyAll}
+use Rattle.lists.proofs.Basic.{and-true, not-false, leb-true, some-of}
+use Rattle.log.specs.Entry.{plain, carried}
 use Rattle.log.specs.Card.{Content, zeros}
 use Rattle.log.proofs.Segment.{Sized}
 use Rattle.log.proofs.Places.{Good}
 use Rattle.disk.specs.Disk.{Disk, unitOf, queued, journalOf, committed}
-use Rattle.disk.specs.Call.{newList, newBlock, writeBlock, deleteBlock, deleteList, begin, end}
-use Rattle.disk.specs.Questions.{freeList, freeBlock, streamOpen, journalRoom, streamRoom, endApplies, predecessorRight, questions, refusal}
-use Rattle.disk.specs.Perform.{putAt, change, hold, gaveList, gaveBlock, opening, enqueue, accepted}
+use Rattle.disk.specs.Call.{Edit, onStream, begin, end}
+use Rattle.disk.specs.Questions.{streamOpen, journalRoom, streamRoom, endApplies, questions, refusal}
+use Rattle.disk.specs.Perform.{change, hold, gaveList, gaveBlock, noted, streamFor, made, numberGiven, changeFor, opening, accepted}
 use Rattle.disk.proofs.Queue.{queued-hold, queued-gaveBlock, queued-gaveList, queued-opening}
 use Rattle.disk.proofs.Journal.{journal-size, journal-opening, unit-sized, journal-hold, journal-gaveBlock, journal-gaveList}
-use Rattle.disk.proofs.Questions.{yes-all, unit-range, open-range, queue-room, stream-room, journal-room, list-number, block-number}
+use Rattle.disk.proofs.Questions.{yes-all, unit-range, open-range, queue-room, stream-room, journal-room}
 use Rattle.disk.proofs.Clauses.{Right, right}
-use Rattle.disk.proofs.Changes.{take-good, put-good, write-good, delBlock-good, delList-good, apply-applies, take-applies, put-applies, at-zero, unit-good}
-use Rattle.crash.specs.Book.{Book, join, joinPlain, joinUnit}
+use Rattle.disk.proofs.Changes.{edit-makes, stream-open, apply-applies, unit-good}
+use Rattle.crash.specs.Book.{Book, join, joinUnit}
 use Rattle.crash.proofs.Invariant.{Live, live}
 use Rattle.crash.proofs.Joining.{join-plain, join-batch, join-unit}
 
@@ -65,56 +62,26 @@ change-inv (suc u) c d b i t g a =
     let (p, q, o) = open-range d u (t .isOpen) in
     join-batch d b (suc u) c (t .sound) i p q (journal-room d u (t .journal)) (plain-sized c g)
 
+-- what the record notes of a number given is no part of it
+noted-inv : (s : ℕ) (c : Change Content) (d : Disk) (b : Book) → Live d b → Live (noted s c d) b
+unfolding noted
+noted-inv s (takeList l) d b i = gave-list d b l i
+noted-inv s (putFirst n l) d b i = gave-block (hold s n d) b n (held s n d b i)
+noted-inv s (putAfter n l p) d b i = gave-block (hold s n d) b n (held s n d b i)
+noted-inv s (write n x) d b i = i
+noted-inv s (delBlock n) d b i = i
+noted-inv s (delList l) d b i = i
+
 -- The calls.
-pub accepted-newList : (s : ℕ) (d : Disk) (b : Book) → refusal (newList s) d ≡ 0 → Live d b
-    → Live (accepted (newList s) d .disk) (joinPlain (takeList (orElse 0 (freeList d))) b)
-unfolding questions accepted
-accepted-newList s d b h i =
-    let y = yes-all (newList s) d h in
-    let l = orElse 0 (freeList d) in
-    let (t, n) = list-number d (y 3) in
-    gave-list (enqueue (plain (takeList l)) d) (joinPlain (takeList l) b) l
-    (join-plain d b (takeList l) _ (right d (y 0) (y 1)) i (omega (arith, queue-room d 1 (y 4))) (take-good l n)
-    (apply-applies (takeList l) (committed d) (take-applies l (committed d .lists) t)))
-
-pub accepted-newBlock : (s l p : ℕ) (d : Disk) (b : Book) → refusal (newBlock s l p) d ≡ 0 → Live d b
-    → Live (accepted (newBlock s l p) d .disk) (join s (putAt (orElse 0 (freeBlock d)) l p) b)
-unfolding questions accepted
-accepted-newBlock s l p d b h i =
-    let y = yes-all (newBlock s l p) d h in
-    let n = orElse 0 (freeBlock d) in
-    let (f, e, k) = block-number d (y 6) in
-    let (a, c) = and-true (isList l) (leb p 64) (y 3) in
-    gave-block (hold s n (change s (putAt n l p) d)) (join s (putAt n l p) b) n
-    (held s n (change s (putAt n l p) d) (join s (putAt n l p) b)
-    (change-inv s (putAt n l p) d b i (record { sound = right d (y 0) (y 1); isOpen = y 2; journal = y 7; queue = y 8 }) (put-good n l p k a (leb-true p 64 c))
-    (λ z. put-applies n l p (committed d .lists) (at-zero (λ x. taken l (x .lists) ≡ true) s d z (y 4)) f
-    (at-zero (λ x. predecessorRight (x .lists) l p ≡ true) s d z (y 5)))))
-
-pub accepted-write : (s k : ℕ) (x : List ℕ) (d : Disk) (b : Book) → refusal (writeBlock s k x) d ≡ 0 → Live d b
-    → Live (accepted (writeBlock s k x) d .disk) (join s (write k x) b)
-unfolding questions accepted applies
-accepted-write s k x d b h i =
-    let y = yes-all (writeBlock s k x) d h in
-    let (a, c) = and-true (isBlock k) (eqb (length x) 256) (y 3) in
-    change-inv s (write k x) d b i (record { sound = right d (y 0) (y 1); isOpen = y 2; journal = y 5; queue = y 6 }) (write-good k x a (eqb-true (length x) 256 c))
-    (λ z. at-zero (λ t. placed k (t .lists) ≡ true) s d z (y 4))
-
-pub accepted-deleteBlock : (s k : ℕ) (d : Disk) (b : Book) → refusal (deleteBlock s k) d ≡ 0 → Live d b
-    → Live (accepted (deleteBlock s k) d .disk) (join s (delBlock k) b)
-unfolding questions accepted applies
-accepted-deleteBlock s k d b h i =
-    let y = yes-all (deleteBlock s k) d h in
-    change-inv s (delBlock k) d b i (record { sound = right d (y 0) (y 1); isOpen = y 2; journal = y 5; queue = y 6 }) (delBlock-good k (y 3))
-    (λ z. at-zero (λ t. placed k (t .lists) ≡ true) s d z (y 4))
-
-pub accepted-deleteList : (s l : ℕ) (d : Disk) (b : Book) → refusal (deleteList s l) d ≡ 0 → Live d b
-    → Live (accepted (deleteList s l) d .disk) (join s (delList l) b)
-unfolding questions accepted applies
-accepted-deleteList s l d b h i =
-    let y = yes-all (deleteList s l) d h in
-    change-inv s (delList l) d b i (record { sound = right d (y 0) (y 1); isOpen = y 2; journal = y 5; queue = y 6 }) (delList-good l (y 3))
-    (λ z. at-zero (λ t. taken l (t .lists) ≡ true) s d z (y 4))
+pub accepted-edit : (s : ℕ) (e : Edit) (d : Disk) (b : Book) → refusal (onStream s e) d ≡ 0 → Live d b
+    → let c = changeFor e (numberGiven e d) in Live (accepted (onStream s e) d .disk) (join (streamFor s c) c b)
+unfolding questions accepted made
+accepted-edit s e d b h i =
+    let y = yes-all (onStream s e) d h in
+    let c = changeFor e (numberGiven e d) in
+    let m = edit-makes s e d h in
+    let t = streamFor s c in
+    noted-inv s c (change t c d) (join t c b) (change-inv t c d b i (record { sound = right d (y 0) (y 1); isOpen = stream-open s c d (y 2); journal = m .journal; queue = m .queue }) (m .good) (m .applying))
 
 -- a unit that opens was closed, so its journal is empty already
 pub accepted-begin : (u : ℕ) (d : Disk) (b : Book) → refusal (begin u) d ≡ 0 → Live d b → Live (accepted (begin u) d .disk) b

@@ -13,7 +13,7 @@ use Rattle.log.specs.Store.{doStores, formatStores}
 use Rattle.log.proofs.CardLength.{card-size}
 use Rattle.disk.specs.Record.{freshRecord}
 use Rattle.disk.specs.Disk.{Disk}
-use Rattle.disk.specs.Call.{Call, format, mount, conflictCount, newList, newBlock, writeBlock, readBlock, deleteBlock, deleteList, begin, end, flush, blockAfter, inventory, resets}
+use Rattle.disk.specs.Call.{Call, format, mount, conflictCount, onStream, inView, begin, end, flush, resets}
 use Rattle.disk.specs.Questions.{questions, refusal}
 use Rattle.disk.specs.Perform.{Answer, flushed, formatted, accepted, refusalAnswer, perform}
 use Rattle.disk.proofs.Questions.{yes-all, card-length}
@@ -29,7 +29,7 @@ use Rattle.crash.proofs.Invariant.{Tied, Inv, Live, live, inv-kept, seg
 use Rattle.crash.proofs.Cuts.{fresh-tied, cut-between, cut-format, accepted-mount, accepted-format}
 use Rattle.crash.proofs.Flushing.{cut-flush, accepted-flush}
 use Rattle.crash.proofs.Refusals.{refused-inv}
-use Rattle.crash.proofs.Calls.{accepted-newList, accepted-newBlock, accepted-write, accepted-deleteBlock, accepted-deleteList, accepted-begin, accepted-end}
+use Rattle.crash.proofs.Calls.{accepted-edit, accepted-begin, accepted-end}
 
 -- Accepted calls: after a cut only a mounting or a formatting may happen.
 awake : (d : Disk) (b : Book) (dn : Bool) → (dn ≡ false) ⊎ (false ≡ true) → Inv (record { disk = d; down = dn }) b → Live d b
@@ -42,17 +42,11 @@ unfolding accepted bookAccepted resets
 accepted-inv format d b dn h w i = accepted-format (record { disk = d; down = dn }) b i
 accepted-inv mount d b dn h w i = accepted-mount (record { disk = d; down = dn }) b i
 accepted-inv conflictCount d b dn h w i = awake d b dn w i
-accepted-inv (newList s) d b dn h w i = accepted-newList s d b h (awake d b dn w i)
-accepted-inv (newBlock s l p) d b dn h w i = accepted-newBlock s l p d b h (awake d b dn w i)
-accepted-inv (writeBlock s k x) d b dn h w i = accepted-write s k x d b h (awake d b dn w i)
-accepted-inv (readBlock v k x) d b dn h w i = awake d b dn w i
-accepted-inv (deleteBlock s k) d b dn h w i = accepted-deleteBlock s k d b h (awake d b dn w i)
-accepted-inv (deleteList s l) d b dn h w i = accepted-deleteList s l d b h (awake d b dn w i)
+accepted-inv (onStream s e) d b dn h w i = accepted-edit s e d b h (awake d b dn w i)
+accepted-inv (inView v k) d b dn h w i = awake d b dn w i
 accepted-inv (begin u) d b dn h w i = accepted-begin u d b h (awake d b dn w i)
 accepted-inv (end u) d b dn h w i = accepted-end u d b h (awake d b dn w i)
 accepted-inv (flush a) d b dn h w i = accepted-flush a d b (awake d b dn w i)
-accepted-inv (blockAfter v l p) d b dn h w i = awake d b dn w i
-accepted-inv (inventory v x) d b dn h w i = awake d b dn w i
 
 -- A call that happens, whole or in parts lent.
 book-accepted : (c : Call) (a : Answer) (b : Book) → a .code ≡ 0 → bookCalled c a b ≡ bookAccepted c (a .value) b

@@ -1,6 +1,7 @@
 -- A refused call keeps the invariant, whatever it was lent: refusal 12 closes the unit and drops its batch, another changes nothing.
-use mathlib.Core.Path.{_≡_, refl, sym, _∙_}
+use mathlib.Core.Path.{_≡_, refl, sym, ap, _∙_}
 use mathlib.Core.Bool.{Bool, true, false}
+use mathlib.Core.Option.{Option, none, some, Option·some-injective}
 use mathlib.Core.List.{[]}
 use Prim.Native.Nat.{ℕ, suc, _-_, _≤_}
 use native.Mathlib.Omega.{arith}
@@ -9,12 +10,12 @@ use lib.Dec.{eqb}
 use lib.ListN.{length-set}
 use Rattle.lists.proofs.Basic.{eqb-true}
 use Rattle.disk.specs.Disk.{Disk, unitOf, journalOf}
-use Rattle.disk.specs.Call.{Call, format, mount, conflictCount, newList, newBlock, writeBlock, readBlock, deleteBlock, deleteList, begin, end, flush, blockAfter, inventory, ends}
+use Rattle.disk.specs.Call.{Call, end, ends}
 use Rattle.disk.specs.Questions.{questions, refusal}
 use Rattle.disk.specs.Perform.{closing, conflicted, refused}
 use Rattle.disk.proofs.Queue.{queued-closing, queued-conflicted}
 use Rattle.disk.proofs.Journal.{journal-closing, journal-closing-other, journal-conflicted}
-use Rattle.disk.proofs.Questions.{past, unit-range}
+use Rattle.disk.proofs.Questions.{past, twelve-end, unit-range}
 use Rattle.crash.specs.Event.{Parts, World, lend, giveBack}
 use Rattle.crash.specs.Book.{Book, batchOf, withBatch, placedEntries, bookRefused}
 use Rattle.crash.proofs.Book.{batch-other, batch-dropped}
@@ -61,33 +62,21 @@ closed-inv p w b u l i =
     })
 
 -- the unit is open, so it is one
-end-range : (u : ℕ) (d : Disk) → refusal (end u) d ≡ 12 → 1 ≤ u
-unfolding refusal questions
-end-range u d h = unit-range d u (past 3 (questions (end u) d) 12 (omega arith) h 2 (omega arith)) .0
-
-refused-end : (u m : ℕ) (p : Parts) (w : World) (b : Book) → refusal (end u) (lend p (w .disk)) ≡ suc m → Inv w b
-    → Inv (after p w (refused (end u) (suc m) (lend p (w .disk)))) (bookRefused (end u) (suc m) b)
-unfolding refused bookRefused ends
-refused-end u m p w b h i = go (eqb (suc m) 12) refl
-  where
-    go : (f : Bool) → eqb (suc m) 12 ≡ f → Inv (after p w (refused (end u) (suc m) (lend p (w .disk)))) (bookRefused (end u) (suc m) b)
-    go true f = rw (f, refused, bookRefused) (closed-inv p w b u (end-range u (lend p (w .disk)) (h ∙ eqb-true (suc m) 12 f)) i)
-    go false f = rw (f, refused, bookRefused) (unchanged p w b i)
+end-range : (c : Call) (u : ℕ) (d : Disk) → ends c ≡ some u → refusal c d ≡ 12 → 1 ≤ u
+unfolding refusal questions ends
+end-range c u d o h =
+    let (v, e) = twelve-end c d h in
+    let k : v ≡ u = Option·some-injective v u (sym (ap ends e) ∙ o) in
+    let r : refusal (end v) d ≡ 12 = sym (ap (λ (x : Call). refusal x d) e) ∙ h in
+    let (l, _, _) = unit-range d v (past 3 (questions (end v) d) 12 (omega arith) r 2 (omega arith)) in
+    omega arith
 
 pub refused-inv : (c : Call) (m : ℕ) (p : Parts) (w : World) (b : Book) → refusal c (lend p (w .disk)) ≡ suc m → Inv w b
     → Inv (after p w (refused c (suc m) (lend p (w .disk)))) (bookRefused c (suc m) b)
-unfolding refused bookRefused ends
-refused-inv format m p w b h i = unchanged p w b i
-refused-inv mount m p w b h i = unchanged p w b i
-refused-inv conflictCount m p w b h i = unchanged p w b i
-refused-inv (newList s) m p w b h i = unchanged p w b i
-refused-inv (newBlock s l q) m p w b h i = unchanged p w b i
-refused-inv (writeBlock s k x) m p w b h i = unchanged p w b i
-refused-inv (readBlock v k x) m p w b h i = unchanged p w b i
-refused-inv (deleteBlock s k) m p w b h i = unchanged p w b i
-refused-inv (deleteList s l) m p w b h i = unchanged p w b i
-refused-inv (begin u) m p w b h i = unchanged p w b i
-refused-inv (end u) m p w b h i = refused-end u m p w b h i
-refused-inv (flush a) m p w b h i = unchanged p w b i
-refused-inv (blockAfter v l q) m p w b h i = unchanged p w b i
-refused-inv (inventory v x) m p w b h i = unchanged p w b i
+unfolding refused bookRefused
+refused-inv c m p w b h i = go (ends c) refl (eqb (suc m) 12) refl
+  where
+    go : (o : Option ℕ) → ends c ≡ o → (f : Bool) → eqb (suc m) 12 ≡ f → Inv (after p w (refused c (suc m) (lend p (w .disk)))) (bookRefused c (suc m) b)
+    go none o f e = rw (o, refused, bookRefused) (unchanged p w b i)
+    go (some u) o true e = rw (o, refused, bookRefused) (rw (e, refused, bookRefused) (closed-inv p w b u (end-range c u (lend p (w .disk)) o (h ∙ eqb-true (suc m) 12 e)) i))
+    go (some u) o false e = rw (o, refused, bookRefused) (rw (e, refused, bookRefused) (unchanged p w b i))

@@ -11,7 +11,7 @@ use Rattle.lists.specs.State.{State, state, row, block}
 use Rattle.log.specs.Card.{Content, zeros}
 use Rattle.disk.specs.Record.{freshRecord, withFlow}
 use Rattle.disk.specs.Disk.{Disk, view}
-use Rattle.disk.specs.Call.{Call, mount, newList, newBlock, begin, end, flush}
+use Rattle.disk.specs.Call.{newList, newBlock, Call, mount, onStream, begin, end, flush}
 use Rattle.disk.proofs.Computing.{computing}
 use Rattle.crash.specs.Event.{Part, Rest, Event, called, cutFlush, cutFormat, partOf, putBack, lend, giveBack, isWhole, lentWhole, leaves, isAccepted, answered, step, mayHappen}
 use Rattle.crash.specs.Book.{simple, whole, emptyBook, joinPlain, batchOf, withBatch, join, memberOf, joinUnit, cost, entriesOf, placedEntries, lastInUse, placeOf, moveTo, bookStore, bookFlush, keepFirst, bookFormat, isNumber, closingOnCard, longest, onCard, settle, bookAccepted, bookRefused, bookCalled, bookStep}
@@ -37,18 +37,18 @@ other = record { queueData = replicate 8192 9; journalData = replicate 15360 9; 
 
 pub events : List Event
 events =
-    wholly (newList 0)
-    ∷ wholly (newBlock 0 1 0)
+    wholly (onStream 0 newList)
+    ∷ wholly (onStream 0 (newBlock 1 0))
     -- a unit, its flush cut: the two plain entries' 7 stores are done, its member's 5, and 1 of its commit's 3
     ∷ wholly (begin 1)
-    ∷ wholly (newBlock 1 1 1)
+    ∷ wholly (onStream 1 (newBlock 1 1))
     ∷ wholly (end 1)
     ∷ cutFlush 100 13 other
     -- a mount that is lent too little is refused; after the next, unit 1's member stands dead before unit 2's
     ∷ partly mount
     ∷ wholly mount
     ∷ wholly (begin 2)
-    ∷ wholly (newBlock 2 1 0)
+    ∷ wholly (onStream 2 (newBlock 1 0))
     ∷ wholly (end 2)
     ∷ wholly (flush 7)
     -- a formatting, cut after segment 1's store and before segment 0's

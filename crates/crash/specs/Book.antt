@@ -6,15 +6,15 @@ use Prim.Native.Nat.{ℕ, zero, suc, _+_, _-_, _*_}
 use lib.Dec.{eqb}
 use lib.ListN.{length, getD, set, replicate}
 use Rattle.lists.specs.Basic.{bind, any}
-use Rattle.lists.specs.Change.{Change, takeList, write, delBlock, delList}
+use Rattle.lists.specs.Change.{Change}
 use Rattle.lists.specs.State.{State, apply, applyAll}
 use Rattle.log.specs.Entry.{Entry, plain, member, commit, carried, entryLength}
 use Rattle.log.specs.Card.{Content, zeros, usedBy, slotBytes}
 use Rattle.log.specs.Store.{opened, afterAll, home}
 use Rattle.log.specs.declared.place.Place.{Place}
 use Rattle.disk.specs.Record.{unitCount}
-use Rattle.disk.specs.Call.{Call, format, mount, conflictCount, newList, newBlock, writeBlock, readBlock, deleteBlock, deleteList, begin, end, flush, blockAfter, inventory, ends}
-use Rattle.disk.specs.Perform.{Answer, putAt}
+use Rattle.disk.specs.Call.{Call, format, mount, conflictCount, onStream, inView, begin, end, flush, ends}
+use Rattle.disk.specs.Perform.{Answer, streamFor, changeFor}
 use Rattle.crash.specs.Event.{Event, called, cutBetween, cutFlush, cutFormat}
 
 -- an entry of the serial history: a simple change, or a unit's changes as one
@@ -154,17 +154,11 @@ unfoldable pub bookAccepted : Call → ℕ → Book → Book
 bookAccepted format n b = settle (bookFormat (length (b .segs)) b)
 bookAccepted mount n b = settle b
 bookAccepted conflictCount n b = b
-bookAccepted (newList s) n b = joinPlain (takeList n) b
-bookAccepted (newBlock s l p) n b = join s (putAt n l p) b
-bookAccepted (writeBlock s k x) n b = join s (write k x) b
-bookAccepted (readBlock v k x) n b = b
-bookAccepted (deleteBlock s k) n b = join s (delBlock k) b
-bookAccepted (deleteList s l) n b = join s (delList l) b
+bookAccepted (onStream s e) n b = let c = changeFor e n in join (streamFor s c) c b
+bookAccepted (inView v k) n b = b
 bookAccepted (begin u) n b = b
 bookAccepted (end u) n b = joinUnit u b
 bookAccepted (flush a) n b = bookFlush a b
-bookAccepted (blockAfter v l p) n b = b
-bookAccepted (inventory v x) n b = b
 
 -- "refusal 12 drops it", the unit's batch
 unfoldable pub bookRefused : Call → ℕ → Book → Book

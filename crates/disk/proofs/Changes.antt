@@ -1,50 +1,53 @@
--- The changes that accepted calls make: each may be placed on the card, and one on stream 0 applies to the committed state. The entries of a unit's
--- end may be placed too, and act as one.
+-- The changes that accepted calls make: each may be placed on the card, one that is queued applies to the committed state, and what it puts is free
+-- (`edit-makes`). The entries of a unit's end may be placed too, and act as one.
 use mathlib.Core.Path.{_≡_, refl, sym, ap, _∙_, subst}
-use mathlib.Core.Bool.{true, false}
+use mathlib.Core.Bool.{Bool, true, false, cond, false≢true}
 use mathlib.Core.Option.{some}
 use mathlib.Core.List.{List, [], _∷_, _++_, map, append-assoc, append-nil}
 use Prim.Native.Nat.{ℕ, zero, suc, _-_, _≤_}
 use native.Mathlib.Omega.{arith}
-use lib.Dec.{eqb·suc-zero}
+use lib.Dec.{leb, eqb, eqb·suc-zero}
 use lib.ListN.{length, length-append}
 use lib.Seq.{drop-at}
 use Rattle.lists.specs.Basic.{all}
 use Rattle.lists.specs.Change.{Change, takeList, write, delBlock, delList, mapChange, carriedBy}
 use Rattle.lists.specs.State.{Row, State, state, taken, placed, applies, changed, apply, applyAll}
-use Rattle.lists.proofs.Basic.{and-true, not-true, le-true, guard-true, all-append}
-use Rattle.log.specs.Entry.{Entry, plain, member, commit, mapEntry, carried, raw, legal, legalChange, isBlock, isList}
+use Rattle.lists.proofs.Basic.{and-true, not-true, eqb-true, leb-true, le-true, guard-true, all-append}
+use Rattle.lists.proofs.Count.{puts}
+use Rattle.log.specs.Entry.{Entry, plain, member, commit, mapEntry, carried, raw, legal, legalChange, hasMember, isBlock, isList}
 use Rattle.log.specs.Reader.{Reader, reader, settled, lastOf, read, replay}
 use Rattle.log.specs.Card.{Content, zeros}
 use Rattle.log.proofs.Places.{Good}
 use Rattle.log.proofs.Flows.{AllGood}
 use Rattle.disk.specs.declared.record.Record.{Record}
+use Rattle.disk.specs.Record.{holderOf}
 use Rattle.disk.specs.Disk.{Disk, committed, view}
 use Rattle.disk.specs.Sound.{journalSound}
-use Rattle.disk.specs.Questions.{predecessorRight}
-use Rattle.disk.specs.Perform.{putAt, unitEntries}
+use Rattle.disk.specs.Call.{Edit, newList, newBlock, writeBlock, deleteBlock, deleteList, onStream}
+use Rattle.disk.specs.Questions.{streamOpen, predecessorRight, journalRoom, streamRoom, editQuestions, questions, refusal}
+use Rattle.disk.specs.Perform.{streamFor, putAt, numberGiven, changeFor, unitEntries}
 use Rattle.disk.proofs.Queue.{AllSized}
-use Rattle.disk.proofs.Questions.{in-range}
+use Rattle.disk.proofs.Questions.{yes-all, in-range, list-number, block-number}
 
 -- Changes that may be placed.
-pub take-good : (l : ℕ) → isList l ≡ true → Good (plain (takeList l))
+take-good : (l : ℕ) → isList l ≡ true → Good (plain (takeList l))
 unfolding legal raw mapEntry mapChange legalChange carried carriedBy
 take-good l h = record { lawful = h; sized = tt }
 
-pub put-good : (b l p : ℕ) → isBlock b ≡ true → isList l ≡ true → p ≤ 64 → Good (plain (putAt b l p))
+put-good : (b l p : ℕ) → isBlock b ≡ true → isList l ≡ true → p ≤ 64 → Good (plain (putAt b l p))
 unfolding putAt legal raw mapEntry mapChange legalChange carried carriedBy
 put-good b l zero x y z = record { lawful = rw (x, y); sized = tt }
 put-good b l (suc p) x y z = record { lawful = rw (x, y) (in-range 64 (suc p) (omega arith) z); sized = tt }
 
-pub write-good : (b : ℕ) (x : Content) → isBlock b ≡ true → length x ≡ 256 → Good (plain (write b x))
+write-good : (b : ℕ) (x : Content) → isBlock b ≡ true → length x ≡ 256 → Good (plain (write b x))
 unfolding legal raw mapEntry mapChange legalChange carried carriedBy
 write-good b x h z = record { lawful = rw h; sized = z }
 
-pub delBlock-good : (b : ℕ) → isBlock b ≡ true → Good (plain (delBlock b))
+delBlock-good : (b : ℕ) → isBlock b ≡ true → Good (plain (delBlock b))
 unfolding legal raw mapEntry mapChange legalChange carried carriedBy
 delBlock-good b h = record { lawful = h; sized = tt }
 
-pub delList-good : (l : ℕ) → isList l ≡ true → Good (plain (delList l))
+delList-good : (l : ℕ) → isList l ≡ true → Good (plain (delList l))
 unfolding legal raw mapEntry mapChange legalChange carried carriedBy
 delList-good l h = record { lawful = h; sized = tt }
 
@@ -53,19 +56,89 @@ pub apply-applies : (c : Change Content) (s : State Content) → applies c (s .l
 unfolding apply
 apply-applies c s h = guard-true (applies c (s .lists)) _ h
 
-pub take-applies : (l : ℕ) (rs : List (Row Content)) → taken l rs ≡ false → applies {D = Content} (takeList l) rs ≡ true
+take-applies : (l : ℕ) (rs : List (Row Content)) → taken l rs ≡ false → applies {D = Content} (takeList l) rs ≡ true
 unfolding applies
 take-applies l rs h = not-true (taken l rs) h
 
-pub put-applies : (b l p : ℕ) (rs : List (Row Content)) → taken l rs ≡ true → placed b rs ≡ false → predecessorRight rs l p ≡ true → applies (putAt b l p) rs ≡ true
+put-applies : (b l p : ℕ) (rs : List (Row Content)) → taken l rs ≡ true → placed b rs ≡ false → predecessorRight rs l p ≡ true → applies (putAt b l p) rs ≡ true
 unfolding putAt applies predecessorRight
 put-applies b l zero rs t n h = rw (t, n)
 put-applies b l (suc p) rs t n h = rw (t, n) (rw (eqb·suc-zero p) at h)
 
 -- a change on stream 0 is judged in the committed state
-pub at-zero : (P : State Content → Type 0) (s : ℕ) (d : Disk) → s ≡ 0 → P (view d s) → P (committed d)
+at-zero : (P : State Content → Type 0) (s : ℕ) (d : Disk) → s ≡ 0 → P (view d s) → P (committed d)
 unfolding view
 at-zero P s d e h = subst (λ (n : ℕ). P (view d n)) e h
+
+-- What an accepted edit makes.
+put-member : (b l p : ℕ) → hasMember (putAt b l p) ≡ true
+unfolding hasMember putAt
+put-member b l zero = refl
+put-member b l (suc p) = refl
+
+put-stream : (s b l p : ℕ) → streamFor s (putAt b l p) ≡ s
+unfolding streamFor
+put-stream s b l p = rw (put-member b l p)
+
+put-puts : (b l p n : ℕ) → puts (putAt b l p) n ≡ true → b ≡ n
+unfolding putAt
+put-puts b l zero n h = eqb-true b n h
+put-puts b l (suc p) n h = eqb-true b n h
+
+pub stream-open : (s : ℕ) (c : Change Content) (d : Disk) → streamOpen d s ≡ true → streamOpen d (streamFor s c) ≡ true
+unfolding streamFor streamOpen
+stream-open s c d h = go (hasMember c)
+  where
+    go : (b : Bool) → streamOpen d (cond b s 0) ≡ true
+    go true = h
+    go false = refl
+
+-- a change made on stream s of disk d: it goes to a queue or a journal that has room
+pub record Makes (s : ℕ) (c : Change Content) (d : Disk) : Type 0 where
+  pub journal : journalRoom d (streamFor s c) ≡ true
+  pub queue : streamRoom d (streamFor s c) ≡ true
+  pub good : Good (plain c)
+  pub applying : streamFor s c ≡ 0 → applies c (committed d .lists) ≡ true
+  pub free : (b : ℕ) → puts c b ≡ true → (holderOf (d .rec) b ≡ 0) × (placed b (committed d .lists) ≡ false)
+
+pub edit-makes : (s : ℕ) (e : Edit) (d : Disk) → refusal (onStream s e) d ≡ 0 → Makes s (changeFor e (numberGiven e d)) d
+unfolding questions editQuestions numberGiven changeFor streamFor hasMember journalRoom streamRoom applies
+edit-makes s newList d h =
+    let y = yes-all (onStream s newList) d h in
+    let l = numberGiven newList d in
+    let (n, i) = list-number d (y 3) in
+    record { journal = refl; queue = y 4; good = take-good l i; applying = λ z. take-applies l (committed d .lists) n; free = λ b e. absurd (false≢true e) }
+edit-makes s (newBlock l p) d h =
+    let y = yes-all (onStream s (newBlock l p)) d h in
+    let b = numberGiven (newBlock l p) d in
+    let (n, z, i) = block-number d (y 6) in
+    let (a, c) = and-true (isList l) (leb p 64) (y 3) in
+    let w = put-stream s b l p in
+    record {
+      journal = ap (journalRoom d) w ∙ y 7;
+      queue = ap (streamRoom d) w ∙ y 8;
+      good = put-good b l p i a (leb-true p 64 c);
+      applying =
+          λ e. put-applies b l p (committed d .lists)
+          (at-zero (λ x. taken l (x .lists) ≡ true) s d (sym w ∙ e) (y 4)) n (at-zero (λ x. predecessorRight (x .lists) l p ≡ true) s d (sym w ∙ e) (y 5));
+      free = λ x e. rw (← (put-puts b l p x e)) (z, n);
+    }
+edit-makes s (writeBlock b x) d h =
+    let y = yes-all (onStream s (writeBlock b x)) d h in
+    let (a, c) = and-true (isBlock b) (eqb (length x) 256) (y 3) in
+    record {
+      journal = y 5;
+      queue = y 6;
+      good = write-good b x a (eqb-true (length x) 256 c);
+      applying = λ e. at-zero (λ t. placed b (t .lists) ≡ true) s d e (y 4);
+      free = λ n e. absurd (false≢true e);
+    }
+edit-makes s (deleteBlock b) d h =
+    let y = yes-all (onStream s (deleteBlock b)) d h in
+    record { journal = y 5; queue = y 6; good = delBlock-good b (y 3); applying = λ e. at-zero (λ t. placed b (t .lists) ≡ true) s d e (y 4); free = λ n e. absurd (false≢true e) }
+edit-makes s (deleteList l) d h =
+    let y = yes-all (onStream s (deleteList l)) d h in
+    record { journal = y 5; queue = y 6; good = delList-good l (y 3); applying = λ e. at-zero (λ t. taken l (t .lists) ≡ true) s d e (y 4); free = λ n e. absurd (false≢true e) }
 
 -- The entries of a unit's end.
 pub good-all : (es : List (Entry Content)) → all (λ e. legal (raw 0 e)) es ≡ true → AllSized es → AllGood es

@@ -23,10 +23,10 @@ use Rattle.log.proofs.Numbers.{mayEnter, legal-enters, InRange, start-range, re
 use Rattle.disk.specs.declared.record.Record.{Record}
 use Rattle.disk.specs.Disk.{Disk, queued, journalOf, stateOf, persistent, committed, view}
 use Rattle.disk.specs.Sound.{isOpenUnit, journalSound}
-use Rattle.disk.specs.Call.{inventory}
-use Rattle.disk.specs.Questions.{viewOpen, questions, refusal}
+use Rattle.disk.specs.Call.{inventory, inView}
+use Rattle.disk.specs.Questions.{viewOpen, lookQuestions, questions, refusal}
 use Rattle.lists.specs.Lookup.{listNums}
-use Rattle.disk.specs.Perform.{accepted, perform}
+use Rattle.disk.specs.Perform.{found, accepted, perform}
 use Rattle.disk.specs.Inventory.{occurs, Inventory}
 use Rattle.disk.proofs.Questions.{yes-all, unit-range, open-views}
 use Rattle.disk.proofs.Clauses.{Right, right, committed-is}
@@ -102,9 +102,9 @@ listed-meets s x k e = record {
     n = length-map (s .lists) (λ (r : Row Content). r .num)
 
 -- what an accepted inventory returns and fills
-pub inventory-meets : (v : ℕ) (x : List ℕ) (d : Disk) → refusal (inventory v x) d ≡ 0
-    → let r = perform (inventory v x) d in Inventory (view d v) (r .answer .value) x (r .lent)
-unfolding questions accepted
+pub inventory-meets : (v : ℕ) (x : List ℕ) (d : Disk) → refusal (inView v (inventory x)) d ≡ 0
+    → let r = perform (inView v (inventory x)) d in Inventory (view d v) (r .answer .value) x (r .lent)
+unfolding questions lookQuestions accepted found
 inventory-meets v x d h =
-    let y = yes-all (inventory v x) d h in
-    rw (perform-accepted (inventory v x) d h) (listed-meets (view d v) x (view-listed d (right d (y 0) (y 1)) v (y 2)) (eqb-true (length x) 16 (y 3)))
+    let y = yes-all (inView v (inventory x)) d h in
+    rw (perform-accepted (inView v (inventory x)) d h) (listed-meets (view d v) x (view-listed d (right d (y 0) (y 1)) v (y 2)) (eqb-true (length x) 16 (y 3)))

@@ -2,7 +2,7 @@
 -- is held before its put is journalled, and a unit closes before its entries join the queue, which leaves the same disk.
 use mathlib.Core.Path.{_≡_, refl, sym, ap, _∙_, subst}
 use mathlib.Core.Logic.{inl, _≢_}
-use mathlib.Core.Bool.{Bool, true, false, false≢true}
+use mathlib.Core.Bool.{Bool, true, false, _&&_, cond, false≢true}
 use mathlib.Core.Option.{some}
 use mathlib.Core.List.{List, [], _∷_}
 use Prim.Native.Nat.{ℕ, zero, suc, _+_, _-_, _*_, _≤_, _<_}
@@ -10,13 +10,13 @@ use native.Mathlib.Omega.{arith}
 use lib.Dec.{leb, eqb, eqb·suc-zero}
 use lib.ListN.{length, length-replicate, getD-replicate}
 use lib.Seq.{take-all}
-use Rattle.lists.specs.Basic.{orElse, all, joined}
+use Rattle.lists.specs.Basic.{all, joined}
 use Rattle.lists.specs.Change.{Change, takeList, putFirst, putAfter, write, delBlock, delList, mapChange, carriedBy}
-use Rattle.lists.specs.State.{State, state, taken, placed, applies, changed, apply, applyAll}
-use Rattle.lists.proofs.Basic.{and-true, not-false, eqb-true, leb-true, some-of, getD-same, joined-nils}
+use Rattle.lists.specs.State.{State, state, placed, applies, changed, apply, applyAll}
+use Rattle.lists.proofs.Basic.{and-true, not-false, eqb-same, eqb-true, leb-true, some-of, getD-same, joined-nils}
 use Rattle.lists.proofs.Count.{puts}
 use Rattle.lists.proofs.Placed.{placed-changed, placed-all}
-use Rattle.log.specs.Entry.{Entry, plain, member, mapEntry, carried, raw, legal, hasMember, isBlock, isList}
+use Rattle.log.specs.Entry.{Entry, plain, member, mapEntry, carried, raw, legal, legalChange, hasMember, isBlock, isList}
 use Rattle.log.specs.Reader.{Reader, settled, start, read, replay}
 use Rattle.log.specs.Card.{Content, zeros, cardLength, segmentsIn, sound, mounted}
 use Rattle.log.specs.Store.{formatStores}
@@ -28,16 +28,16 @@ use Rattle.log.proofs.Flows.{AllGood}
 use Rattle.disk.specs.Record.{noUnit, freshUnit, freshRecord, holderOf}
 use Rattle.disk.specs.Disk.{Disk, withRecord, unitOf, journalOf, readerOf, committed}
 use Rattle.disk.specs.Sound.{isOpenUnit, headStanding}
-use Rattle.disk.specs.Call.{format, mount, newList, newBlock, writeBlock, deleteBlock, deleteList, begin, end, ends}
-use Rattle.disk.specs.Questions.{mountable, streamOpen, predecessorRight, freeBlock, freeList, journalRoom, endApplies, queueRoom, streamRoom, questions, refusal}
-use Rattle.disk.specs.Perform.{enqueue, enqueueAll, journalAdd, change, hold, gaveBlock, gaveList, opening, closing, conflicted, unitEntries, putAt, formatted, accepted, refused}
+use Rattle.disk.specs.Call.{Edit, format, mount, onStream, begin, end, ends}
+use Rattle.disk.specs.Questions.{mountable, streamOpen, journalRoom, endApplies, queueRoom, streamRoom, questions, refusal}
+use Rattle.disk.specs.Perform.{enqueue, enqueueAll, journalAdd, change, hold, gaveBlock, gaveList, opening, closing, noted, streamFor, made, numberGiven, changeFor, conflicted, unitEntries, formatted, accepted, refused}
 use Rattle.disk.proofs.Queue.{beside-one, beside-all}
 use Rattle.disk.proofs.Journal.{journal-data-add, journal-size, unit-entries, unit-sized}
-use Rattle.disk.proofs.Questions.{yes-all, past, card-length, queue-data, journal-data, unit-range, queue-room, stream-room, journal-room, list-number, block-number}
+use Rattle.disk.proofs.Questions.{yes-all, past, card-length, queue-data, journal-data, unit-range, queue-room, stream-room, journal-room}
 use Rattle.disk.proofs.Fresh.{fresh-queue, fresh-journal, fresh-reader}
 use Rattle.disk.proofs.Clauses.{UnitsRight, Right, committed-is, right}
 use Rattle.disk.proofs.Held.{closing-released, hold-holder, journals-apart}
-use Rattle.disk.proofs.Changes.{take-good, put-good, write-good, delBlock-good, delList-good, apply-applies, take-applies, put-applies, at-zero, unit-good, replay-unit}
+use Rattle.disk.proofs.Changes.{Makes, edit-makes, stream-open, apply-applies, unit-good, replay-unit}
 use Rattle.disk.proofs.Growth.{enqueue-log, enqueueAll-log, log-same}
 use Rattle.disk.proofs.Units.{units-state, units-same, hold-units, journal-units, opening-units, closing-units}
 
@@ -196,20 +196,11 @@ plain-right c d m g a f k =
     apart n o false x = x
 
 -- A change on a stream: what it puts is held by that unit, or by none on stream 0.
-change-right : (s : ℕ) (c : Change Content) (d : Disk) → streamOpen d s ≡ true → journalRoom d s ≡ true → streamRoom d s ≡ true → hasMember c ≡ true → Good (plain c)
+change-right : (s : ℕ) (c : Change Content) (d : Disk) → streamOpen d s ≡ true → journalRoom d s ≡ true → streamRoom d s ≡ true → (1 ≤ s → hasMember c ≡ true) → Good (plain c)
     → (s ≡ 0 → applies c (committed d .lists) ≡ true) → ((b : ℕ) → puts c b ≡ true → holderOf (d .rec) b ≡ s) → Right d → Right (change s c d)
 unfolding change streamOpen
 change-right zero c d o j r m g a f k = plain-right c d (stream-room d r) g (a refl) f k
-change-right (suc u) c d o j r m g a f k = journal-right (suc u) c d (rw (eqb·suc-zero u) at o) (journal-room d u j) m g f k
-
-pub newList-right : (s : ℕ) (d : Disk) → refusal (newList s) d ≡ 0 → Right (accepted (newList s) d .disk)
-unfolding questions accepted
-newList-right s d h =
-    let y = yes-all (newList s) d h in
-    let l = orElse 0 (freeList d) in
-    let (n, i) = list-number d (y 3) in
-    gave-list l (enqueue (plain (takeList l)) d) i
-    (plain-right (takeList l) d (omega (arith, queue-room d 1 (y 4))) (take-good l i) (take-applies l (committed d .lists) n) (λ b e. absurd (false≢true e)) (right d (y 0) (y 1)))
+change-right (suc u) c d o j r m g a f k = journal-right (suc u) c d (rw (eqb·suc-zero u) at o) (journal-room d u j) (m (omega arith)) g f k
 
 -- the block is held first
 hold-change : (s b : ℕ) (c : Change Content) (d : Disk) → hold s b (change s c d) ≡ change s c (hold s b d)
@@ -237,56 +228,51 @@ unfolding hold
 hold-zero zero b d e = refl
 hold-zero (suc u) b d e = absurd (omega arith)
 
-put-member : (b l p : ℕ) → hasMember (putAt b l p) ≡ true
-unfolding hasMember putAt
-put-member b l zero = refl
-put-member b l (suc p) = refl
+-- a change that goes to a journal has a member map
+stream-member : (s : ℕ) (c : Change Content) → 1 ≤ streamFor s c → hasMember c ≡ true
+unfolding streamFor
+stream-member s c h = go (hasMember c) h
+  where
+    go : (b : Bool) → 1 ≤ cond b s 0 → b ≡ true
+    go true h = refl
+    go false h = absurd (omega arith)
 
-put-puts : (b l p n : ℕ) → puts (putAt b l p) n ≡ true → b ≡ n
-unfolding putAt
-put-puts b l zero n h = eqb-true b n h
-put-puts b l (suc p) n h = eqb-true b n h
+-- What an accepted edit makes, as the record notes it.
+module _ (s : ℕ) (c : Change Content) (d : Disk) (o : streamOpen d s ≡ true) (m : Makes s c d) (k : Right d) where
+  quiet : ((b : ℕ) → puts c b ≡ false) → Right (change (streamFor s c) c d)
+  quiet n =
+      change-right (streamFor s c) c d (stream-open s c d o) (m .journal) (m .queue) (stream-member s c) (m .good) (m .applying) (λ b e. absurd (false≢true (sym (n b) ∙ e))) k
 
-pub newBlock-right : (s l p : ℕ) (d : Disk) → refusal (newBlock s l p) d ≡ 0 → Right (accepted (newBlock s l p) d .disk)
+  put-right : (b : ℕ) → hasMember c ≡ true → isBlock b ≡ true → ((n : ℕ) → puts c n ≡ eqb b n) → Right (gaveBlock b (hold s b (change (streamFor s c) c d)))
+  unfolding streamFor
+  put-right b h i w =
+      let (z, n) = m .free b (w b ∙ eqb-same b) in
+      let (lo, hi) = and-true (leb 1 b) (leb b 64) i in
+      let q : holderOf (hold s b d .rec) b ≡ s = hold-holder s b d (leb-true 1 b lo) (omega (arith, leb-true b 64 hi, k .units .table)) z in
+      let e : streamFor s c ≡ s = rw h in
+      rw h
+      (gave-block b (hold s b (change s c d)) i
+      (subst Right (sym (hold-change s b c d))
+      (change-right s c (hold s b d) (hold-open s b d ∙ o) (hold-journal s b d ∙ (rw h at (m .journal))) (hold-stream s b d ∙ (rw h at (m .queue))) (λ x. h) (m .good)
+      (λ x. rw (hold-zero s b d x) (m .applying (e ∙ x)))
+      (λ x p. subst (λ (y : ℕ). holderOf (hold s b d .rec) y ≡ s) (eqb-true b x (sym (w x) ∙ p)) q)
+      (hold-right s b d o i z n k))))
+
+made-right : (s : ℕ) (c : Change Content) (d : Disk) → streamOpen d s ≡ true → Makes s c d → Right d → Right (made s c d)
+unfolding made noted hasMember legal raw mapEntry mapChange legalChange
+made-right s (takeList l) d o m k = gave-list l (change (streamFor s (takeList l)) (takeList l) d) (m .good .lawful) (quiet s (takeList l) d o m k (λ b. refl))
+made-right s (putFirst b l) d o m k = put-right s (putFirst b l) d o m k b refl (and-true (isBlock b) (isList l) (m .good .lawful) .0) (λ n. refl)
+made-right s (putAfter b l p) d o m k =
+    put-right s (putAfter b l p) d o m k b refl (and-true (isBlock b) (isList l) (and-true (isBlock b && isList l) (isBlock p) (m .good .lawful) .0) .0) (λ n. refl)
+made-right s (write b x) d o m k = quiet s (write b x) d o m k (λ n. refl)
+made-right s (delBlock b) d o m k = quiet s (delBlock b) d o m k (λ n. refl)
+made-right s (delList l) d o m k = quiet s (delList l) d o m k (λ n. refl)
+
+pub edit-right : (s : ℕ) (e : Edit) (d : Disk) → refusal (onStream s e) d ≡ 0 → Right (accepted (onStream s e) d .disk)
 unfolding questions accepted
-newBlock-right s l p d h =
-    let y = yes-all (newBlock s l p) d h in
-    let k = right d (y 0) (y 1) in
-    let b = orElse 0 (freeBlock d) in
-    let (n, z, i) = block-number d (y 6) in
-    let (a5, b5) = and-true (isList l) (leb p 64) (y 3) in
-    let (lo, hi) = and-true (leb 1 b) (leb b 64) i in
-    let w : holderOf (hold s b d .rec) b ≡ s = hold-holder s b d (leb-true 1 b lo) (omega (arith, leb-true b 64 hi, k .units .table)) z in
-    gave-block b (hold s b (change s (putAt b l p) d)) i
-    (subst Right (sym (hold-change s b (putAt b l p) d))
-    (change-right s (putAt b l p) (hold s b d) (hold-open s b d ∙ y 2) (hold-journal s b d ∙ y 7) (hold-stream s b d ∙ y 8) (put-member b l p)
-    (put-good b l p i a5 (leb-true p 64 b5))
-    (λ e. rw (hold-zero s b d e) (put-applies b l p (committed d .lists) (at-zero (λ x. taken l (x .lists) ≡ true) s d e (y 4)) n
-    (at-zero (λ x. predecessorRight (x .lists) l p ≡ true) s d e (y 5))))
-    (λ x e. subst (λ (m : ℕ). holderOf (hold s b d .rec) m ≡ s) (put-puts b l p x e) w)
-    (hold-right s b d (y 2) i z n k)))
-
-pub write-right : (s b : ℕ) (x : List ℕ) (d : Disk) → refusal (writeBlock s b x) d ≡ 0 → Right (accepted (writeBlock s b x) d .disk)
-unfolding questions accepted hasMember applies
-write-right s b x d h =
-    let y = yes-all (writeBlock s b x) d h in
-    let (a5, b5) = and-true (isBlock b) (eqb (length x) 256) (y 3) in
-    change-right s (write b x) d (y 2) (y 5) (y 6) refl (write-good b x a5 (eqb-true (length x) 256 b5))
-    (λ e. at-zero (λ t. placed b (t .lists) ≡ true) s d e (y 4)) (λ n e. absurd (false≢true e)) (right d (y 0) (y 1))
-
-pub deleteBlock-right : (s b : ℕ) (d : Disk) → refusal (deleteBlock s b) d ≡ 0 → Right (accepted (deleteBlock s b) d .disk)
-unfolding questions accepted hasMember applies
-deleteBlock-right s b d h =
-    let y = yes-all (deleteBlock s b) d h in
-    change-right s (delBlock b) d (y 2) (y 5) (y 6) refl (delBlock-good b (y 3))
-    (λ e. at-zero (λ t. placed b (t .lists) ≡ true) s d e (y 4)) (λ n e. absurd (false≢true e)) (right d (y 0) (y 1))
-
-pub deleteList-right : (s l : ℕ) (d : Disk) → refusal (deleteList s l) d ≡ 0 → Right (accepted (deleteList s l) d .disk)
-unfolding questions accepted hasMember applies
-deleteList-right s l d h =
-    let y = yes-all (deleteList s l) d h in
-    change-right s (delList l) d (y 2) (y 5) (y 6) refl (delList-good l (y 3))
-    (λ e. at-zero (λ t. taken l (t .lists) ≡ true) s d e (y 4)) (λ n e. absurd (false≢true e)) (right d (y 0) (y 1))
+edit-right s e d h =
+    let y = yes-all (onStream s e) d h in
+    made-right s (changeFor e (numberGiven e d)) d (y 2) (edit-makes s e d h) (right d (y 0) (y 1))
 
 pub begin-right : (u : ℕ) (d : Disk) → refusal (begin u) d ≡ 0 → Right (accepted (begin u) d .disk)
 unfolding questions accepted

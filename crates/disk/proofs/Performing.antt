@@ -5,7 +5,7 @@ use Prim.Native.Nat.{ℕ, suc}
 use lib.Dec.{eqb}
 use Rattle.log.specs.Card.{Content, Outcome, sound, fault, mounted}
 use Rattle.disk.specs.Disk.{Disk}
-use Rattle.disk.specs.Call.{Call, format, mount, conflictCount, newList, newBlock, writeBlock, readBlock, deleteBlock, deleteList, begin, end, flush, blockAfter, inventory, destination}
+use Rattle.disk.specs.Call.{Call, format, mount, conflictCount, onStream, inView, begin, end, flush, destination}
 use Rattle.disk.specs.Questions.{refusal}
 use Rattle.disk.specs.Perform.{Result, accepted, refused, faultAt, refusalAnswer, perform}
 
@@ -25,17 +25,11 @@ unfolding accepted
 accepted-code format d = refl
 accepted-code mount d = refl
 accepted-code conflictCount d = refl
-accepted-code (newList s) d = refl
-accepted-code (newBlock s l p) d = refl
-accepted-code (writeBlock s b x) d = refl
-accepted-code (readBlock v b x) d = refl
-accepted-code (deleteBlock s b) d = refl
-accepted-code (deleteList s l) d = refl
+accepted-code (onStream s e) d = refl
+accepted-code (inView v k) d = refl
 accepted-code (begin u) d = refl
 accepted-code (end u) d = refl
 accepted-code (flush a) d = refl
-accepted-code (blockAfter v l p) d = refl
-accepted-code (inventory v x) d = refl
 
 fault-code : (o : Outcome Content) (n : ℕ) → faultAt o n .code ≡ n
 unfolding faultAt

@@ -7,9 +7,9 @@ use mathlib.Core.List.{List, [], _∷_}
 use Prim.Native.Nat.{ℕ, zero, suc, _+_, _%_, _≤_, _<_}
 use native.Mathlib.Omega.{arith}
 use native.Mathlib.Nat.{mod-lt}
-use lib.Dec.{leb, eqb, eqb·suc-zero}
+use lib.Dec.{leb, eqb, ltb, eqb·suc-zero}
 use lib.ListN.{length, getD}
-use Rattle.lists.specs.Basic.{isSome, orElse, any}
+use Rattle.lists.specs.Basic.{isSome, orElse, all}
 use Rattle.lists.specs.State.{State, taken, placed, overlay}
 use Rattle.lists.proofs.Basic.{and-true, or-both, false-not, eqb-same, eqb-true, leb-true, ltb-true, le-true, some-of}
 use Rattle.log.specs.Entry.{isBlock, isList}
@@ -17,16 +17,13 @@ use Rattle.log.specs.Card.{Content, zeros, cardLength}
 use Rattle.disk.specs.Record.{holderOf}
 use Rattle.disk.specs.Disk.{Disk, unitOf, journalOf, persistent, committed, view}
 use Rattle.disk.specs.Sound.{lengthsRight, isOpenUnit}
-use Rattle.disk.specs.Call.{Call, format, mount, conflictCount, newList, newBlock, writeBlock, readBlock, deleteBlock, deleteList, begin, end, flush, blockAfter, inventory}
+use Rattle.disk.specs.Call.{Call, format, mount, conflictCount, onStream, inView, begin, end, flush}
 use Rattle.disk.specs.Questions.{streamOpen, viewOpen, journalRoom, queueRoom, streamRoom, freeFrom, freeBlock, freeList, questions, ask, firstNo, refusal}
+use Rattle.disk.proofs.Order.{asks, edit-behind, look-behind, questions-rise, rising-above}
 
 -- Questions in general: each has its number and its answer.
 abbrev pub test : List (ℕ × Bool) → ℕ → Bool
 test qs i = getD qs i (1, true) .1
-
-abbrev Positive : List (ℕ × Bool) → Type 0
-Positive [] = Unit {0}
-Positive (q ∷ qs) = (1 ≤ q .0) × Positive qs
 
 -- the numbers of the first i questions are others than n
 abbrev pub Apart : ℕ → List (ℕ × Bool) → ℕ → Type 0
@@ -47,61 +44,45 @@ past zero (q ∷ qs) n a h j l = absurd (omega arith)
 past (suc i) (q ∷ qs) n a h zero l = ask-past (q .1) (q .0) (firstNo qs) n (a .0) h .0
 past (suc i) (q ∷ qs) n a h (suc j) l = past i qs n (a .1) (ask-past (q .1) (q .0) (firstNo qs) n (a .0) h .1) j (omega arith)
 
-all-yes : (qs : List (ℕ × Bool)) → Positive qs → firstNo qs ≡ 0 → (j : ℕ) → test qs j ≡ true
-unfolding firstNo
+all-yes : (qs : List (ℕ × Bool)) → all (λ q. ltb 0 (q .0)) qs ≡ true → firstNo qs ≡ 0 → (j : ℕ) → test qs j ≡ true
+unfolding firstNo all
 all-yes [] a h j = refl
-all-yes (q ∷ qs) a h zero = ask-past (q .1) (q .0) (firstNo qs) 0 (omega (arith, a .0)) h .0
-all-yes (q ∷ qs) a h (suc j) = all-yes qs (a .1) (ask-past (q .1) (q .0) (firstNo qs) 0 (omega (arith, a .0)) h .1) j
-
-positive : (c : Call) (d : Disk) → Positive (questions c d)
-unfolding questions
-positive format d = omega arith
-positive mount d = omega arith
-positive conflictCount d = omega arith
-positive (newList s) d = omega arith
-positive (newBlock s l p) d = omega arith
-positive (writeBlock s b x) d = omega arith
-positive (readBlock v b x) d = omega arith
-positive (deleteBlock s b) d = omega arith
-positive (deleteList s l) d = omega arith
-positive (begin u) d = omega arith
-positive (end u) d = omega arith
-positive (flush a) d = omega arith
-positive (blockAfter v l p) d = omega arith
-positive (inventory v x) d = omega arith
+all-yes (q ∷ qs) a h j =
+    let (p, r) = and-true (ltb 0 (q .0)) (all (λ x. ltb 0 (x .0)) qs) a in
+    let k = ltb-true 0 (q .0) p in
+    let (y, z) = ask-past (q .1) (q .0) (firstNo qs) 0 (λ e. omega arith) h in
+    go j y (all-yes qs r z)
+  where
+    go : (j : ℕ) → q .1 ≡ true → ((i : ℕ) → test qs i ≡ true) → test (q ∷ qs) j ≡ true
+    go zero y f = y
+    go (suc i) y f = f i
 
 -- an accepted call's questions are all answered yes
 pub yes-all : (c : Call) (d : Disk) → refusal c d ≡ 0 → (i : ℕ) → test (questions c d) i ≡ true
 unfolding refusal
-yes-all c d h i = all-yes (questions c d) (positive c d) h i
+yes-all c d h i = all-yes (questions c d) (rising-above 0 0 (questions c d) (omega arith) (questions-rise c d)) h i
 
 -- a refusal's number is one of the call's questions
-pub numbered : (qs : List (ℕ × Bool)) (n : ℕ) → n ≢ 0 → firstNo qs ≡ n → any (λ q. eqb (q .0) n) qs ≡ true
+pub numbered : (qs : List (ℕ × Bool)) (n : ℕ) → n ≢ 0 → firstNo qs ≡ n → asks n qs ≡ true
 unfolding firstNo ask
 numbered [] n d h = absurd (d (sym h))
 numbered (q ∷ qs) n d h = go (numbered qs n d) (q .1) refl
   where
-    go : (firstNo qs ≡ n → any (λ q. eqb (q .0) n) qs ≡ true) → (b : Bool) → q .1 ≡ b → eqb (q .0) n || any (λ q. eqb (q .0) n) qs ≡ true
+    go : (firstNo qs ≡ n → asks n qs ≡ true) → (b : Bool) → q .1 ≡ b → eqb (q .0) n || asks n qs ≡ true
     go ih true e = rw (ih (rw (e, ask) at h)) (or-true (eqb (q .0) n))
     go ih false e = let m : q .0 ≡ n = rw (e, ask) at h in rw m (rw (eqb-same n))
 
 -- only an End is refused 12
-asks-twelve : (c : Call) (d : Disk) → any (λ q. eqb (q .0) 12) (questions c d) ≡ true → (u : ℕ) × (c ≡ end u)
+asks-twelve : (c : Call) (d : Disk) → asks 12 (questions c d) ≡ true → (u : ℕ) × (c ≡ end u)
 unfolding questions
 asks-twelve format d k = absurd (false≢true k)
 asks-twelve mount d k = absurd (false≢true k)
 asks-twelve conflictCount d k = absurd (false≢true k)
-asks-twelve (newList s) d k = absurd (false≢true k)
-asks-twelve (newBlock s l p) d k = absurd (false≢true k)
-asks-twelve (writeBlock s b x) d k = absurd (false≢true k)
-asks-twelve (readBlock v b x) d k = absurd (false≢true k)
-asks-twelve (deleteBlock s b) d k = absurd (false≢true k)
-asks-twelve (deleteList s l) d k = absurd (false≢true k)
+asks-twelve (onStream s e) d k = absurd (false≢true (sym (edit-behind s e d .ends-none) ∙ k))
+asks-twelve (inView v l) d k = absurd (false≢true (sym (look-behind l (view d v .lists) .ends-none) ∙ k))
 asks-twelve (begin u) d k = absurd (false≢true k)
 asks-twelve (end u) d k = (u, refl)
 asks-twelve (flush a) d k = absurd (false≢true k)
-asks-twelve (blockAfter v l p) d k = absurd (false≢true k)
-asks-twelve (inventory v x) d k = absurd (false≢true k)
 
 pub twelve-end : (c : Call) (d : Disk) → refusal c d ≡ 12 → (u : ℕ) × (c ≡ end u)
 unfolding refusal

@@ -7,20 +7,22 @@ use mathlib.Core.Option.{Option, none, some}
 use mathlib.Core.List.{List, [], _∷_}
 use Prim.Native.Nat.{ℕ, zero, suc, _≤_}
 use native.Mathlib.Decide.{ℕ-discrete}
-use lib.Dec.{leb}
+use native.Mathlib.Omega.{arith}
+use lib.Dec.{leb, ltb}
 use Rattle.lists.specs.Basic.{all}
-use Rattle.lists.proofs.Basic.{and-true, eqb-false, leb-true, bind-some, is-some}
+use Rattle.lists.proofs.Basic.{and-true, eqb-false, leb-true, le-true, ltb-true, all-each, bind-some, is-some}
 use Rattle.log.specs.Reader.{replay}
 use Rattle.log.specs.Card.{zeros, mounted}
-use Rattle.disk.specs.Disk.{Disk, queued, readerOf, committedReader}
+use Rattle.disk.specs.Disk.{Disk, queued, readerOf, committedReader, view}
 use Rattle.disk.specs.Sound.{lengthsRight, recordSound}
-use Rattle.disk.specs.Call.{Call, format, mount, conflictCount, newList, newBlock, writeBlock, readBlock, deleteBlock, deleteList, begin, end, flush, blockAfter, inventory, ends}
+use Rattle.disk.specs.Call.{Call, format, mount, conflictCount, onStream, inView, begin, end, flush, ends}
 use Rattle.disk.specs.Questions.{mountable, questions, ask, firstNo, refusal}
 use Rattle.disk.specs.Perform.{accepted, refused, perform, performAll}
 use Rattle.disk.specs.Statements.{LeavesSound}
+use Rattle.disk.proofs.Order.{Behind, edit-behind, look-behind, rising-above}
 use Rattle.disk.proofs.Questions.{test, yes-all, twelve-end}
 use Rattle.disk.proofs.Clauses.{Right, right, right-sound, right-lengths}
-use Rattle.disk.proofs.KeepsSound.{begin-right, conflict-right, newList-right, newBlock-right, write-right, deleteBlock-right, deleteList-right, end-right, mount-right, format-right}
+use Rattle.disk.proofs.KeepsSound.{edit-right, begin-right, conflict-right, end-right, mount-right, format-right}
 use Rattle.disk.proofs.Draining.{flush-right}
 use Rattle.disk.proofs.Performing.{perform-accepted, perform-refused}
 
@@ -33,17 +35,11 @@ unfolding questions accepted
 accepted-right format d h = format-right d h
 accepted-right mount d h = mount-right d h
 accepted-right conflictCount d h = looked conflictCount d h refl refl
-accepted-right (newList s) d h = newList-right s d h
-accepted-right (newBlock s l p) d h = newBlock-right s l p d h
-accepted-right (writeBlock s b x) d h = write-right s b x d h
-accepted-right (readBlock v b x) d h = looked (readBlock v b x) d h refl refl
-accepted-right (deleteBlock s b) d h = deleteBlock-right s b d h
-accepted-right (deleteList s l) d h = deleteList-right s l d h
+accepted-right (onStream s e) d h = edit-right s e d h
+accepted-right (inView v k) d h = looked (inView v k) d h refl refl
 accepted-right (begin u) d h = begin-right u d h
 accepted-right (end u) d h = end-right u d h
 accepted-right (flush a) d h = flush-right a d h
-accepted-right (blockAfter v l p) d h = looked (blockAfter v l p) d h refl refl
-accepted-right (inventory v x) d h = looked (inventory v x) d h refl refl
 
 twelve-right : (c : Call) (d : Disk) → refusal c d ≡ 12 → Right (refused c 12 d)
 twelve-right c d h =
@@ -92,22 +88,20 @@ unfolding firstNo all late
 first-late [] h = inl refl
 first-late (q ∷ qs) h = let (a, b) = and-true (late q) (all late qs) h in ask-late (q .1) (q .0) (firstNo qs) a (first-late qs b)
 
+behind-late : {qs : List (ℕ × Bool)} → Behind qs → all late qs ≡ true
+unfolding late
+behind-late {qs} b = all-each (λ q. ltb 4 (q .0)) late qs (λ q h. let l = ltb-true 4 (q .0) h in rw (le-true 4 (q .0) (omega arith))) (rising-above 4 4 qs (omega arith) (b .rises))
+
 questions-late : (c : Call) (d : Disk) → lengthsRight d ≡ true → recordSound d ≡ true → mountable d ≡ true → all late (questions c d) ≡ true
 unfolding questions all late
 questions-late format d l s m = rw l
 questions-late mount d l s m = rw (l, m)
 questions-late conflictCount d l s m = rw (l, s)
-questions-late (newList t) d l s m = rw (l, s)
-questions-late (newBlock t a p) d l s m = rw (l, s)
-questions-late (writeBlock t b x) d l s m = rw (l, s)
-questions-late (readBlock v b x) d l s m = rw (l, s)
-questions-late (deleteBlock t b) d l s m = rw (l, s)
-questions-late (deleteList t a) d l s m = rw (l, s)
+questions-late (onStream t e) d l s m = rw (l, s) (behind-late (edit-behind t e d))
+questions-late (inView v k) d l s m = rw (l, s) (behind-late (look-behind k (view d v .lists)))
 questions-late (begin u) d l s m = rw (l, s)
 questions-late (end u) d l s m = rw (l, s)
 questions-late (flush a) d l s m = rw (l, s)
-questions-late (blockAfter v a p) d l s m = rw (l, s)
-questions-late (inventory v x) d l s m = rw (l, s)
 
 mounts : (d : Disk) → Right d → mountable d ≡ true
 unfolding mountable committedReader

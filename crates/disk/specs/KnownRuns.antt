@@ -10,7 +10,7 @@ use Rattle.log.specs.Card.{Content, countOffset}
 use Rattle.log.specs.Flush.{Ending, drained, spent}
 use Rattle.disk.specs.Record.{freshRecord, withFlow}
 use Rattle.disk.specs.Disk.{Disk, queued}
-use Rattle.disk.specs.Call.{Call, format, mount, conflictCount, newList, newBlock, writeBlock, readBlock, deleteBlock, begin, end, flush, blockAfter}
+use Rattle.disk.specs.Call.{newList, newBlock, writeBlock, deleteBlock, readBlock, blockAfter, Call, format, mount, conflictCount, onStream, inView, begin, end, flush}
 use Rattle.disk.specs.Perform.{Result, perform, performAll, endingNumber}
 
 -- A step of a run, with what must come of it: a call, answered by its code, its two results and the lent bytes that it leaves; a look at the
@@ -63,10 +63,10 @@ abbrev untouched : Content
 untouched = replicate 256 170
 
 abbrev holds : ℕ → Content → Step
-holds b x = call (readBlock 5 b untouched) (0 ∷ 0 ∷ 0 ∷ x)
+holds b x = call (inView 5 (readBlock b untouched)) (0 ∷ 0 ∷ 0 ∷ x)
 
 abbrev missing : ℕ → Step
-missing b = call (readBlock 5 b untouched) (8 ∷ 0 ∷ 0 ∷ untouched)
+missing b = call (inView 5 (readBlock b untouched)) (8 ∷ 0 ∷ 0 ∷ untouched)
 
 abbrev run : Disk → List Step → Run
 run d ss = record { start = d; steps = ss }
@@ -90,25 +90,25 @@ ascending = from (λ k. k) 0 256
 
 -- the disks that rows start from: with the write queued; with it flushed; with unit 1 open; with unit 1 ended
 unfoldable pub written : Disk
-written = performAll (format ∷ newList 0 ∷ newBlock 0 1 0 ∷ writeBlock 0 1 seven ∷ []) blank
+written = performAll (format ∷ onStream 0 newList ∷ onStream 0 (newBlock 1 0) ∷ onStream 0 (writeBlock 1 seven) ∷ []) blank
 
 unfoldable pub stored : Disk
 stored = perform (flush 267) written .disk
 
 unfoldable pub unitOpen : Disk
-unitOpen = performAll (begin 1 ∷ newBlock 1 1 1 ∷ writeBlock 1 2 ascending ∷ []) stored
+unitOpen = performAll (begin 1 ∷ onStream 1 (newBlock 1 1) ∷ onStream 1 (writeBlock 2 ascending) ∷ []) stored
 
 unfoldable pub unitEnded : Disk
 unitEnded = perform (end 1) unitOpen .disk
 
 -- "then unit 1: NewBlock after 1 gives 2, Write to 2, End"
 abbrev unit : List Step
-unit = accepts (begin 1) ∷ gives (newBlock 1 1 1) 2 ∷ accepts (writeBlock 1 2 ascending) ∷ accepts (end 1) ∷ []
+unit = accepts (begin 1) ∷ gives (onStream 1 (newBlock 1 1)) 2 ∷ accepts (onStream 1 (writeBlock 2 ascending)) ∷ accepts (end 1) ∷ []
 
 unfoldable pub runs : List Run
 runs =
     -- "From a formatted one-segment card: NewList gives 1; NewBlock first on 1 gives 1; Write to 1 of a 7 and 255 zeros."
-    run blank (accepts format ∷ gives (newList 0) 1 ∷ gives (newBlock 0 1 0) 1 ∷ accepts (writeBlock 0 1 seven) ∷ [])
+    run blank (accepts format ∷ gives (onStream 0 newList) 1 ∷ gives (onStream 0 (newBlock 1 0)) 1 ∷ accepts (onStream 0 (writeBlock 1 seven)) ∷ [])
     -- P "the flush takes 3+4+260 = 267 stores; the summary begins 3, 2 1, 3 1 1, 9 1 0"
     ∷ run written (flushes 65535 267 drained ∷ summary (3 ∷ 2 ∷ 1 ∷ 3 ∷ 1 ∷ 1 ∷ 9 ∷ 1 ∷ 0 ∷ []) ∷ [])
     -- P "allowance 266: mounting has block 1 holding zeros"
@@ -122,11 +122,11 @@ runs =
     -- P "after 268 both"
     ∷ run unitEnded (flushes 268 268 drained ∷ accepts mount ∷ holds 1 seven ∷ holds 2 ascending ∷ [])
     -- P "before End, view 0 has no block after 1"
-    ∷ run unitOpen (gives (blockAfter 0 1 1) 0 ∷ [])
+    ∷ run unitOpen (gives (inView 0 (blockAfter 1 1)) 0 ∷ [])
     -- P "view 1 has 2"
-    ∷ run unitOpen (gives (blockAfter 1 1 1) 2 ∷ [])
+    ∷ run unitOpen (gives (inView 1 (blockAfter 1 1)) 2 ∷ [])
     -- P "unit 2 writes block 1, stream 0 deletes it, End 2: refused 12"; the unit is then closed, and the conflict counted
-    ∷ run stored (accepts (begin 2) ∷ accepts (writeBlock 2 1 ascending) ∷ accepts (deleteBlock 0 1) ∷ refuses (end 2) 12 ∷ refuses (end 2) 4 ∷ gives conflictCount 1 ∷ [])
+    ∷ run stored (accepts (begin 2) ∷ accepts (onStream 2 (writeBlock 1 ascending)) ∷ accepts (onStream 0 (deleteBlock 1)) ∷ refuses (end 2) 12 ∷ refuses (end 2) 4 ∷ gives conflictCount 1 ∷ [])
     -- P "an empty unit's End queues 16 0"
     ∷ run stored (accepts (begin 1) ∷ accepts (end 1) ∷ queue (16 ∷ 0 ∷ []) ∷ [])
     ∷ []

@@ -7,9 +7,10 @@ use lib.Dec.{eqb}
 use lib.ListN.{length, drop, take, set}
 use Rattle.lists.specs.Basic.{orElse}
 use Rattle.lists.specs.Change.{Change, takeList, putFirst, putAfter, write, delBlock, delList, carriedBy}
+use Rattle.lists.specs.State.{State}
 use Rattle.lists.specs.Lookup.{contentOf, nextAfter, listNums}
 use Rattle.log.specs.declared.entry.LogEntry.the-variants.{Commit}
-use Rattle.log.specs.Entry.{Entry, plain, member, commit, carried, logChange}
+use Rattle.log.specs.Entry.{Entry, plain, member, commit, carried, hasMember, logChange}
 use Rattle.log.specs.Card.{Content, zeros, slotBytes, segmentsIn, Outcome, sound, fault, mounted}
 use Rattle.log.specs.Store.{doStores, formatStores, tail}
 use Rattle.log.specs.Location.{splice}
@@ -18,7 +19,7 @@ use Rattle.disk.specs.declared.record.Queued.{Queued}
 use Rattle.disk.specs.declared.record.Record.{Record}
 use Rattle.disk.specs.Record.{ringPlace, withQueue, withFlow, withUnits, withLastBlock, withLastList, withConflicts, emptied, journaled, released, freshRecord, queuePlaces}
 use Rattle.disk.specs.Disk.{Disk, withRecord, unitOf, journalPlace, journalOf, queued, view}
-use Rattle.disk.specs.Call.{Call, format, mount, conflictCount, newList, newBlock, writeBlock, readBlock, deleteBlock, deleteList, begin, end, flush, blockAfter, inventory, ends, destination}
+use Rattle.disk.specs.Call.{Edit, newList, newBlock, writeBlock, deleteBlock, deleteList, Look, readBlock, blockAfter, inventory, Call, format, mount, conflictCount, onStream, inView, begin, end, flush, ends, destination}
 use Rattle.disk.specs.Questions.{freeBlock, freeList, refusal}
 
 -- the returned numbers: the question's number or 0, and the results
@@ -84,6 +85,50 @@ gaveBlock b d = withRecord d (withLastBlock (d .rec) b)
 unfoldable pub gaveList : ℕ → Disk → Disk
 gaveList l d = withRecord d (withLastList (d .rec) l)
 
+-- what the record notes of a number given with a change
+unfoldable pub noted : ℕ → Change Content → Disk → Disk
+noted s (takeList l) d = gaveList l d
+noted s (putFirst b l) d = gaveBlock b (hold s b d)
+noted s (putAfter b l p) d = gaveBlock b (hold s b d)
+noted s (write b x) d = d
+noted s (delBlock b) d = d
+noted s (delList l) d = d
+
+-- NewList "always queues a plain entry, inside a unit too": so goes what has no member map
+unfoldable pub streamFor : ℕ → Change Content → ℕ
+streamFor s c = cond (hasMember c) s 0
+
+-- a change that comes on a stream
+unfoldable pub made : ℕ → Change Content → Disk → Disk
+made s c d = noted s c (change (streamFor s c) c d)
+
+-- put first where the predecessor is 0
+unfoldable pub putAt : ℕ → ℕ → ℕ → Change Content
+putAt b l p = elim p [ zero ↦ putFirst b l | suc q ↦ putAfter b l (suc q) ]
+
+-- "NewBlock gives the first free number after the one given last", "NewList likewise with 16": the number given, 0 where none is
+unfoldable pub numberGiven : Edit → Disk → ℕ
+numberGiven newList d = orElse 0 (freeList d)
+numberGiven (newBlock l p) d = orElse 0 (freeBlock d)
+numberGiven (writeBlock b x) d = 0
+numberGiven (deleteBlock b) d = 0
+numberGiven (deleteList l) d = 0
+
+-- the change that an edit makes, n being the number given
+unfoldable pub changeFor : Edit → ℕ → Change Content
+changeFor newList n = takeList n
+changeFor (newBlock l p) n = putAt n l p
+changeFor (writeBlock b x) n = write b x
+changeFor (deleteBlock b) n = delBlock b
+changeFor (deleteList l) n = delList l
+
+-- what a look-up finds in a state: the number returned, and the bytes that the destination holds then
+unfoldable pub found : Look → State Content → ℕ × List ℕ
+found (readBlock b x) s = (0, orElse zeros (contentOf (s .lists) b))
+found (blockAfter l p) s = (nextAfter (s .lists) l p, [])
+-- in the order of their taking, which the inventory's promise (Inventory) leaves open
+found (inventory x) s = let ls = listNums (s .lists) in (length ls, ls ++ drop (length ls) x)
+
 unfoldable pub opening : ℕ → Disk → Disk
 opening u d = withRecord d (withUnits (d .rec) (set (d .rec .units) (u - 1) (emptied true (unitOf d u))) (d .rec .holder))
 
@@ -98,10 +143,6 @@ conflicted d = withRecord d (withConflicts (d .rec) (min 65535 (d .rec .conflict
 -- "End queues the journal as members, then a commit"
 unfoldable pub unitEntries : List (Change Content) → List (Entry Content)
 unitEntries cs = map member cs ++ commit (length cs) ∷ []
-
--- put first where the predecessor is 0
-unfoldable pub putAt : ℕ → ℕ → ℕ → Change Content
-putAt b l p = elim p [ zero ↦ putFirst b l | suc q ↦ putAfter b l (suc q) ]
 
 -- the flow that the disk stands in, and the disk that a flow leaves
 unfoldable pub flowOf : Disk → Flow
@@ -139,18 +180,11 @@ unfoldable pub accepted : Call → Disk → Result
 accepted format d = reply (record { card = formatted (segmentsIn (d .card)) (d .card); queueData = d .queueData; journalData = d .journalData; rec = freshRecord }) 0 0 []
 accepted mount d = reply (withRecord d freshRecord) 0 0 []
 accepted conflictCount d = reply d (d .rec .conflicts) 0 []
-accepted (newList s) d = let l = orElse 0 (freeList d) in reply (gaveList l (enqueue (plain (takeList l)) d)) l 0 []
-accepted (newBlock s l p) d = let b = orElse 0 (freeBlock d) in reply (gaveBlock b (hold s b (change s (putAt b l p) d))) b 0 []
-accepted (writeBlock s b x) d = reply (change s (write b x) d) 0 0 []
-accepted (readBlock v b x) d = reply d 0 0 (orElse zeros (contentOf (view d v .lists) b))
-accepted (deleteBlock s b) d = reply (change s (delBlock b) d) 0 0 []
-accepted (deleteList s l) d = reply (change s (delList l) d) 0 0 []
+accepted (onStream s e) d = let n = numberGiven e d in reply (made s (changeFor e n) d) n 0 []
+accepted (inView v k) d = let f = found k (view d v) in reply d (f .0) 0 (f .1)
 accepted (begin u) d = reply (opening u d) 0 0 []
 accepted (end u) d = reply (closing u (enqueueAll (unitEntries (journalOf d u)) d)) 0 0 []
 accepted (flush a) d = let f = flushed a d in reply (afterFlush d (f .flow)) (f .stores) (endingNumber (f .ending)) []
-accepted (blockAfter v l p) d = reply d (nextAfter (view d v .lists) l p) 0 []
--- in the order of their taking, which the inventory's promise (Inventory) leaves open
-accepted (inventory v x) d = let ls = listNums (view d v .lists) in reply d (length ls) 0 (ls ++ drop (length ls) x)
 
 -- "Beyond refusal 12's closing, a refusal changes nothing."
 unfoldable pub refused : Call → ℕ → Disk → Disk

@@ -13,7 +13,7 @@ use Rattle.disk.specs.declared.record.Record.{Record}
 use Rattle.disk.specs.Record.{holderOf, queuePlaces, journalPlaces, unitCount}
 use Rattle.disk.specs.Disk.{Disk, unitOf, journalOf, readerOf, committed, view}
 use Rattle.disk.specs.Sound.{lengthsRight, recordSound, isOpenUnit}
-use Rattle.disk.specs.Call.{Call, format, mount, conflictCount, newList, newBlock, writeBlock, readBlock, deleteBlock, deleteList, begin, end, flush, blockAfter, inventory}
+use Rattle.disk.specs.Call.{Edit, newList, newBlock, writeBlock, deleteBlock, deleteList, Look, readBlock, blockAfter, inventory, Call, format, mount, conflictCount, onStream, inView, begin, end, flush}
 
 -- "2. Mounting: is the log acceptable"
 unfoldable pub mountable : Disk → Bool
@@ -63,38 +63,35 @@ queueRoom d n = leb (d .rec .len + n) queuePlaces
 unfoldable pub streamRoom : Disk → ℕ → Bool
 streamRoom d s = not (eqb s 0) || queueRoom d 1
 
+-- what an edit asks behind question 4; "A change is judged in the view of its stream's number."
+unfoldable pub editQuestions : ℕ → Edit → Disk → List (ℕ × Bool)
+editQuestions s newList d = (10, isSome (freeList d)) ∷ (13, queueRoom d 1) ∷ []
+editQuestions s (newBlock l p) d =
+    (5, isList l && leb p 64) ∷ (7, taken l (view d s .lists)) ∷ (9, predecessorRight (view d s .lists) l p)
+    ∷ (10, isSome (freeBlock d)) ∷ (11, journalRoom d s) ∷ (13, streamRoom d s) ∷ []
+editQuestions s (writeBlock b x) d =
+    (5, isBlock b && eqb (length x) slotBytes) ∷ (8, placed b (view d s .lists)) ∷ (11, journalRoom d s) ∷ (13, streamRoom d s) ∷ []
+editQuestions s (deleteBlock b) d = (5, isBlock b) ∷ (8, placed b (view d s .lists)) ∷ (11, journalRoom d s) ∷ (13, streamRoom d s) ∷ []
+editQuestions s (deleteList l) d = (5, isList l) ∷ (7, taken l (view d s .lists)) ∷ (11, journalRoom d s) ∷ (13, streamRoom d s) ∷ []
+
+-- what a look-up asks there, of the lists of its view
+unfoldable pub lookQuestions : Look → List (Row Content) → List (ℕ × Bool)
+lookQuestions (readBlock b x) rs = (5, isBlock b && eqb (length x) slotBytes) ∷ (8, placed b rs) ∷ []
+lookQuestions (blockAfter l p) rs = (5, isList l && leb p 64) ∷ (7, taken l rs) ∷ (9, predecessorRight rs l p) ∷ []
+lookQuestions (inventory x) rs = (5, eqb (length x) 16) ∷ []
+
 -- the questions of a call in order, each with its number; "A call passes over what it doesn't use."
 unfoldable pub questions : Call → Disk → List (ℕ × Bool)
 questions format d = (1, lengthsRight d) ∷ []
 questions mount d = (1, lengthsRight d) ∷ (2, mountable d) ∷ []
 questions conflictCount d = (1, lengthsRight d) ∷ (3, recordSound d) ∷ []
-questions (newList s) d =
-    (1, lengthsRight d) ∷ (3, recordSound d)
-    ∷ (4, streamOpen d s) ∷ (10, isSome (freeList d)) ∷ (13, queueRoom d 1) ∷ []
-questions (newBlock s l p) d =
-    (1, lengthsRight d) ∷ (3, recordSound d) ∷ (4, streamOpen d s) ∷ (5, isList l && leb p 64)
-    ∷ (7, taken l (view d s .lists)) ∷ (9, predecessorRight (view d s .lists) l p) ∷ (10, isSome (freeBlock d)) ∷ (11, journalRoom d s) ∷ (13, streamRoom d s) ∷ []
-questions (writeBlock s b x) d =
-    (1, lengthsRight d) ∷ (3, recordSound d) ∷ (4, streamOpen d s)
-    ∷ (5, isBlock b && eqb (length x) slotBytes) ∷ (8, placed b (view d s .lists)) ∷ (11, journalRoom d s) ∷ (13, streamRoom d s) ∷ []
-questions (readBlock v b x) d =
-    (1, lengthsRight d) ∷ (3, recordSound d)
-    ∷ (4, viewOpen d v) ∷ (5, isBlock b && eqb (length x) slotBytes) ∷ (8, placed b (view d v .lists)) ∷ []
-questions (deleteBlock s b) d =
-    (1, lengthsRight d) ∷ (3, recordSound d) ∷ (4, streamOpen d s)
-    ∷ (5, isBlock b) ∷ (8, placed b (view d s .lists)) ∷ (11, journalRoom d s) ∷ (13, streamRoom d s) ∷ []
-questions (deleteList s l) d =
-    (1, lengthsRight d) ∷ (3, recordSound d) ∷ (4, streamOpen d s)
-    ∷ (5, isList l) ∷ (7, taken l (view d s .lists)) ∷ (11, journalRoom d s) ∷ (13, streamRoom d s) ∷ []
+questions (onStream s e) d = (1, lengthsRight d) ∷ (3, recordSound d) ∷ (4, streamOpen d s) ∷ editQuestions s e d
+questions (inView v k) d = (1, lengthsRight d) ∷ (3, recordSound d) ∷ (4, viewOpen d v) ∷ lookQuestions k (view d v .lists)
 questions (begin u) d = (1, lengthsRight d) ∷ (3, recordSound d) ∷ (4, leb 1 u && leb u unitCount) ∷ (6, not (unitOf d u .opened)) ∷ []
 questions (end u) d =
     (1, lengthsRight d) ∷ (3, recordSound d)
     ∷ (4, isOpenUnit d u) ∷ (12, endApplies d u) ∷ (13, queueRoom d (unitOf d u .len + 1)) ∷ []
 questions (flush a) d = (1, lengthsRight d) ∷ (3, recordSound d) ∷ (5, leb a 65535) ∷ []
-questions (blockAfter v l p) d =
-    (1, lengthsRight d) ∷ (3, recordSound d) ∷ (4, viewOpen d v)
-    ∷ (5, isList l && leb p 64) ∷ (7, taken l (view d v .lists)) ∷ (9, predecessorRight (view d v .lists) l p) ∷ []
-questions (inventory v x) d = (1, lengthsRight d) ∷ (3, recordSound d) ∷ (4, viewOpen d v) ∷ (5, eqb (length x) 16) ∷ []
 
 -- the number of a question answered no, or what the later ones give
 unfoldable pub ask : Bool → ℕ → ℕ → ℕ

@@ -1,6 +1,9 @@
 -- `look` answers the questions 1, 3 and 4; behind them the tables show the view, whose lists are stored. Assumes nothing.
+use Rattle.disk.specs.Call.{lentTo}
+use Rattle.disk.specs.Answers.{numberAnswer}
 use borrow.Author.Needs.{needs}
-use Rattle.calls.proofs.Lookups.{inventory-unseen, inventory-out, inventory-given}
+use Rattle.calls.proofs.Refusing.{look-unseen}
+use Rattle.calls.proofs.Lookups.{inventory-out, inventory-given}
 use Rattle.calls.proofs.inventory.inventory.Statement.{statement}
 use Rattle.calls.proofs.inventory.inventory.Tie as tie
 
@@ -11,7 +14,8 @@ enum-known-x : tie.Need-enum-known-x
 enum-known-x c = search needs
 
 returns : tie.Need-returns
-returns c = inventory-unseen _ _ _ _ (rw (c .before .x .given .1) at (c .before .before .before .look-view .ensures))
+unfolding lentTo numberAnswer
+returns c = look-unseen _ _ _ _ (rw (c .before .x .given .1) at (c .before .before .before .look-view .ensures))
 
 enum-told : tie.Need-enum-told
 enum-told c = search needs

@@ -2,10 +2,12 @@
 use mathlib.Core.Path.{sym, _∙_}
 use native.Mathlib.Omega.{arith}
 use Rattle.lists.proofs.Lookup.{block-said, taken-said}
+use Rattle.disk.specs.Call.{lentTo}
+use Rattle.disk.specs.Answers.{numberAnswer}
 use borrow.Author.Needs.{needs}
 use borrow.Author.Tests.{not-true, not-false}
-use Rattle.calls.proofs.Refusing.{position-range}
-use Rattle.calls.proofs.Lookups.{next-unseen, next-out, next-untaken, next-elsewhere, next-found}
+use Rattle.calls.proofs.Refusing.{position-range, look-unseen}
+use Rattle.calls.proofs.Lookups.{next-out, next-untaken, next-elsewhere, next-found}
 use Rattle.calls.proofs.next.next.Statement.{statement}
 use Rattle.calls.proofs.next.next.Tie as tie
 
@@ -16,7 +18,8 @@ enum-known-x : tie.Need-enum-known-x
 enum-known-x c = search needs
 
 returns : tie.Need-returns
-returns c = next-unseen _ _ _ _ _ (rw (c .before .x .given .1) at (c .before .before .before .look-view .ensures))
+unfolding lentTo numberAnswer
+returns c = look-unseen _ _ _ _ (rw (c .before .x .given .1) at (c .before .before .before .look-view .ensures))
 
 enum-told : tie.Need-enum-told
 enum-told c = search needs

@@ -3,10 +3,13 @@ use mathlib.Core.Path.{sym, _∙_}
 use native.Mathlib.Omega.{arith}
 use lib.ListN.{length}
 use Rattle.disk.specs.Disk.{disk}
+use Rattle.disk.specs.Call.{lentTo}
+use Rattle.disk.specs.Answers.{replyAnswer}
 use Rattle.lists.proofs.Lookup.{location-said, placed-said}
 use borrow.Author.Needs.{needs}
 use borrow.Author.Tests.{not-true, not-false}
-use Rattle.calls.proofs.Reading.{read-range, read-unseen, read-out, read-unplaced, read-sized, read-given}
+use Rattle.calls.proofs.Refusing.{look-unseen}
+use Rattle.calls.proofs.Reading.{read-range, read-out, read-unplaced, read-sized, read-given}
 use Rattle.calls.proofs.read.read.Statement.{statement}
 use Rattle.calls.proofs.read.read.Tie as tie
 
@@ -17,7 +20,8 @@ enum-known-x : tie.Need-enum-known-x
 enum-known-x c = search needs
 
 returns : tie.Need-returns
-returns c = read-unseen _ _ _ _ _ (rw (c .before .x .given .1) at (c .before .before .before .look-view .ensures))
+unfolding lentTo replyAnswer
+returns c = look-unseen _ _ _ _ (rw (c .before .x .given .1) at (c .before .before .before .look-view .ensures))
 
 enum-told : tie.Need-enum-told
 enum-told c = search needs

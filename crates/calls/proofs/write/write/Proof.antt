@@ -1,13 +1,10 @@
 -- Questions 1, 3 and 4 are those of `look_stream`; behind them the tables show the stream's view, and an accepted content is copied to its place. Assumes nothing.
-use mathlib.Core.Path.{refl}
-use mathlib.Core.Bool.{false}
 use borrow.Author.Needs.{needs}
 use Rattle.calls.proofs.write.write.Statement.{statement}
 use Rattle.disk.specs.Disk.{disk}
-use Rattle.disk.specs.Call.{writeBlock, destination}
-use Rattle.disk.specs.Questions.{questions, refusal}
+use Rattle.disk.specs.Call.{writeBlock}
 use Rattle.disk.specs.Answers.{replyAnswer}
-use Rattle.calls.proofs.Refusing.{opens, first-refused, seen-ranges}
+use Rattle.calls.proofs.Refusing.{edit-unseen, seen-ranges}
 use Rattle.calls.proofs.Writing.{write-decides, write-refused, write-accepted, write-fits}
 use Rattle.calls.proofs.write.write.Tie as tie
 
@@ -24,11 +21,11 @@ same-length-2 : tie.Need-same-length-2
 same-length-2 c = search needs
 
 returns : tie.Need-returns
-unfolding refusal questions destination replyAnswer
+unfolding replyAnswer
 returns c =
     let a = c .before .before .before .before .before .before .before .before .before .before .before .args in
     let d = (disk (a .card .now) (a .queue-data .now) (a .journal-data .now) (a .rec)) in
-    first-refused (writeBlock (a .s) (a .b) (a .content .now)) d _ (opens false d (a .s)) _ tt refl (rw (c .before .x .given .1) at (c .before .before .before .look-stream .ensures))
+    edit-unseen d (a .s) (writeBlock (a .b) (a .content .now)) _ (rw (c .before .x .given .1) at (c .before .before .before .look-stream .ensures))
 
 enum-told : tie.Need-enum-told
 enum-told c = search needs

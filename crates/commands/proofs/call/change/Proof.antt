@@ -1,9 +1,9 @@
 -- Each arm is one call and its line. Assumes nothing.
 use mathlib.Core.Path.{refl}
 use Rattle.disk.specs.Disk.{disk}
-use Rattle.disk.specs.Call.{mount, newList, newBlock, deleteBlock, deleteList, begin}
+use Rattle.disk.specs.Call.{newList, newBlock, deleteBlock, deleteList, mount, onStream, begin}
 use Rattle.script.specs.Lines as L
-use Rattle.commands.specs.Replies.{lineOf}
+use Rattle.commands.specs.Replies.{lineOf, editLine}
 use Rattle.commands.specs.Called.{callOf}
 use Rattle.commands.proofs.Calling.{calls}
 use borrow.Author.Needs.{needs}
@@ -89,37 +89,37 @@ same-length-3 : tie.Need-same-length-3
 same-length-3 c = search needs
 
 returns-3 : tie.Need-returns-3
-unfolding callOf lineOf L.numberedLine
+unfolding callOf lineOf editLine L.numberedLine
 returns-3 c line =
     let a = c .before .before .before .before .before .before .before .before .before .before .before .before .args in
-    rw (c .before .before .before .before .before .before .c2 .given .1) (calls (newList _) (disk (a .card .now) (a .queue .now) (a .journal .now) (a .rec)) (c .before .before .before .before .new-list .ensures) refl (c .before .before .numbered .ensures))
+    rw (c .before .before .before .before .before .before .c2 .given .1) (calls (onStream _ newList) (disk (a .card .now) (a .queue .now) (a .journal .now) (a .rec)) (c .before .before .before .before .new-list .ensures) refl (c .before .before .numbered .ensures))
 
 same-length-4 : tie.Need-same-length-4
 same-length-4 c = search needs
 
 returns-4 : tie.Need-returns-4
-unfolding callOf lineOf L.numberedLine
+unfolding callOf lineOf editLine L.numberedLine
 returns-4 c line =
     let a = c .before .before .before .before .before .before .before .before .before .before .before .before .args in
-    rw (c .before .before .before .before .before .before .c3 .given .1) (calls (newBlock _ _ _) (disk (a .card .now) (a .queue .now) (a .journal .now) (a .rec)) (c .before .before .before .before .new-block .ensures) refl (c .before .before .numbered2 .ensures))
+    rw (c .before .before .before .before .before .before .c3 .given .1) (calls (onStream _ (newBlock _ _)) (disk (a .card .now) (a .queue .now) (a .journal .now) (a .rec)) (c .before .before .before .before .new-block .ensures) refl (c .before .before .numbered2 .ensures))
 
 same-length-5 : tie.Need-same-length-5
 same-length-5 c = search needs
 
 returns-5 : tie.Need-returns-5
-unfolding callOf lineOf L.answerLine
+unfolding callOf lineOf editLine L.answerLine
 returns-5 c line =
     let a = c .before .before .before .before .before .before .before .before .before .before .before .before .args in
-    rw (c .before .before .before .before .before .before .c4 .given .1) (calls (deleteBlock _ _) (disk (a .card .now) (a .queue .now) (a .journal .now) (a .rec)) (c .before .before .before .before .delete-block .ensures) refl (c .before .before .answered2 .ensures))
+    rw (c .before .before .before .before .before .before .c4 .given .1) (calls (onStream _ (deleteBlock _)) (disk (a .card .now) (a .queue .now) (a .journal .now) (a .rec)) (c .before .before .before .before .delete-block .ensures) refl (c .before .before .answered2 .ensures))
 
 same-length-6 : tie.Need-same-length-6
 same-length-6 c = search needs
 
 returns-6 : tie.Need-returns-6
-unfolding callOf lineOf L.answerLine
+unfolding callOf lineOf editLine L.answerLine
 returns-6 c line =
     let a = c .before .before .before .before .before .before .before .before .before .before .before .before .args in
-    rw (c .before .before .before .before .before .before .c5 .given .1) (calls (deleteList _ _) (disk (a .card .now) (a .queue .now) (a .journal .now) (a .rec)) (c .before .before .before .before .delete-list .ensures) refl (c .before .before .answered3 .ensures))
+    rw (c .before .before .before .before .before .before .c5 .given .1) (calls (onStream _ (deleteList _)) (disk (a .card .now) (a .queue .now) (a .journal .now) (a .rec)) (c .before .before .before .before .delete-list .ensures) refl (c .before .before .answered3 .ensures))
 
 same-length-7 : tie.Need-same-length-7
 same-length-7 c = search needs

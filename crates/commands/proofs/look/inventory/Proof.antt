@@ -1,8 +1,8 @@
 -- The call on the lent bytes, and its line. Assumes nothing.
 use mathlib.Core.Path.{refl}
 use Rattle.disk.specs.Disk.{disk}
-use Rattle.disk.specs.Call.{inventory}
-use Rattle.commands.specs.Replies.{lineOf}
+use Rattle.disk.specs.Call.{inventory, inView}
+use Rattle.commands.specs.Replies.{lineOf, lookLine}
 use Rattle.commands.specs.Called.{bytesLent}
 use Rattle.commands.proofs.Calling.{inventory-line, calls}
 use borrow.Author.Needs.{needs}
@@ -28,10 +28,10 @@ same-length : tie.Need-same-length
 same-length c = search needs
 
 returns : tie.Need-returns
-unfolding bytesLent lineOf
+unfolding bytesLent lineOf lookLine
 returns c =
     let a = c .before .before .before .before .before .before .before .before .before .before .before .before .before .args in
-    calls (inventory (a .view) (bytesLent (a .lent))) (disk (a .card .now) (a .queue .now) (a .journal .now) (a .rec)) (c .before .before .before .before .before .before .before .inventory-part .ensures) (inventory-line _ _) (refl, rw (c .before .before .before .part .ensures) at (c .before .before .put-inventory .ensures))
+    calls (inView (a .view) (inventory (bytesLent (a .lent)))) (disk (a .card .now) (a .queue .now) (a .journal .now) (a .rec)) (c .before .before .before .before .before .before .before .inventory-part .ensures) (inventory-line _ _) (refl, rw (c .before .before .before .part .ensures) at (c .before .before .put-inventory .ensures))
 
 pub inventory-spec : {M : Type 1} → statement M
 inventory-spec =

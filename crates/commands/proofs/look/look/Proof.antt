@@ -1,10 +1,10 @@
 -- Each arm is one call and its line. Assumes nothing.
 use mathlib.Core.Path.{refl}
 use Rattle.disk.specs.Disk.{disk}
-use Rattle.disk.specs.Call.{conflictCount, blockAfter}
+use Rattle.disk.specs.Call.{blockAfter, conflictCount, inView}
 use Rattle.text.proofs.Writing.{puts-none}
 use Rattle.script.specs.Lines as L
-use Rattle.commands.specs.Replies.{lineOf}
+use Rattle.commands.specs.Replies.{lineOf, lookLine}
 use Rattle.commands.specs.Called.{callOf, leftBy, saidBy}
 use Rattle.commands.proofs.Calling.{calls}
 use Rattle.commands.proofs.Tags.{no-call}
@@ -53,10 +53,10 @@ same-length-2 : tie.Need-same-length-2
 same-length-2 c = search needs
 
 returns-2 : tie.Need-returns-2
-unfolding callOf lineOf L.numberedLine
+unfolding callOf lineOf lookLine L.numberedLine
 returns-2 c line =
     let a = c .before .before .before .before .before .before .before .before .before .before .before .before .args in
-    rw (c .before .before .before .before .before .before .c2 .given .1) (calls (blockAfter _ _ _) (disk (a .card .now) (a .queue .now) (a .journal .now) (a .rec)) (c .before .before .before .before .next .ensures) refl (refl, c .before .before .put-numbered .ensures))
+    rw (c .before .before .before .before .before .before .c2 .given .1) (calls (inView _ (blockAfter _ _)) (disk (a .card .now) (a .queue .now) (a .journal .now) (a .rec)) (c .before .before .before .before .next .ensures) refl (refl, c .before .before .put-numbered .ensures))
 
 same-length-3 : tie.Need-same-length-3
 same-length-3 c = search needs
