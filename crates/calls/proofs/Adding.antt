@@ -9,7 +9,7 @@ use native.Mathlib.Omega.{arith}
 use lib.Dec.{leb, eqb·suc-zero}
 use Rattle.lists.specs.Change.{Change, delBlock, delList, carriedBy}
 use Rattle.lists.specs.State.{Row, taken, placed}
-use Rattle.lists.specs.Tables.{Tables, OfShown}
+use Rattle.lists.specs.promises.Tables.{Tables, OfShown}
 use Rattle.lists.proofs.Basic.{eqb-false, le-true, lt-true, gt-false, ge-false}
 use Rattle.log.specs.declared.entry.LogEntry.{LogEntry}
 use Rattle.log.specs.declared.entry.LogEntry.the-variants.{DeleteBlock, DeleteList}
@@ -26,8 +26,8 @@ use Rattle.disk.specs.Call.{deleteBlock, deleteList, Call, onStream, destinatio
 use Rattle.disk.specs.Perform.{reply, accepted, change, noted, streamFor, made, numberGiven, changeFor, enqueue, journalAdd, queuedEntry, spliceSome}
 use Rattle.disk.specs.Answers.{number, replyAnswer}
 use Rattle.calls.specs.Performs.{Performs}
-use Rattle.inspect.specs.Inspect.{Sees}
-use Rattle.calls.specs.Adds.{added, Adds, rooms, AddsAfter}
+use Rattle.inspect.specs.promises.Inspect.{Sees}
+use Rattle.calls.specs.promises.Adds.{added, Adds, rooms, AddsAfter}
 use Rattle.calls.proofs.Refusing.{ask-yes, ask-no, opens, seen, Usual, usual-performs-refused, performs-accepted}
 use Rattle.inspect.proofs.Locating.{taken-here, placed-here}
 

@@ -4,7 +4,7 @@ use mathlib.Core.Logic.{_⊎_}
 use mathlib.Core.Bool.{Bool, true, false, not}
 use mathlib.Core.List.{List, [], _∷_, _++_}
 use Prim.Native.Nat.{ℕ, _≤_, _<_}
-use Rattle.lists.specs.Tables.{Tables}
+use Rattle.lists.specs.promises.Tables.{Tables}
 use Rattle.disk.specs.declared.answer.Refusal.{Refusal}
 use Rattle.disk.specs.declared.answer.Refusal.the-variants.{StreamClosed, UnitOpen}
 use Rattle.disk.specs.Disk.{Disk, unitOf}
@@ -16,9 +16,9 @@ use Rattle.disk.proofs.Questions.{in-range}
 use Rattle.inspect.specs.declared.look.Looked.{Looked}
 use Rattle.inspect.specs.declared.look.Looked.the-variants.{Refused, Seen}
 use Rattle.calls.specs.Performs.{Performs}
-use Rattle.inspect.specs.Clauses.{openUnit}
-use Rattle.inspect.specs.Inspect.{Looks}
-use Rattle.calls.specs.Checks.{Sounds, Checks}
+use Rattle.inspect.specs.promises.Clauses.{openUnit}
+use Rattle.inspect.specs.promises.Inspect.{Looks}
+use Rattle.calls.specs.promises.Checks.{Checked, Checks}
 use Rattle.calls.proofs.Refusing.{ask-yes, ask-no, checked, sound-yes, opens, outside, usual-performs-refused, performs-accepted}
 
 -- stream 0 is always open
@@ -30,16 +30,16 @@ pub looks-checks : (d : Disk) (x : Looked) (t : Tables) → Looks false d 0 x t 
 looks-checks d (Refused x) t h = unchecked d x h
 looks-checks d Seen t h = record { lengths = h .lengths; sound = h .sound }
 
-checked-yes : {d : Disk} (qs : List (ℕ × Bool)) → Sounds d → firstNo (checked d ++ qs) ≡ firstNo qs
+checked-yes : {d : Disk} (qs : List (ℕ × Bool)) → Checked d → firstNo (checked d ++ qs) ≡ firstNo qs
 checked-yes {d} qs s = sound-yes d qs (s .lengths) (s .sound)
 
 -- The conflict count.
-pub conflicts-given : (d : Disk) → Sounds d → Performs conflictCount d d (acceptedAnswer (d .rec .conflicts) 0) []
+pub conflicts-given : (d : Disk) → Checked d → Performs conflictCount d d (acceptedAnswer (d .rec .conflicts) 0) []
 unfolding refusal questions accepted firstNo
 conflicts-given d s = performs-accepted conflictCount d _ (checked-yes [] s) refl
 
 -- Begin.
-module _ (d : Disk) (u : ℕ) (s : Sounds d) where
+module _ (d : Disk) (u : ℕ) (s : Checked d) where
   abbrev last : List (ℕ × Bool)
   last = (6, not (unitOf d u .opened)) ∷ []
 

@@ -13,7 +13,7 @@ use Rattle.log.specs.Entry.{Entry}
 use Rattle.log.specs.Card.{Content, slot, segmentsIn}
 use Rattle.log.specs.Store.{home, tail, entryStores}
 use Rattle.log.specs.Flush.{Flushed, Ending, drained, full, spent, nextStore, flushFrom}
-use Rattle.log.specs.Within.{Within}
+use Rattle.log.specs.promises.Within.{Within}
 use Rattle.log.proofs.Allowance.{stopped-flush}
 use Rattle.log.proofs.EntryStores.{entry-stores-length}
 use Rattle.log.proofs.Places.{raw-length, addTo}
@@ -34,7 +34,7 @@ use Rattle.disk.proofs.Clauses.{right}
 use Rattle.disk.proofs.Draining.{open-log}
 use Rattle.disk.proofs.Sequence.{flow-ready}
 use Rattle.inspect.proofs.Behind.{tail-within}
-use Rattle.calls.specs.Flushing.{flow, HeadReady, HeadDrained, Heads, Flushable, Flushes}
+use Rattle.calls.specs.promises.Flushing.{flow, HeadReady, HeadDrained, Heads, Flushable, Flushes}
 use Rattle.calls.specs.declared.drain.Headed.the-variants as headed
 use Rattle.calls.proofs.Turns.{all-in-turn, flows-last}
 

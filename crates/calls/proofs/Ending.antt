@@ -12,12 +12,12 @@ use lib.ListN.{length, take, drop, getD, set}
 use Rattle.lists.specs.Basic.{isSome, from}
 use Rattle.lists.specs.Change.{Change, mapChange, carriedBy}
 use Rattle.lists.specs.State.{State, applyAll}
-use Rattle.lists.specs.Tables.{Tables}
+use Rattle.lists.specs.promises.Tables.{Tables}
 use Rattle.lists.proofs.Basic.{from-step, from-none, all-from, le-true, gt-false}
 use Rattle.log.proofs.entry.LogEntry.{the-type}
 use Rattle.log.specs.declared.entry.LogEntry.{LogEntry}
 use Rattle.log.specs.declared.entry.LogEntry.the-variants.{Take, PutFirst, PutAfter, Write, DeleteBlock, DeleteList, Commit}
-use Rattle.log.specs.Card.{Content, slot, slotBytes}
+use Rattle.log.specs.Card.{Content, slot, slotBytes, splice}
 use Rattle.log.specs.Entry.{member, commit, mapEntry, carried, raw, legal, hasMember, asChange, logChange}
 use Rattle.disk.specs.declared.record.Record.{Record}
 use Rattle.disk.specs.declared.answer.Refusal.{Refusal}
@@ -29,19 +29,18 @@ use Rattle.disk.specs.Disk.{Disk, disk, unitOf, journalPlace, journalAt, journa
 use Rattle.disk.specs.Call.{end, ends}
 use Rattle.disk.specs.Sound.{lengthsRight, recordSound, isOpenUnit}
 use Rattle.disk.specs.Questions.{endApplies, queueRoom, questions, ask, firstNo, refusal}
-use Rattle.log.specs.Location.{splice}
 use Rattle.disk.specs.Perform.{spliceSome, queuedEntry, enqueue, enqueueAll, unitEntries, closing, conflicted, reply, accepted, refused}
 use Rattle.disk.specs.Answers.{number, refusedAnswer, replyAnswer}
 use Rattle.disk.proofs.Journal.{journal-size}
 use Rattle.disk.proofs.Questions.{unit-range}
 use Rattle.disk.proofs.Clauses.{right}
 use Rattle.disk.proofs.Soundness.{refused-same}
-use Rattle.log.specs.Location.{blank}
+use Rattle.log.specs.promises.Location.{blank}
 use Rattle.calls.specs.Performs.{Performs}
-use Rattle.inspect.specs.Located.{journalHere}
-use Rattle.calls.specs.Entering.{Stands}
-use Rattle.inspect.specs.Clauses.{changeIn}
-use Rattle.calls.specs.Ending.{closed, QueuesMember, Ready, QueuesUnit, endQuestions, EndsAs, Ends}
+use Rattle.inspect.specs.promises.Located.{journalHere}
+use Rattle.calls.specs.promises.Entering.{Admitted}
+use Rattle.inspect.specs.promises.Clauses.{changeIn}
+use Rattle.calls.specs.promises.Ending.{closed, QueuesMember, Ready, QueuesUnit, endQuestions, EndsAs, Ends}
 use Rattle.calls.proofs.Refusing.{ask-yes, ask-no, last-yes, refused-more, end-performs-refused, performs-accepted}
 use Rattle.inspect.proofs.Locating.{applies-here}
 use Rattle.inspect.proofs.Looking.{unit-lawful}
@@ -158,7 +157,7 @@ module _ (q j : List ℕ) (r : Record) (u : ℕ) (a : Bool) where
         (ask-yes 12 a _ h ∙ last-yes 13 _ (le-true (r .len + (unitAt r u .len + 1)) 32 (omega arith)), λ c. ap (closing u) (g c) ∙ ap (disk c q′ j) (sym e))
 
 -- What the code needs of a disk whose unit u is open.
-module _ (u : ℕ) (d : Disk) (t : Tables) (k : Stands false d u t) where
+module _ (u : ℕ) (d : Disk) (t : Tables) (k : Admitted false d u t) where
   pub stands-ready : Ready (d .queueData) (d .journalData) (d .rec) u
   stands-ready =
       let g = right d (k .lengths) (k .sound) in

@@ -4,16 +4,16 @@ use mathlib.Core.Logic.{_≢_}
 use mathlib.Core.Bool.{Bool, true, false}
 use mathlib.Core.List.{List, [], _∷_, _++_}
 use Prim.Native.Nat.{ℕ}
-use Rattle.lists.specs.Tables.{Tables}
+use Rattle.lists.specs.promises.Tables.{Tables}
 use Rattle.lists.proofs.Basic.{eqb-false}
 use Rattle.disk.specs.declared.answer.Refusal.{Refusal}
 use Rattle.disk.specs.Disk.{Disk, unitOf, view}
 use Rattle.disk.specs.Sound.{lengthsRight, recordSound, isOpenUnit}
 use Rattle.disk.specs.Questions.{streamOpen, firstNo}
 use Rattle.disk.specs.Answers.{number}
-use Rattle.inspect.specs.Clauses.{openUnit}
-use Rattle.inspect.specs.Inspect.{Sees}
-use Rattle.calls.specs.Entering.{openFor, Stands}
+use Rattle.inspect.specs.promises.Clauses.{openUnit}
+use Rattle.inspect.specs.promises.Inspect.{Sees}
+use Rattle.calls.specs.promises.Entering.{openFor, Admitted}
 use Rattle.calls.proofs.Checking.{unchecked}
 use Rattle.calls.proofs.Refusing.{ask-yes, ask-no, refused-more, checked, sound-yes, opens}
 
@@ -39,7 +39,7 @@ module _ (stream : Bool) (d : Disk) (s : ℕ) where
   open-unit h = rw h
 
   module _ (t : Tables) (a : Sees false d 0 t) where
-    pub stands : openFor stream d s ≡ true → Stands stream d s t
+    pub stands : openFor stream d s ≡ true → Admitted stream d s t
     unfolding view
     stands o = record { lengths = a .lengths; sound = a .sound; opened = o; located = a .located }
 
@@ -49,5 +49,5 @@ module _ (stream : Bool) (d : Disk) (s : ℕ) where
   pub unsound : (x : Refusal) → firstNo (opens false d 0) ≡ number x → firstNo entering ≡ number x
   unsound x h = refused-more x (checked d) ((4, openFor stream d s) ∷ []) (unchecked d x h)
 
-  pub entered : (t : Tables) (qs : List (ℕ × Bool)) → Stands stream d s t → firstNo (entering ++ qs) ≡ firstNo qs
+  pub entered : (t : Tables) (qs : List (ℕ × Bool)) → Admitted stream d s t → firstNo (entering ++ qs) ≡ firstNo qs
   entered t qs h = sound-yes d _ (h .lengths) (h .sound) ∙ ask-yes 4 _ qs (h .opened)

@@ -10,7 +10,7 @@ use lib.Dec.{leb, eqb}
 use Rattle.lists.specs.Basic.{isSome, orElse}
 use Rattle.lists.specs.Change.{carriedBy}
 use Rattle.lists.specs.State.{Row, taken, placed, onList}
-use Rattle.lists.specs.Tables.{Tables}
+use Rattle.lists.specs.promises.Tables.{Tables}
 use Rattle.lists.proofs.Basic.{eqb-false, le-true, gt-false}
 use Rattle.log.specs.Entry.{hasMember, isList, carried, logChange}
 use Rattle.disk.specs.declared.record.Record.{Record}
@@ -27,9 +27,9 @@ use Rattle.disk.specs.Perform.{accepted, change, noted, streamFor, made, number
 use Rattle.disk.specs.Answers.{number, numberAnswer}
 use Rattle.disk.proofs.Questions.{free-from}
 use Rattle.calls.specs.Performs.{Performs}
-use Rattle.calls.specs.Entering.{Stands}
-use Rattle.calls.specs.Adds.{Adds}
-use Rattle.calls.specs.Giving.{freeListIn, freeBlockIn, takenList, Takes, putEntry, heldBy, putBlock, Puts, putQuestions, rangedPutQuestions}
+use Rattle.calls.specs.promises.Entering.{Admitted}
+use Rattle.calls.specs.promises.Adds.{Adds}
+use Rattle.calls.specs.promises.Giving.{freeListIn, freeBlockIn, takenList, Takes, putEntry, heldBy, putBlock, Gives, putQuestions, rangedPutQuestions}
 use Rattle.calls.proofs.Refusing.{ask-yes, ask-no, last-yes, usual-performs-refused, performs-accepted}
 use Rattle.inspect.proofs.Locating.{taken-here}
 use Rattle.calls.proofs.Adding.{rooms-yes}
@@ -91,7 +91,7 @@ module _ (r : Record) (rs : List (Row ℕ)) (n : ℕ) (h : n ≡ orElse 0 (freeL
     pub takes : r .len < 32 → (r′ : Record) → r′ ≡ takenList r n → Takes r rs (Number n) r′
     takes l r′ e = (e, given, le-true (r .len + 1) 32 (omega arith))
 
-pub takes-performs : (s : ℕ) (d : Disk) (t : Tables) (k : Stands true d s t) (a : NumberReply) (r′ : Record)
+pub takes-performs : (s : ℕ) (d : Disk) (t : Tables) (k : Admitted true d s t) (a : NumberReply) (r′ : Record)
     → Takes (d .rec) (k .located .here .lists) a r′ → Performs (onStream s newList) d (withRecord d r′) (numberAnswer a) []
 unfolding numberAnswer refusal questions editQuestions freeList queueRoom destination accepted made noted streamFor hasMember numberGiven changeFor change gaveList enqueue queuedEntry carried carriedBy spliceSome logChange orElse isSome
 takes-performs s d t k a r′ = go a
@@ -108,10 +108,10 @@ takes-performs s d t k a r′ = go a
 
 -- A put: a question more before the others.
 module _ (qs : List (ℕ × Bool)) (s l p b : ℕ) (r : Record) (n : ℕ) (q : Bool) where
-  puts-no : (x : Refusal) → n ≡ number x → q ≡ false → Puts ((n, q) ∷ qs) s l p b r (Refused x) r
+  puts-no : (x : Refusal) → n ≡ number x → q ≡ false → Gives ((n, q) ∷ qs) s l p b r (Refused x) r
   puts-no x e h = (refl, λ d k. ask-no n q _ h ∙ e)
 
-  puts-yes : (a : NumberReply) (r′ : Record) → q ≡ true → Puts qs s l p b r a r′ → Puts ((n, q) ∷ qs) s l p b r a r′
+  puts-yes : (a : NumberReply) (r′ : Record) → q ≡ true → Gives qs s l p b r a r′ → Gives ((n, q) ∷ qs) s l p b r a r′
   puts-yes (Refused x) r′ h k = (k .0, λ d e. ask-yes n q _ h ∙ k .1 d e)
   puts-yes (Number m) r′ h k = (k .0, k .1, λ d e. ask-yes n q _ h ∙ k .2 d e)
 
@@ -122,38 +122,38 @@ module _ (s l p b : ℕ) (r : Record) (rs : List (Row ℕ)) where
   nine : List (ℕ × Bool)
   nine = (9, eqb p 0 || onList l p rs) ∷ ten
 
-  pub put-outside : isList l && leb p 64 ≡ false → Puts (rangedPutQuestions l p b rs) s l p b r (Refused OutOfRange) r
+  pub put-outside : isList l && leb p 64 ≡ false → Gives (rangedPutQuestions l p b rs) s l p b r (Refused OutOfRange) r
   unfolding number
   put-outside h = puts-no (putQuestions l p b rs) s l p b r 5 _ OutOfRange refl h
 
-  pub put-inside : (a : NumberReply) (r′ : Record) → isList l && leb p 64 ≡ true → Puts (putQuestions l p b rs) s l p b r a r′ → Puts (rangedPutQuestions l p b rs) s l p b r a r′
+  pub put-inside : (a : NumberReply) (r′ : Record) → isList l && leb p 64 ≡ true → Gives (putQuestions l p b rs) s l p b r a r′ → Gives (rangedPutQuestions l p b rs) s l p b r a r′
   put-inside a r′ h k = puts-yes (putQuestions l p b rs) s l p b r 5 _ a r′ h k
 
-  pub put-not-taken : taken l rs ≡ false → Puts (putQuestions l p b rs) s l p b r (Refused ListNotTaken) r
+  pub put-not-taken : taken l rs ≡ false → Gives (putQuestions l p b rs) s l p b r (Refused ListNotTaken) r
   unfolding number ten nine
   put-not-taken h = puts-no nine s l p b r 7 _ ListNotTaken refl h
 
   module _ (t : taken l rs ≡ true) where
-    pub put-elsewhere : eqb p 0 || onList l p rs ≡ false → Puts (putQuestions l p b rs) s l p b r (Refused PredecessorElsewhere) r
+    pub put-elsewhere : eqb p 0 || onList l p rs ≡ false → Gives (putQuestions l p b rs) s l p b r (Refused PredecessorElsewhere) r
     unfolding number ten nine
     put-elsewhere h = puts-yes nine s l p b r 7 _ (Refused PredecessorElsewhere) r t (puts-no ten s l p b r 9 _ PredecessorElsewhere refl h)
 
     module _ (o : eqb p 0 || onList l p rs ≡ true) where
-      pub put-none : b ≡ 0 → Puts (putQuestions l p b rs) s l p b r (Refused NoNumberFree) r
+      pub put-none : b ≡ 0 → Gives (putQuestions l p b rs) s l p b r (Refused NoNumberFree) r
       unfolding number ten nine
       put-none h =
           puts-yes nine s l p b r 7 _ (Refused NoNumberFree) r t
           (puts-yes ten s l p b r 9 _ (Refused NoNumberFree) r o (puts-no [] s l p b r 10 _ NoNumberFree refl (rw h)))
 
-      pub put-some : (a : NumberReply) (r′ : Record) → b ≢ 0 → Puts [] s l p b r a r′ → Puts (putQuestions l p b rs) s l p b r a r′
+      pub put-some : (a : NumberReply) (r′ : Record) → b ≢ 0 → Gives [] s l p b r a r′ → Gives (putQuestions l p b rs) s l p b r a r′
       unfolding ten nine
       put-some a r′ h k = puts-yes nine s l p b r 7 _ a r′ t (puts-yes ten s l p b r 9 _ a r′ o (puts-yes [] s l p b r 10 _ a r′ (rw (eqb-false b 0 h)) k))
 
 -- Where the put ends.
 module _ (s l p b : ℕ) (r : Record) where
-  pub puts-full : (x : Refusal) (r′ : Record) → Adds s (putEntry b l p) r (A.Refused x) r′ → Puts [] s l p b r (Refused x) r
+  pub puts-full : (x : Refusal) (r′ : Record) → Adds s (putEntry b l p) r (A.Refused x) r′ → Gives [] s l p b r (Refused x) r
   puts-full x r′ h = (refl, h .1)
 
-  pub puts-block : (r′ r″ : Record) → Adds s (putEntry b l p) r A.Accepted r′ → r″ ≡ withLastBlock (heldBy s b r′) b → Puts [] s l p b r (Number b) r″
+  pub puts-block : (r′ r″ : Record) → Adds s (putEntry b l p) r A.Accepted r′ → r″ ≡ withLastBlock (heldBy s b r′) b → Gives [] s l p b r (Number b) r″
   unfolding putBlock
   puts-block r′ r″ h e = (refl, e ∙ ap (λ (x : Record). withLastBlock (heldBy s b x) b) (h .0), λ d k. rooms-yes d s (h .1 d k))

@@ -8,7 +8,7 @@ use lib.Dec.{leb, eqb}
 use lib.ListN.{length}
 use Rattle.lists.specs.State.{taken, onList}
 use Rattle.lists.specs.Lookup.{nextAfter}
-use Rattle.lists.specs.Tables.{Tables, IsList, OfShown}
+use Rattle.lists.specs.promises.Tables.{Tables, IsList, OfShown}
 use Rattle.lists.proofs.Basic.{eqb-false, eq-true}
 use Rattle.log.specs.Entry.{isList}
 use Rattle.disk.specs.declared.answer.Refusal.{Refusal}
@@ -20,7 +20,7 @@ use Rattle.disk.specs.Questions.{predecessorRight, lookQuestions, questions, re
 use Rattle.disk.specs.Perform.{found, accepted}
 use Rattle.disk.specs.Answers.{number, numberAnswer}
 use Rattle.calls.specs.Performs.{Performs}
-use Rattle.inspect.specs.Inspect.{Sees}
+use Rattle.inspect.specs.promises.Inspect.{Sees}
 use Rattle.inspect.proofs.Locating.{onList-here, listNums-here, of-shown, taken-told, nextAfter-told}
 use Rattle.calls.proofs.Taken.{Stored}
 use Rattle.calls.proofs.Refusing.{ask-yes, ask-no, last-yes, seen, position-range, usual-performs-refused, performs-accepted}

@@ -10,13 +10,13 @@ use lib.Dec.{leb, eqb, eqb·suc-zero}
 use Rattle.lists.specs.Basic.{isSome, orElse, all, from}
 use Rattle.lists.specs.Change.{carriedBy}
 use Rattle.lists.specs.State.{Row, State, taken, placed, onList, overlay, mapState}
-use Rattle.lists.specs.Tables.{Tables}
+use Rattle.lists.specs.promises.Tables.{Tables}
 use Rattle.lists.proofs.Basic.{or-cases, eqb-true, eqb-false}
 use Rattle.lists.proofs.Naturality.{taken-map, onList-map}
 use Rattle.log.specs.declared.entry.LogEntry.{LogEntry}
 use Rattle.log.specs.Card.{zeros}
 use Rattle.log.specs.Entry.{hasMember, isList, member, raw, legal, logChange}
-use Rattle.log.specs.Location.{blank}
+use Rattle.log.specs.promises.Location.{blank}
 use Rattle.disk.specs.declared.record.Record.{Record}
 use Rattle.disk.specs.declared.answer.NumberReply.{NumberReply}
 use Rattle.disk.specs.declared.answer.NumberReply.the-variants.{Number, Refused}
@@ -29,12 +29,12 @@ use Rattle.disk.specs.Perform.{accepted, change, hold, gaveBlock, noted, stream
 use Rattle.disk.specs.Answers.{numberAnswer}
 use Rattle.disk.proofs.Questions.{unit-range}
 use Rattle.disk.proofs.Clauses.{right}
-use Rattle.inspect.specs.Clauses.{changeIn}
+use Rattle.inspect.specs.promises.Clauses.{changeIn}
 use Rattle.calls.specs.Performs.{Performs}
-use Rattle.inspect.specs.Located.{contents, journalHere}
-use Rattle.calls.specs.Adds.{added, rooms}
-use Rattle.calls.specs.Entering.{Stands}
-use Rattle.calls.specs.Giving.{freeBlockIn, putEntry, heldBy, putBlock, Puts, rangedPutQuestions, viewHere, Shown, PutsFree}
+use Rattle.inspect.specs.promises.Located.{contents, journalHere}
+use Rattle.calls.specs.promises.Adds.{added, rooms}
+use Rattle.calls.specs.promises.Entering.{Admitted}
+use Rattle.calls.specs.promises.Giving.{freeBlockIn, putEntry, heldBy, putBlock, Gives, rangedPutQuestions, viewHere, Shown, PutsFree}
 use Rattle.calls.proofs.Refusing.{usual-performs-refused, performs-accepted}
 use Rattle.calls.proofs.Adding.{change-added}
 use Rattle.inspect.proofs.Locating.{placed-here, overlay-here}
@@ -44,8 +44,8 @@ use Rattle.calls.proofs.Giving.{free-ext, free-number}
 
 -- the same put of a number named otherwise
 pub puts-number : (rs : List (Row ℕ)) (s l p b b′ : ℕ) (r : Record) (a : NumberReply) (r′ : Record) → b ≡ b′
-    → Puts (rangedPutQuestions l p b rs) s l p b r a r′ → Puts (rangedPutQuestions l p b′ rs) s l p b′ r a r′
-puts-number rs s l p b b′ r a r′ e h = subst (λ (x : ℕ). Puts (rangedPutQuestions l p x rs) s l p x r a r′) e h
+    → Gives (rangedPutQuestions l p b rs) s l p b r a r′ → Gives (rangedPutQuestions l p b′ rs) s l p b′ r a r′
+puts-number rs s l p b b′ r a r′ e h = subst (λ (x : ℕ). Gives (rangedPutQuestions l p x rs) s l p x r a r′) e h
 
 -- The change.
 put-carries : (b l p : ℕ) → carriedBy (putAt b l p) ≡ none
@@ -76,7 +76,7 @@ put-disk s l p b d =
     ∙ ap (gaveBlock b) (hold-record s b d (added s (putEntry b l p) (d .rec)))
 
 -- A stream's number, and its view at locations.
-pub stands-range : (d : Disk) (s : ℕ) (t : Tables) → Stands true d s t → s ≤ 4
+pub stands-range : (d : Disk) (s : ℕ) (t : Tables) → Admitted true d s t → s ≤ 4
 unfolding streamOpen
 stands-range d s t k = ⊎-elim (λ e. let z = eqb-true s 0 e in omega arith) (λ e. unit-range d s e .1) (or-cases (eqb s 0) (isOpenUnit d s) (k .opened))
 
@@ -86,7 +86,7 @@ unit-some d zero l h n = let w = unit-lawful d 1 l h (omega arith) (omega arith)
 unit-some d (suc s) l h n = unit-lawful d (suc s) l h (omega arith) n
 
 -- what the code needs
-pub stands-put : (s : ℕ) (d : Disk) (t : Tables) → Stands true d s t
+pub stands-put : (s : ℕ) (d : Disk) (t : Tables) → Admitted true d s t
     → Shown t × (s ≤ 4) × (d .rec .head < 32) × (unitAt (d .rec) s .len ≤ 15)
     × (all (λ c. legal (raw 0 (member c))) (from (changeIn (unitAt (d .rec) s)) 0 (unitAt (d .rec) s .len)) ≡ true)
 stands-put s d t k =
@@ -94,7 +94,7 @@ stands-put s d t k =
     let w = unit-some d s (k .lengths) (k .sound) n in
     (record { lists = k .located .here .lists; shows = k .located .shows }, n, right d (k .lengths) (k .sound) .log .head, w .room, w .lawful)
 
-module _ (s : ℕ) (d : Disk) (t : Tables) (k : Stands true d s t) where
+module _ (s : ℕ) (d : Disk) (t : Tables) (k : Admitted true d s t) where
   here : State ℕ
   here = k .located .here
 
@@ -129,7 +129,7 @@ module _ (s : ℕ) (d : Disk) (t : Tables) (k : Stands true d s t) where
   unfolding numberAnswer destination accepted numberGiven changeFor given here
   puts-performs l p a r′ f = go a (f here (k .located .shows))
     where
-      go : (a : NumberReply) → Puts (rangedPutQuestions l p given (viewHere (d .rec) s here .lists)) s l p given (d .rec) a r′
+      go : (a : NumberReply) → Gives (rangedPutQuestions l p given (viewHere (d .rec) s here .lists)) s l p given (d .rec) a r′
           → Performs (onStream s (newBlock l p)) d (withRecord d r′) (numberAnswer a) []
       go (Refused x) h = rw (h .0) (usual-performs-refused (onStream s (newBlock l p)) d x tt (asked l p ∙ h .1 d refl))
       go (Number n) h =

@@ -9,7 +9,7 @@ use lib.ListN.{length}
 use Rattle.lists.specs.Basic.{orElse}
 use Rattle.lists.specs.State.{placed}
 use Rattle.lists.specs.Lookup.{contentOf}
-use Rattle.lists.specs.Tables.{Tables, IsBlock, OfShown}
+use Rattle.lists.specs.promises.Tables.{Tables, IsBlock, OfShown}
 use Rattle.lists.proofs.Basic.{and-true, leb-true, eqb-true}
 use Rattle.log.specs.Entry.{isBlock}
 use Rattle.disk.specs.declared.answer.Refusal.{Refusal}
@@ -22,8 +22,8 @@ use Rattle.disk.specs.Perform.{found, accepted}
 use Rattle.disk.specs.Answers.{number, replyAnswer}
 use Rattle.disk.proofs.Contents.{view-sized}
 use Rattle.calls.specs.Performs.{Performs}
-use Rattle.inspect.specs.Located.{contents}
-use Rattle.inspect.specs.Inspect.{Sees}
+use Rattle.inspect.specs.promises.Located.{contents}
+use Rattle.inspect.specs.promises.Inspect.{Sees}
 use Rattle.inspect.proofs.Locating.{placed-told, content-told}
 use Rattle.calls.proofs.Refusing.{ask-yes, ask-no, last-yes, seen, usual-performs-refused, performs-accepted}
 

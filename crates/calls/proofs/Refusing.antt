@@ -7,7 +7,7 @@ use mathlib.Core.List.{List, [], _∷_, _++_}
 use Prim.Native.Nat.{ℕ, suc, _≤_, _<_}
 use native.Mathlib.Omega.{arith}
 use lib.Dec.{leb, eqb}
-use Rattle.lists.specs.Tables.{Tables, IsList}
+use Rattle.lists.specs.promises.Tables.{Tables, IsList}
 use Rattle.lists.proofs.Basic.{and-true, or-cases, leb-true, eqb-true, eqb-false, gt-false}
 use Rattle.log.specs.Entry.{isList}
 use Rattle.disk.specs.declared.answer.Refusal.{Refusal}
@@ -23,7 +23,7 @@ use Rattle.disk.proofs.Questions.{numbered, unit-range}
 use Rattle.disk.proofs.Clauses.{right}
 use Rattle.disk.proofs.Performing.{perform-accepted, perform-refused, refusedResult}
 use Rattle.calls.specs.Performs.{Performs}
-use Rattle.inspect.specs.Inspect.{openAs, Sees}
+use Rattle.inspect.specs.promises.Inspect.{openAs, Sees}
 
 -- The first no.
 pub ask-yes : (n : ℕ) (b : Bool) (qs : List (ℕ × Bool)) → b ≡ true → firstNo ((n, b) ∷ qs) ≡ firstNo qs

@@ -17,12 +17,12 @@ use Rattle.log.specs.Entry.{Entry, asEntry}
 use Rattle.log.specs.Card.{Content, segmentsIn}
 use Rattle.log.specs.Store.{Store, doStores, after, home, entryStores}
 use Rattle.log.specs.Flush.{full, spent, stored, storeNext, nextStore, flushFrom}
-use Rattle.log.specs.Within.{Storable, asPlace}
+use Rattle.log.specs.promises.Within.{Storable, asPlace}
 use Rattle.log.specs.Turns.{AllInTurn}
 use Rattle.log.proofs.Allowance.{stopped-flush, moved-flush}
 use Rattle.log.proofs.LogStores.{going, stores-many}
 use Rattle.log.proofs.Within.{within-home, within-after, home-of-entry, after-of-entry}
-use Rattle.calls.specs.Flushing.{flow, HeadReady, Heads}
+use Rattle.calls.specs.promises.Flushing.{flow, HeadReady, Heads}
 use Rattle.calls.specs.declared.drain.Headed.the-variants as headed
 
 -- m of the stores, from number k on

@@ -12,7 +12,7 @@ use lib.ListN.{length, getD, set, take, drop}
 use lib.Seq.{take-length, paste-suc}
 use Rattle.lists.specs.State.{Row, taken}
 use Rattle.lists.specs.Lookup.{nextIn, listNums, takenAfter}
-use Rattle.lists.specs.Tables.{Tables, Shows}
+use Rattle.lists.specs.promises.Tables.{Tables, Shows}
 use Rattle.lists.proofs.Basic.{or-right, eqb-same, eqb-false}
 use Rattle.lists.proofs.Runs.{away-at, some-within, lists-apart, lists-few, lists-run}
 

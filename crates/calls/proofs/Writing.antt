@@ -8,7 +8,7 @@ use lib.Dec.{eqb, eqb·suc-zero}
 use lib.ListN.{length}
 use Rattle.lists.specs.Change.{write, carriedBy}
 use Rattle.lists.specs.State.{placed}
-use Rattle.lists.specs.Tables.{Tables, OfShown}
+use Rattle.lists.specs.promises.Tables.{Tables, OfShown}
 use Rattle.lists.proofs.Basic.{and-true, eqb-true}
 use Rattle.log.specs.declared.entry.LogEntry.the-variants.{Write}
 use Rattle.log.specs.Card.{Content, slotBytes}
@@ -26,8 +26,8 @@ use Rattle.disk.specs.Answers.{replyAnswer}
 use Rattle.disk.proofs.Questions.{yes-all, queue-data, journal-data, journal-room}
 use Rattle.disk.proofs.Clauses.{right}
 use Rattle.calls.specs.Performs.{Performs}
-use Rattle.inspect.specs.Inspect.{Sees}
-use Rattle.calls.specs.Adds.{added, AddsAfter, Fits, Copies}
+use Rattle.inspect.specs.promises.Inspect.{Sees}
+use Rattle.calls.specs.promises.Adds.{added, AddsAfter, HasPlace, Copies}
 use Rattle.calls.proofs.Refusing.{seen-ranges, usual-performs-refused, performs-accepted}
 use Rattle.calls.proofs.Adding.{Decides, seen-decides}
 use Rattle.inspect.proofs.Locating.{placed-here}
@@ -58,7 +58,7 @@ module _ (d : Disk) (s b : ℕ) (x : Content) (a : Reply) (r : Record) where
 
   -- what copying needs then
   pub write-fits : (t : Tables) → Sees false d s t → a ≡ Accepted → Decides (onStream s (writeBlock b x)) d s (Write b 0) a r
-      → (length (d .queueData) ≡ 8192) × (length (d .journalData) ≡ 15360) × (length x ≡ 256) × Fits s (d .rec)
+      → (length (d .queueData) ≡ 8192) × (length (d .journalData) ≡ 15360) × (length x ≡ 256) × HasPlace s (d .rec)
   unfolding questions editQuestions unitOf
   write-fits t z e h =
       let w = rw e at h in

@@ -1,11 +1,20 @@
 -- What a call promises: its answer, the record and each lent byte are those of the definition `perform`.
 use mathlib.Core.Path.{_≡_}
-use mathlib.Core.List.{List}
+use mathlib.Core.List.{List, []}
 use Prim.Native.Nat.{ℕ}
-use Rattle.disk.specs.Disk.{Disk}
+use Rattle.disk.specs.declared.record.Record.{Record}
+use Rattle.disk.specs.Disk.{Disk, disk}
 use Rattle.disk.specs.Call.{Call}
 use Rattle.disk.specs.Perform.{Answer, perform}
 
 -- call c on disk d leaves disk d′ and the lent bytes x, and answers a
 abbrev pub Performs : Call → Disk → Disk → Answer → List ℕ → Type 0
 Performs c d d′ a x = perform c d ≡ record { disk = d′; answer = a; lent = x }
+
+-- the same where only the record changes, from r to r′, and no destination is lent
+abbrev pub ChangesRecord : Call → List ℕ → List ℕ → List ℕ → Record → Record → Answer → Type 0
+ChangesRecord c card q j r r′ a = Performs c (disk card q j r) (disk card q j r′) a []
+
+-- the same where the disk is as it was, and the destination holds x
+abbrev pub ChangesNothing : Call → List ℕ → List ℕ → List ℕ → Record → Answer → List ℕ → Type 0
+ChangesNothing c card q j r a x = Performs c (disk card q j r) (disk card q j r) a x

@@ -8,7 +8,7 @@ use disk::record::Record;
 use disk::record::Unit;
 use log::entry::LogEntry;
 ghost use Prim.Native.Nat.{_≤_, _<_};
-ghost use Rattle.calls.specs.Adds.{Adds};
+ghost use Rattle.calls.specs.promises.Adds.{Adds};
 
 // 11. Has the unit's journal room? 13. Has the queue, for stream 0?
 pub fn add(rec: Record, s: usize, e: LogEntry) -> Replied

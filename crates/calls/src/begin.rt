@@ -7,15 +7,19 @@ use disk::change::empty;
 use disk::record::Record;
 use inspect::look::Looked;
 use inspect::units::is_open;
-ghost use mathlib.Core.List.{[]};
-ghost use Rattle.disk.specs.Disk.{disk};
 ghost use Rattle.disk.specs.Call.{begin as beginOf};
 ghost use Rattle.disk.specs.Answers.{replyAnswer};
-ghost use Rattle.calls.specs.Performs.{Performs};
+ghost use Rattle.calls.specs.Performs.{ChangesRecord};
 
 // Questions: 1 lengths, 3 record, 4 unit, 6 closed.
-pub fn begin(card: &[u8], queue_data: &[u8], journal_data: &[u8], rec: Record, u: usize) -> Replied
-    ensures { λ r. ⌜ Performs (beginOf u) (disk (now (card .entry)) (now (queue_data .entry)) (now (journal_data .entry)) rec) (disk (now (card .entry)) (now (queue_data .entry)) (now (journal_data .entry)) (r .rec)) (replyAnswer (r .reply)) [] ⌝ }
+pub fn begin(
+    card: &[u8],
+    queue_data: &[u8],
+    journal_data: &[u8],
+    rec: Record,
+    unit: usize,
+) -> Replied
+    ensures { λ r. ⌜ ChangesRecord (beginOf unit) (now (card .entry)) (now (queue_data .entry)) (now (journal_data .entry)) rec (r .rec) (replyAnswer (r .reply)) ⌝ }
 {
     match check(card, queue_data, journal_data, rec) {
         Looked::Refused(x) => {
@@ -24,17 +28,17 @@ pub fn begin(card: &[u8], queue_data: &[u8], journal_data: &[u8], rec: Record, u
         }
         Looked::Seen => {}
     }
-    if u < 1 || Record::UNITS < u {
+    if unit < 1 || Record::UNITS < unit {
         let reply = Reply::Refused(Refusal::StreamClosed);
         return Replied { rec, reply };
     }
-    if is_open(rec, u) {
+    if is_open(rec, unit) {
         let reply = Reply::Refused(Refusal::UnitOpen);
         return Replied { rec, reply };
     }
     let reply = Reply::Accepted;
     Replied {
-        rec: empty(rec, u, true),
+        rec: empty(rec, unit, true),
         reply,
     }
 }

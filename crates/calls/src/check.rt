@@ -3,7 +3,7 @@ use disk::record::Record;
 use inspect::look::Looked;
 use inspect::look::look_committed;
 ghost use Rattle.disk.specs.Disk.{disk};
-ghost use Rattle.calls.specs.Checks.{Checks};
+ghost use Rattle.calls.specs.promises.Checks.{Checks};
 
 // Refused by question 1 or 3; or the disk is seen to be sound.
 pub fn check(card: &[u8], queue_data: &[u8], journal_data: &[u8], rec: Record) -> Looked

@@ -4,14 +4,13 @@ use disk::answer::NumberReply;
 use disk::record::Record;
 use inspect::look::Looked;
 ghost use mathlib.Core.List.{[]};
-ghost use Rattle.disk.specs.Disk.{disk};
 ghost use Rattle.disk.specs.Call.{conflictCount};
 ghost use Rattle.disk.specs.Answers.{numberAnswer};
-ghost use Rattle.calls.specs.Performs.{Performs};
+ghost use Rattle.calls.specs.Performs.{ChangesNothing};
 
 // Questions: 1 lengths, 3 record.
 pub fn conflicts(card: &[u8], queue_data: &[u8], journal_data: &[u8], rec: Record) -> NumberReply
-    ensures { λ r. ⌜ Performs conflictCount (disk (now (card .entry)) (now (queue_data .entry)) (now (journal_data .entry)) rec) (disk (now (card .entry)) (now (queue_data .entry)) (now (journal_data .entry)) rec) (numberAnswer r) [] ⌝ }
+    ensures { λ r. ⌜ ChangesNothing conflictCount (now (card .entry)) (now (queue_data .entry)) (now (journal_data .entry)) rec (numberAnswer r) [] ⌝ }
 {
     match check(card, queue_data, journal_data, rec) {
         Looked::Refused(x) => NumberReply::Refused(x),

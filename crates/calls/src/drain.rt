@@ -16,10 +16,10 @@ ghost use Prim.Native.Nat.{_+_, _-_, _%_, _≤_, _<_};
 ghost use lib.ListN.{length, take, drop};
 ghost use Rattle.log.specs.Entry.{mapEntry, asEntry};
 ghost use Rattle.log.specs.Store.{doStores, entryStores};
-ghost use Rattle.log.specs.Within.{Storable};
+ghost use Rattle.log.specs.promises.Within.{Storable};
 ghost use Rattle.log.specs.Turns.{AllInTurn};
 ghost use Rattle.disk.specs.Record.{withFlow};
-ghost use Rattle.calls.specs.Flushing.{HeadReady, Heads, Flushable, Flushes};
+ghost use Rattle.calls.specs.promises.Flushing.{HeadReady, Heads, Flushable, Flushes};
 
 // What a flush makes of the queue's head: it has no place; the allowance ended when so many of its stores were done; or it is on the card, with the
 // place behind it and the stores that it took.

@@ -19,13 +19,13 @@ ghost use mathlib.Core.Bool.{true};
 ghost use mathlib.Core.List.{[]};
 ghost use Prim.Native.Nat.{_+_, _≤_, _<_};
 ghost use lib.ListN.{length};
-ghost use Rattle.lists.specs.Tables.{tablesIn};
+ghost use Rattle.lists.specs.promises.Tables.{tablesIn};
 ghost use Rattle.log.specs.Entry.{legal, raw, member, asChange};
 ghost use Rattle.disk.specs.Record.{unitAt};
 ghost use Rattle.disk.specs.Disk.{disk};
 ghost use Rattle.disk.specs.Call.{end};
 ghost use Rattle.disk.specs.Answers.{replyAnswer};
-ghost use Rattle.calls.specs.Ending.{closed, QueuesMember, Ready, QueuesUnit, Ends};
+ghost use Rattle.calls.specs.promises.Ending.{closed, QueuesMember, Ready, QueuesUnit, Ends};
 ghost use Rattle.calls.specs.Performs.{Performs};
 
 // Unit u closed, its journal gone, its numbers released.
@@ -123,17 +123,17 @@ pub fn end(
     queue_data: &mut [u8],
     journal_data: &[u8],
     rec: Record,
-    u: usize,
+    unit: usize,
 ) -> Replied
-    ensures { λ r. ⌜ Performs (end u) (disk (now (card .entry)) (now (queue_data .entry)) (now (journal_data .entry)) rec) (disk (now (card .entry)) (now (queue_data .exit)) (now (journal_data .entry)) (r .rec)) (replyAnswer (r .reply)) [] ⌝ }
+    ensures { λ r. ⌜ Performs (end unit) (disk (now (card .entry)) (now (queue_data .entry)) (now (journal_data .entry)) rec) (disk (now (card .entry)) (now (queue_data .exit)) (now (journal_data .entry)) (r .rec)) (replyAnswer (r .reply)) [] ⌝ }
 {
     let mut nodes = [0u8; 1280];
-    match enter(card, queue_data, journal_data, rec, false, u, &mut nodes) {
+    match enter(card, queue_data, journal_data, rec, false, unit, &mut nodes) {
         Looked::Refused(x) => {
             let reply = Reply::Refused(x);
             return Replied { rec, reply };
         }
         Looked::Seen => {}
     }
-    end_unit(&mut nodes, queue_data, journal_data, rec, u)
+    end_unit(&mut nodes, queue_data, journal_data, rec, unit)
 }

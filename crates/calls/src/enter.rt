@@ -4,9 +4,9 @@ use disk::record::Record;
 use inspect::look::Looked;
 use inspect::look::look_committed;
 use inspect::units::is_open;
-ghost use Rattle.lists.specs.Tables.{tablesIn};
+ghost use Rattle.lists.specs.promises.Tables.{tablesIn};
 ghost use Rattle.disk.specs.Disk.{disk};
-ghost use Rattle.calls.specs.Entering.{Enters};
+ghost use Rattle.calls.specs.promises.Entering.{Admits};
 
 // Stream s, or unit s, which 0 is not. If it is open the tables show the committed state. What they held does not matter.
 pub fn enter(
@@ -18,7 +18,7 @@ pub fn enter(
     s: usize,
     nodes: &mut [u8; 1280],
 ) -> Looked
-    ensures { λ r. ⌜ Enters stream (disk (now (card .entry)) (now (queue_data .entry)) (now (journal_data .entry)) rec) s r (tablesIn (now (nodes .exit))) ⌝ }
+    ensures { λ r. ⌜ Admits stream (disk (now (card .entry)) (now (queue_data .entry)) (now (journal_data .entry)) rec) s r (tablesIn (now (nodes .exit))) ⌝ }
 {
     match look_committed(card, queue_data, journal_data, rec, nodes) {
         Looked::Refused(x) => {

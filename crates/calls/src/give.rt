@@ -19,11 +19,11 @@ ghost use mathlib.Core.Bool.{true};
 ghost use mathlib.Core.List.{[]};
 ghost use Prim.Native.Nat.{_≤_, _<_};
 ghost use Rattle.lists.specs.Basic.{all, from};
-ghost use Rattle.lists.specs.Tables.{tablesIn, OfShown, IsList};
+ghost use Rattle.lists.specs.promises.Tables.{tablesIn, OfShown, IsList};
 ghost use Rattle.log.specs.Entry.{legal, raw, member};
 ghost use Rattle.disk.specs.Record.{unitAt, withLastBlock, withLastList};
-ghost use Rattle.inspect.specs.Clauses.{changeIn};
-ghost use Rattle.calls.specs.Giving.{Takes, heldBy, putEntry, Puts, putQuestions, rangedPutQuestions, Lays, Shown, PutsFree};
+ghost use Rattle.inspect.specs.promises.Clauses.{changeIn};
+ghost use Rattle.calls.specs.promises.Giving.{Takes, heldBy, putEntry, Gives, putQuestions, rangedPutQuestions, Lays, Shown, PutsFree};
 
 // Block b given last.
 fn gave_block(rec: Record, b: u8) -> Record
@@ -93,7 +93,7 @@ fn entry_of(b: u8, l: u8, p: u8) -> LogEntry
 // 11 and 13, and the put.
 fn put_block(rec: Record, s: usize, l: u8, p: u8, b: u8) -> NumberReplied
     requires { ⌜ (s ≤ 4) × (rec .head < 32) × (1 ≤ b) × (b ≤ 64) ⌝ }
-    ensures { λ r. ⌜ Puts [] s l p b rec (r .reply) (r .rec) ⌝ }
+    ensures { λ r. ⌜ Gives [] s l p b rec (r .reply) (r .rec) ⌝ }
 {
     let added = add(rec, s, entry_of(b, l, p));
     let answer = added.reply;
@@ -115,7 +115,7 @@ fn put_block(rec: Record, s: usize, l: u8, p: u8, b: u8) -> NumberReplied
 // 7, 9 and 10 of a block put on list l behind block p, first if p is 0; block b is 0 if none is free.
 fn put_on(nodes: &[u8; 1280], rec: Record, s: usize, l: u8, p: u8, b: u8) -> NumberReplied
     requires { ⌜ (s ≤ 4) × (rec .head < 32) × IsList l × (p ≤ 64) × (b ≤ 64) ⌝ }
-    ensures { λ r. ⌜ OfShown (tablesIn (now (nodes .entry))) (λ rs. Puts (putQuestions l p b rs) s l p b rec (r .reply) (r .rec)) ⌝ }
+    ensures { λ r. ⌜ OfShown (tablesIn (now (nodes .entry))) (λ rs. Gives (putQuestions l p b rs) s l p b rec (r .reply) (r .rec)) ⌝ }
 {
     if !is_taken(nodes, l) {
         let reply = NumberReply::Refused(Refusal::ListNotTaken);
@@ -135,7 +135,7 @@ fn put_on(nodes: &[u8; 1280], rec: Record, s: usize, l: u8, p: u8, b: u8) -> Num
 // 5 before them.
 fn put_ranged(nodes: &[u8; 1280], rec: Record, s: usize, l: usize, p: usize, b: u8) -> NumberReplied
     requires { ⌜ (s ≤ 4) × (rec .head < 32) × (b ≤ 64) ⌝ }
-    ensures { λ r. ⌜ OfShown (tablesIn (now (nodes .entry))) (λ rs. Puts (rangedPutQuestions l p b rs) s l p b rec (r .reply) (r .rec)) ⌝ }
+    ensures { λ r. ⌜ OfShown (tablesIn (now (nodes .entry))) (λ rs. Gives (rangedPutQuestions l p b rs) s l p b rec (r .reply) (r .rec)) ⌝ }
 {
     if !is_position(l, p) {
         let reply = NumberReply::Refused(Refusal::OutOfRange);

@@ -10,28 +10,27 @@ ghost use mathlib.Core.Path.{_≡_};
 ghost use mathlib.Core.List.{_++_};
 ghost use lib.ListN.{length, drop};
 ghost use Rattle.lists.specs.Lookup.{listNums};
-ghost use Rattle.lists.specs.Tables.{tablesIn, OfShown};
-ghost use Rattle.disk.specs.Disk.{disk};
+ghost use Rattle.lists.specs.promises.Tables.{tablesIn, OfShown};
 ghost use Rattle.disk.specs.Call as call;
 ghost use Rattle.disk.specs.Answers.{numberAnswer};
-ghost use Rattle.calls.specs.Performs.{Performs};
+ghost use Rattle.calls.specs.Performs.{ChangesNothing};
 
 const LISTS: usize = LogEntry::LISTS as usize;
 
-// The lists taken in view v go to dest, in the order of their taking; their number is returned.
+// The lists taken in a view go to dest, in the order of their taking; their number is returned.
 // Questions: 1 lengths, 3 record, 4 view, 5 destination.
 pub fn inventory(
     card: &[u8],
     queue_data: &[u8],
     journal_data: &[u8],
     rec: Record,
-    v: usize,
+    view: usize,
     dest: &mut [u8],
 ) -> NumberReply
-    ensures { λ r. ⌜ Performs (call.inView v (call.inventory (now (dest .entry)))) (disk (now (card .entry)) (now (queue_data .entry)) (now (journal_data .entry)) rec) (disk (now (card .entry)) (now (queue_data .entry)) (now (journal_data .entry)) rec) (numberAnswer r) (now (dest .exit)) ⌝ }
+    ensures { λ r. ⌜ ChangesNothing (call.inView view (call.inventory (now (dest .entry)))) (now (card .entry)) (now (queue_data .entry)) (now (journal_data .entry)) rec (numberAnswer r) (now (dest .exit)) ⌝ }
 {
     let mut nodes = [0u8; 1280];
-    match look_view(card, queue_data, journal_data, rec, v, &mut nodes) {
+    match look_view(card, queue_data, journal_data, rec, view, &mut nodes) {
         Looked::Refused(x) => {
             return NumberReply::Refused(x);
         }

@@ -9,42 +9,41 @@ use inspect::look::look_view;
 use lists::tables::block_after;
 use lists::tables::is_taken;
 ghost use mathlib.Core.List.{[]};
-ghost use Rattle.disk.specs.Disk.{disk};
 ghost use Rattle.disk.specs.Call.{blockAfter, inView};
 ghost use Rattle.disk.specs.Answers.{numberAnswer};
-ghost use Rattle.calls.specs.Performs.{Performs};
+ghost use Rattle.calls.specs.Performs.{ChangesNothing};
 
-// The block after p on list l in view v: 0 stands for the first, and is returned at the end.
+// The block after a predecessor on a list in a view: 0 stands for the first, and is returned at the end.
 // Questions: 1 lengths, 3 record, 4 view, 5 list and predecessor, 7 list taken, 9 predecessor on it.
 pub fn next(
     card: &[u8],
     queue_data: &[u8],
     journal_data: &[u8],
     rec: Record,
-    v: usize,
-    l: usize,
-    p: usize,
+    view: usize,
+    list: usize,
+    predecessor: usize,
 ) -> NumberReply
-    ensures { λ r. ⌜ Performs (inView v (blockAfter l p)) (disk (now (card .entry)) (now (queue_data .entry)) (now (journal_data .entry)) rec) (disk (now (card .entry)) (now (queue_data .entry)) (now (journal_data .entry)) rec) (numberAnswer r) [] ⌝ }
+    ensures { λ r. ⌜ ChangesNothing (inView view (blockAfter list predecessor)) (now (card .entry)) (now (queue_data .entry)) (now (journal_data .entry)) rec (numberAnswer r) [] ⌝ }
 {
     let mut nodes = [0u8; 1280];
-    match look_view(card, queue_data, journal_data, rec, v, &mut nodes) {
+    match look_view(card, queue_data, journal_data, rec, view, &mut nodes) {
         Looked::Refused(x) => {
             return NumberReply::Refused(x);
         }
         Looked::Seen => {}
     }
-    if !is_position(l, p) {
+    if !is_position(list, predecessor) {
         return NumberReply::Refused(Refusal::OutOfRange);
     }
-    let list = l as u8;
-    let predecessor = p as u8;
-    if !is_taken(&nodes, list) {
+    let l = list as u8;
+    let p = predecessor as u8;
+    if !is_taken(&nodes, l) {
         return NumberReply::Refused(Refusal::ListNotTaken);
     }
-    if !follows(&nodes, list, predecessor) {
+    if !follows(&nodes, l, p) {
         return NumberReply::Refused(Refusal::PredecessorElsewhere);
     }
-    let block = block_after(&nodes, list, predecessor) as usize;
+    let block = block_after(&nodes, l, p) as usize;
     NumberReply::Number(block)
 }

@@ -7,7 +7,7 @@ ghost use mathlib.Core.Bool.{_&&_, _||_};
 ghost use Prim.Native.Nat.{_≤_};
 ghost use lib.Dec.{leb, eqb};
 ghost use Rattle.lists.specs.State.{onList};
-ghost use Rattle.lists.specs.Tables.{tablesIn, OfShown, IsList};
+ghost use Rattle.lists.specs.promises.Tables.{tablesIn, OfShown, IsList};
 ghost use Rattle.log.specs.Entry.{isBlock, isList};
 
 const BLOCKS: usize = LogEntry::BLOCKS as usize;

@@ -10,10 +10,9 @@ use lists::tables::location_of;
 use log::content::copy_content;
 use log::layout::SLOT;
 use log::legal::both;
-ghost use Rattle.disk.specs.Disk.{disk};
 ghost use Rattle.disk.specs.Call.{readBlock, inView};
 ghost use Rattle.disk.specs.Answers.{replyAnswer};
-ghost use Rattle.calls.specs.Performs.{Performs};
+ghost use Rattle.calls.specs.Performs.{ChangesNothing};
 
 // Block b of view v goes to dest.
 // Questions: 1 lengths, 3 record, 4 view, 5 block and destination, 8 on a list.
@@ -22,27 +21,27 @@ pub fn read(
     queue_data: &[u8],
     journal_data: &[u8],
     rec: Record,
-    v: usize,
-    b: usize,
+    view: usize,
+    block: usize,
     dest: &mut [u8],
 ) -> Reply
-    ensures { λ r. ⌜ Performs (inView v (readBlock b (now (dest .entry)))) (disk (now (card .entry)) (now (queue_data .entry)) (now (journal_data .entry)) rec) (disk (now (card .entry)) (now (queue_data .entry)) (now (journal_data .entry)) rec) (replyAnswer r) (now (dest .exit)) ⌝ }
+    ensures { λ r. ⌜ ChangesNothing (inView view (readBlock block (now (dest .entry)))) (now (card .entry)) (now (queue_data .entry)) (now (journal_data .entry)) rec (replyAnswer r) (now (dest .exit)) ⌝ }
 {
     let mut nodes = [0u8; 1280];
-    match look_view(card, queue_data, journal_data, rec, v, &mut nodes) {
+    match look_view(card, queue_data, journal_data, rec, view, &mut nodes) {
         Looked::Refused(x) => {
             return Reply::Refused(x);
         }
         Looked::Seen => {}
     }
-    if !both(is_block(b), dest.len() == SLOT) {
+    if !both(is_block(block), dest.len() == SLOT) {
         return Reply::Refused(Refusal::OutOfRange);
     }
-    let block = b as u8;
-    if !is_placed(&nodes, block) {
+    let b = block as u8;
+    if !is_placed(&nodes, b) {
         return Reply::Refused(Refusal::BlockNotPlaced);
     }
-    let location = location_of(&nodes, block);
+    let location = location_of(&nodes, b);
     copy_content(card, queue_data, journal_data, location, dest);
     Reply::Accepted
 }

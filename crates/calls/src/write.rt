@@ -20,14 +20,14 @@ ghost use Prim.Native.Nat.{_≤_, _<_};
 ghost use lib.Dec.{eqb};
 ghost use lib.ListN.{length};
 ghost use Rattle.lists.specs.State.{placed};
-ghost use Rattle.lists.specs.Tables.{tablesIn, OfShown};
+ghost use Rattle.lists.specs.promises.Tables.{tablesIn, OfShown};
 ghost use Rattle.log.specs.declared.entry.LogEntry.the-variants as E;
 ghost use Rattle.log.specs.Card.{slotBytes};
 ghost use Rattle.log.specs.Entry.{isBlock};
 ghost use Rattle.disk.specs.Disk.{disk};
 ghost use Rattle.disk.specs.Call.{writeBlock, onStream};
 ghost use Rattle.disk.specs.Answers.{replyAnswer};
-ghost use Rattle.calls.specs.Adds.{AddsAfter, Copies, Fits};
+ghost use Rattle.calls.specs.promises.Adds.{AddsAfter, Copies, HasPlace};
 ghost use Rattle.calls.specs.Performs.{Performs};
 
 // The content goes to the place of the entry that the stream takes next.
@@ -38,7 +38,7 @@ fn copy_content(
     s: usize,
     content: &[u8],
 )
-    requires { ⌜ (length (now queue_data) ≡ 8192) × (length (now journal_data) ≡ 15360) × (length (now content) ≡ 256) × Fits s rec ⌝ }
+    requires { ⌜ (length (now queue_data) ≡ 8192) × (length (now journal_data) ≡ 15360) × (length (now content) ≡ 256) × HasPlace s rec ⌝ }
     ensures { λ r. ⌜ Copies s rec (now (content .entry)) (now (queue_data .entry)) (now (journal_data .entry)) (now (queue_data .exit)) (now (journal_data .exit)) ⌝ }
 {
     if s == 0 {
@@ -74,24 +74,24 @@ pub fn write(
     queue_data: &mut [u8],
     journal_data: &mut [u8],
     rec: Record,
-    s: usize,
-    b: usize,
+    stream: usize,
+    block: usize,
     content: &[u8],
 ) -> Replied
-    ensures { λ r. ⌜ Performs (onStream s (writeBlock b (now (content .entry)))) (disk (now (card .entry)) (now (queue_data .entry)) (now (journal_data .entry)) rec) (disk (now (card .entry)) (now (queue_data .exit)) (now (journal_data .exit)) (r .rec)) (replyAnswer (r .reply)) [] ⌝ }
+    ensures { λ r. ⌜ Performs (onStream stream (writeBlock block (now (content .entry)))) (disk (now (card .entry)) (now (queue_data .entry)) (now (journal_data .entry)) rec) (disk (now (card .entry)) (now (queue_data .exit)) (now (journal_data .exit)) (r .rec)) (replyAnswer (r .reply)) [] ⌝ }
 {
     let mut nodes = [0u8; 1280];
-    match look_stream(card, queue_data, journal_data, rec, s, &mut nodes) {
+    match look_stream(card, queue_data, journal_data, rec, stream, &mut nodes) {
         Looked::Refused(x) => {
             let reply = Reply::Refused(x);
             return Replied { rec, reply };
         }
         Looked::Seen => {}
     }
-    let written = write_placed(rec, &nodes, s, b, content.len());
+    let written = write_placed(rec, &nodes, stream, block, content.len());
     let reply = written.reply;
     match reply {
-        Reply::Accepted => copy_content(queue_data, journal_data, rec, s, content),
+        Reply::Accepted => copy_content(queue_data, journal_data, rec, stream, content),
         Reply::Refused(_) => {}
     }
     written

@@ -9,7 +9,7 @@ use Rattle.script.specs.declared.command.Command.the-variants as C
 use Rattle.commands.specs.Shell.{Shell}
 use Rattle.commands.specs.Called.{callOf, called, performed, leftBy, saidBy}
 use Rattle.commands.specs.Ran.{ran}
-use Rattle.commands.specs.Tags.{stores, changes, looks, cards, lends, prints, others, Beyond}
+use Rattle.commands.specs.promises.Tags.{stores, changes, looks, cards, lends, prints, others, Beyond}
 
 -- a command of the shell's own is no call
 pub no-call : (line : List ℕ) (c : Command) → Beyond stores c → Beyond changes c → Beyond looks c → callOf line c ≡ none

@@ -27,7 +27,7 @@ ghost use Rattle.script.specs.Arguments.{textOf};
 ghost use Rattle.script.specs.Lines.{answerLine, numberedLine, mountLine, flushLine};
 ghost use Rattle.text.specs.Written.{Puts};
 ghost use Rattle.commands.specs.Called.{callOf, dataLent, Calls};
-ghost use Rattle.commands.specs.Tags.{stores, Beyond};
+ghost use Rattle.commands.specs.promises.Tags.{stores, Beyond};
 
 // The record that a call leaves, and the position behind its line.
 pub struct Called {

@@ -18,7 +18,7 @@ ghost use Rattle.disk.specs.Call as call;
 ghost use Rattle.disk.specs.Answers.{replyAnswer, numberAnswer};
 ghost use Rattle.calls.specs.Performs.{Performs};
 ghost use Rattle.commands.specs.Called.{callOf, bytesLent, Calls};
-ghost use Rattle.commands.specs.Tags.{stores, changes, Beyond};
+ghost use Rattle.commands.specs.promises.Tags.{stores, changes, Beyond};
 
 // The most bytes that are lent as a destination.
 const PART: usize = 300;

@@ -32,7 +32,7 @@ ghost use Rattle.commands.specs.Called.{callOf, performed};
 ghost use Rattle.commands.specs.Cut.{cutBetween};
 ghost use Rattle.commands.specs.Shown.{shown};
 ghost use Rattle.commands.specs.Ran.{ok, inserted, poked, longestCard, ran, Fits, Runs};
-ghost use Rattle.commands.specs.Tags.{cards, lends, Beyond};
+ghost use Rattle.commands.specs.promises.Tags.{cards, lends, Beyond};
 
 pub fn run(
     line: &[u8],

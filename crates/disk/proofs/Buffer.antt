@@ -8,10 +8,9 @@ use native.Mathlib.Omega.{arith}
 use native.Mathlib.Decide.{decLt}
 use lib.ListN.{length, drop, take, getD, length-append, length-drop, List·getD-append}
 use lib.Seq.{getD-take, getD-drop, getD-append-add, length-take-le}
-use Rattle.log.specs.Card.{Content, slot}
+use Rattle.log.specs.Card.{Content, slot, splice}
 use Rattle.log.proofs.Segment.{Sized}
 use Rattle.log.proofs.Slot.{Stands, same-getD, length-slot, getD-slot, slot-stands}
-use Rattle.log.specs.Location.{splice}
 use Rattle.disk.specs.Perform.{spliceSome}
 
 -- Bytes put into a buffer.

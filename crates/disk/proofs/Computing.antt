@@ -5,9 +5,8 @@ use Rattle.lists.specs.Change.{mapChange, carriedBy}
 use Rattle.lists.specs.State.{taken, placed, onList, applies, changed, apply, applyAll, overlay}
 use Rattle.log.specs.Entry.{mapEntry, carried, changeBytes, encode, raw, entryLength, legalChange, hasMember, legal, changeOf, checked, entryOf, decode, asChange, asEntry, logChange}
 use Rattle.log.specs.Reader.{lastOf, read, replay}
-use Rattle.log.specs.Card.{zeros, slot, cardSlot, cardLength, count, segmentEntries, usedBy, isNext, entryAt, itemsOf, segmentItems, afterEmpty, items, walk, walkCard, mounted}
+use Rattle.log.specs.Card.{zeros, slot, cardSlot, cardLength, count, segmentEntries, usedBy, isNext, entryAt, itemsOf, segmentItems, afterEmpty, items, walk, walkCard, mounted, splice}
 use Rattle.log.specs.Store.{doStores, standing, formatStores, opened, after, afterAll, fits, home, behind, behindAll, tail, storesFrom, dataOf, entryStores, headAt}
-use Rattle.log.specs.Location.{splice}
 use Rattle.log.specs.Flush.{storeNext, nextStore, flushFrom}
 use Rattle.disk.specs.Record.{freshUnit, freshRecord, shaped, released}
 use Rattle.disk.specs.Disk.{queuedAt, queued, unitOf, journalAt, journalOf, readerOf, committedReader, stateOf, persistent, committed, view}

@@ -11,9 +11,8 @@ use Rattle.lists.specs.State.{State}
 use Rattle.lists.specs.Lookup.{contentOf, nextAfter, listNums}
 use Rattle.log.specs.declared.entry.LogEntry.the-variants.{Commit}
 use Rattle.log.specs.Entry.{Entry, plain, member, commit, carried, hasMember, logChange}
-use Rattle.log.specs.Card.{Content, zeros, slotBytes, segmentsIn, Outcome, sound, fault, mounted}
+use Rattle.log.specs.Card.{Content, zeros, slotBytes, segmentsIn, Outcome, sound, fault, mounted, splice}
 use Rattle.log.specs.Store.{doStores, formatStores, tail}
-use Rattle.log.specs.Location.{splice}
 use Rattle.log.specs.Flush.{Flow, Flushed, Ending, drained, full, spent, flushFrom}
 use Rattle.disk.specs.declared.record.Queued.{Queued}
 use Rattle.disk.specs.declared.record.Record.{Record}

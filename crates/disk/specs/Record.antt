@@ -37,20 +37,14 @@ noUnit = record { opened = false; len = 0; journal = [] }
 unfoldable pub freshUnit : Unit
 freshUnit = record { opened = false; len = 0; journal = replicate journalPlaces noJournaled }
 
+-- a record by its parts: queue, head, length, stores done, units, holders, block and list given last, conflicts
+abbrev recordOf : List Queued → ℕ → ℕ → ℕ → List Unit → List ℕ → ℕ → ℕ → ℕ → Record
+recordOf q h n k us hs b l c =
+    record { queue = q; head = h; len = n; done = k; units = us; holder = hs; «last_block» = b; «last_list» = l; conflicts = c }
+
 unfoldable pub freshRecord : Record
 unfolding freshUnit
-freshRecord =
-    record {
-      queue = replicate queuePlaces noQueued;
-      head = 0;
-      len = 0;
-      done = 0;
-      units = replicate unitCount freshUnit;
-      holder = replicate 64 0;
-      «last_block» = 64;
-      «last_list» = 16;
-      conflicts = 0;
-    }
+freshRecord = recordOf (replicate queuePlaces noQueued) 0 0 0 (replicate unitCount freshUnit) (replicate 64 0) 64 16 0
 
 -- the place of the queue's entry k: "32 places used in a ring"
 abbrev pub ringPlace : Record → ℕ → ℕ
@@ -72,88 +66,22 @@ shaped r =
 
 -- the record with another part
 abbrev pub withQueue : Record → List Queued → ℕ → Record
-withQueue r q n =
-    record {
-      queue = q;
-      head = r .head;
-      len = n;
-      done = r .done;
-      units = r .units;
-      holder = r .holder;
-      «last_block» = r .«last_block»;
-      «last_list» = r .«last_list»;
-      conflicts = r .conflicts;
-    }
+withQueue r q n = recordOf q (r .head) n (r .done) (r .units) (r .holder) (r .«last_block») (r .«last_list») (r .conflicts)
 
 abbrev pub withFlow : Record → ℕ → ℕ → ℕ → Record
-withFlow r h n k =
-    record {
-      queue = r .queue;
-      head = h;
-      len = n;
-      done = k;
-      units = r .units;
-      holder = r .holder;
-      «last_block» = r .«last_block»;
-      «last_list» = r .«last_list»;
-      conflicts = r .conflicts;
-    }
+withFlow r h n k = recordOf (r .queue) h n k (r .units) (r .holder) (r .«last_block») (r .«last_list») (r .conflicts)
 
 abbrev pub withUnits : Record → List Unit → List ℕ → Record
-withUnits r us hs =
-    record {
-      queue = r .queue;
-      head = r .head;
-      len = r .len;
-      done = r .done;
-      units = us;
-      holder = hs;
-      «last_block» = r .«last_block»;
-      «last_list» = r .«last_list»;
-      conflicts = r .conflicts;
-    }
+withUnits r us hs = recordOf (r .queue) (r .head) (r .len) (r .done) us hs (r .«last_block») (r .«last_list») (r .conflicts)
 
 abbrev pub withLastBlock : Record → ℕ → Record
-withLastBlock r b =
-    record {
-      queue = r .queue;
-      head = r .head;
-      len = r .len;
-      done = r .done;
-      units = r .units;
-      holder = r .holder;
-      «last_block» = b;
-      «last_list» = r .«last_list»;
-      conflicts = r .conflicts;
-    }
+withLastBlock r b = recordOf (r .queue) (r .head) (r .len) (r .done) (r .units) (r .holder) b (r .«last_list») (r .conflicts)
 
 abbrev pub withLastList : Record → ℕ → Record
-withLastList r l =
-    record {
-      queue = r .queue;
-      head = r .head;
-      len = r .len;
-      done = r .done;
-      units = r .units;
-      holder = r .holder;
-      «last_block» = r .«last_block»;
-      «last_list» = l;
-      conflicts = r .conflicts;
-    }
+withLastList r l = recordOf (r .queue) (r .head) (r .len) (r .done) (r .units) (r .holder) (r .«last_block») l (r .conflicts)
 
 abbrev pub withConflicts : Record → ℕ → Record
-withConflicts r n =
-    record {
-      queue = r .queue;
-      head = r .head;
-      len = r .len;
-      done = r .done;
-      units = r .units;
-      holder = r .holder;
-      «last_block» = r .«last_block»;
-      «last_list» = r .«last_list»;
-      conflicts = n;
-    }
+withConflicts r n = recordOf (r .queue) (r .head) (r .len) (r .done) (r .units) (r .holder) (r .«last_block») (r .«last_list») n
 
 -- a unit with its journal emptied; the elements stay as they are
 abbrev pub emptied : Bool → Unit → Unit

@@ -11,7 +11,7 @@ use crate::transfer::Read;
 use crate::transfer::read_whole;
 use text::line::part;
 ghost use lib.ListN.{length};
-ghost use Rattle.files.specs.Within.{Within};
+ghost use Rattle.files.specs.Within.{InBuffer};
 
 // A file, nothing yet, or what is neither, which was told.
 pub enum Found {
@@ -71,7 +71,7 @@ pub fn open_folder(target: &[u8]) -> i32 {
 
 // The file's bytes, none where there is no file yet.
 pub fn load(who: &[u8], target: &[u8], found: Found, buffer: &mut [u8]) -> Read
-    ensures { λ r. ⌜ Within r (length (now (buffer .entry))) ⌝ }
+    ensures { λ r. ⌜ InBuffer r (length (now (buffer .entry))) ⌝ }
 {
     let Found::File(_) = found else {
         return Read::Bytes(0);

@@ -12,15 +12,15 @@ use Rattle.lists.proofs.Naturality.{mapOption, placed-map}
 use Rattle.log.specs.Entry.{member, raw, legal, mapEntry, isBlock, isList}
 use Rattle.log.specs.Reader.{Reader, replay}
 use Rattle.log.specs.Card.{Content, slot, sound, fault, mounted, cardLength, walkCard}
-use Rattle.log.specs.Location.{blank, cardLocation}
+use Rattle.log.specs.promises.Location.{blank, cardLocation}
 use Rattle.log.proofs.Naturality.{mapReader, raw-map}
 use Rattle.disk.specs.declared.record.Record.{Record}
 use Rattle.disk.specs.Record.{shaped, unitAt, unitCount}
 use Rattle.disk.specs.Disk.{Disk, disk, unitOf, queuedAt, queued, journalPlace, journalAt, journalOf, readerOf, committedReader, stateOf, committed}
 use Rattle.disk.specs.Sound.{isOpenUnit, putBy, journalSound, unitSound, holderSound, headStanding, recordSound}
-use Rattle.inspect.specs.Located.{contents, queueHere}
-use Rattle.inspect.specs.Clauses.{numbersRight, changeRight, changeIn, unitRight, unitsRight, openUnit, holderRight, holdersRight, lawful, rowsOf, settled}
-use Rattle.inspect.specs.Inspect.{behindLog}
+use Rattle.inspect.specs.promises.Located.{contents, queueHere}
+use Rattle.inspect.specs.promises.Clauses.{numbersRight, changeRight, changeIn, unitRight, unitsRight, openUnit, holderRight, holdersRight, lawful, rowsOf, settledRight}
+use Rattle.inspect.specs.promises.Inspect.{behindLog}
 use Rattle.inspect.proofs.Judging.{and-no}
 use Rattle.inspect.proofs.Locating.{queue-here, committed-here, some-map}
 
@@ -133,6 +133,6 @@ module _ (d : Disk) where
     unfolding queued queuedAt
     queued-is = refl
 
-    pub settled-is : behindLog d ≡ settled (d .card) (d .queueData) (d .rec) x
-    unfolding settled behindLog each
+    pub settled-is : behindLog d ≡ settledRight (d .card) (d .queueData) (d .rec) x
+    unfolding settledRight behindLog each
     settled-is = rw (lawful-is, some-is, holders-is, queued-is)

@@ -9,7 +9,7 @@ use Rattle.log.specs.Entry.{Entry}
 use Rattle.log.specs.Reader.{Reader}
 use Rattle.log.specs.Card.{Content, cardLength, segmentsIn, sound, mounted}
 use Rattle.log.specs.Store.{opened, afterAll, tail}
-use Rattle.log.specs.Within.{Within}
+use Rattle.log.specs.promises.Within.{Within}
 use Rattle.log.proofs.CardLength.{card-size}
 use Rattle.log.proofs.Segment.{Holds, Carries}
 use Rattle.log.proofs.Places.{used, used-le, after-slots, after-bytes}

@@ -7,15 +7,15 @@ use Prim.Native.Nat.{ℕ, _≤_, _<_}
 use lib.Dec.{eqb}
 use lib.ListN.{length}
 use Rattle.lists.specs.State.{mapState}
-use Rattle.lists.specs.Tables.{Tables}
+use Rattle.lists.specs.promises.Tables.{Tables}
 use Rattle.lists.proofs.Basic.{and-true, each-at, leb-true, ltb-true, eqb-true, some-of}
 use Rattle.lists.proofs.Naturality.{mapOption}
 use Rattle.log.specs.Reader.{Reader, replay}
 use Rattle.log.specs.Card.{Content, cardLength, segmentsIn, Outcome, sound, fault, walkCard}
-use Rattle.log.specs.Location.{blank, cardLocation}
-use Rattle.log.specs.Within.{Within}
-use Rattle.log.specs.Feed.{Lent}
-use Rattle.log.specs.Walk.{Sounds}
+use Rattle.log.specs.promises.Location.{blank, cardLocation}
+use Rattle.log.specs.promises.Within.{Within}
+use Rattle.log.specs.promises.Feed.{Memory}
+use Rattle.log.specs.promises.Walk.{Sounds}
 use Rattle.log.specs.declared.place.Place.{Place}
 use Rattle.log.proofs.Naturality.{mapReader}
 use Rattle.log.proofs.Locations.{sound-at, fault-at}
@@ -23,9 +23,9 @@ use Rattle.disk.specs.declared.record.Record.{Record}
 use Rattle.disk.specs.Record.{shaped}
 use Rattle.disk.specs.Disk.{Disk, disk, readerOf, stateOf, persistent, committed, view}
 use Rattle.disk.specs.Sound.{lengthsRight, recordSound}
-use Rattle.inspect.specs.Located.{contents, queueHere}
-use Rattle.inspect.specs.Clauses.{numbersRight, unitsRight, settled, Settled, Settles}
-use Rattle.inspect.specs.Inspect.{behindLog, ExaminesLog, Examines}
+use Rattle.inspect.specs.promises.Located.{contents, queueHere}
+use Rattle.inspect.specs.promises.Clauses.{numbersRight, unitsRight, settledRight, Settled, Settles}
+use Rattle.inspect.specs.promises.Inspect.{behindLog, ExaminesLog, Examines}
 use Rattle.inspect.specs.declared.examine.Examined.{Examined}
 use Rattle.inspect.specs.declared.examine.Examined.the-variants.{WrongLength, Unsound, Sound}
 use Rattle.inspect.proofs.Behind.{tail-within}
@@ -44,7 +44,7 @@ unfolding numbersRight
 numbers-asked r h = (leb-true (r .len) 32 (each-at _ h 0), ltb-true (r .head) 32 (each-at _ h 1))
 
 -- the place behind a log that was walked
-pub place-asked : (c : List ℕ) (p : Place) (n : ℕ) (m : Lent) → cardLength c ≡ true → Sounds c p n m → Within p × (p .segment < segmentsIn c)
+pub place-asked : (c : List ℕ) (p : Place) (n : ℕ) (m : Memory) → cardLength c ≡ true → Sounds c p n m → Within p × (p .segment < segmentsIn c)
 place-asked c p n m l s = rw (s .place) (tail-within c _ l (sound-at c [] [] (s .reader) l (s .walked)))
 
 -- The questions in turn.
@@ -73,7 +73,7 @@ module _ (c q j : List ℕ) (r : Record) (l : cardLength c ≡ true) where
   pub faulty : (v g i : ℕ) (t : Tables) → walkCard cardLocation blank c ≡ fault g i → ExaminesLog v (disk c q j r) Unsound t
   faulty v g i t w = fault-behind (disk c q j r) g i (fault-at c g i l w)
 
-  module _ (p : Place) (n : ℕ) (m : Lent) (s : Sounds c p n m) where
+  module _ (p : Place) (n : ℕ) (m : Memory) (s : Sounds c p n m) where
     answered : (b : Bool) → Settled c q m n r b → behindLog (disk c q j r) ≡ b
     answered b k = settled-is (disk c q j r) (s .reader) l (s .walked) ∙ sym (k (s .reader) (s .kept))
 
@@ -94,9 +94,9 @@ module _ (c q j : List ℕ) (r : Record) (l : cardLength c ≡ true) where
 
     -- or they show the state behind the queue
     pub settled-queue : (b : Bool) (t : Tables) → Settles c q m n r b t → b ≡ true → ExaminesLog 0 (disk c q j r) (Sound p) t
-    unfolding settled view committed stateOf
+    unfolding settledRight view committed stateOf
     settled-queue b t k z =
-        let a : settled c q r (s .reader) ≡ true = sym (k .answer (s .reader) (s .kept)) ∙ z in
+        let a : settledRight c q r (s .reader) ≡ true = sym (k .answer (s .reader) (s .kept)) ∙ z in
         let (y, e) = some-of (replay blank (s .reader) (queueHere r)) (each-at _ a 1) in
         record {
           sound = answered b (k .answer) ∙ z;

@@ -21,7 +21,7 @@ use Rattle.disk.specs.declared.record.Unit.{Unit}
 use Rattle.disk.specs.declared.record.Record.{Record}
 use Rattle.disk.specs.Record.{unitAt, holderOf, unitCount}
 use Rattle.disk.specs.Sound.{putBy}
-use Rattle.inspect.specs.Clauses.{numbersRight, changeRight, changeIn, unitRight, unitsRight, openUnit, holderRight, holdersRight}
+use Rattle.inspect.specs.promises.Clauses.{numbersRight, changeRight, changeIn, unitRight, unitsRight, openUnit, holderRight, holdersRight}
 
 pub and-yes : (b : Bool) → b && true ≡ b
 and-yes true = refl

@@ -12,17 +12,17 @@ use Rattle.lists.specs.Basic.{isSome, from}
 use Rattle.lists.specs.Change.{mapChange}
 use Rattle.lists.specs.State.{Row, State, taken, placed, onList, applyAll, overlay, mapRow, mapState}
 use Rattle.lists.specs.Lookup.{contentOf, nextAfter, listNums, takenAfter}
-use Rattle.lists.specs.Tables.{Tables, IsBlock, IsList, OfShown}
+use Rattle.lists.specs.promises.Tables.{Tables, IsBlock, IsList, OfShown}
 use Rattle.lists.proofs.Naturality.{mapOption, taken-map, placed-map, onList-map, change-comp, applyAll-map, overlay-map, nextAfter-map, listNums-map, contentOf-map}
 use Rattle.log.specs.Entry.{mapEntry, asEntry, asChange}
 use Rattle.log.specs.Reader.{Reader, replay}
 use Rattle.log.specs.Card.{Content, zeros, sound, cardLength, walkCard}
-use Rattle.log.specs.Location.{blank, cardLocation, queueLocation, journalLocation, contentAt}
+use Rattle.log.specs.promises.Location.{blank, cardLocation, queueLocation, journalLocation, contentAt}
 use Rattle.log.proofs.Naturality.{mapReader, entry-comp, replay-map}
 use Rattle.log.proofs.Locations.{content-queue, content-journal, sound-at}
 use Rattle.disk.specs.Record.{noQueued, noJournaled, ringPlace}
 use Rattle.disk.specs.Disk.{Disk, queuedAt, queued, unitOf, journalPlace, journalAt, journalOf, readerOf, committedReader}
-use Rattle.inspect.specs.Located.{contents, Located, queuedHere, queueHere, changeHere, journalHere}
+use Rattle.inspect.specs.promises.Located.{contents, Located, queuedHere, queueHere, changeHere, journalHere}
 
 map-from : {A B : Type 0} (f : A → B) (g : ℕ → A) (h : ℕ → B) (k n : ℕ) → ((i : ℕ) → f (g i) ≡ h i) → map f (from g k n) ≡ from h k n
 unfolding from

@@ -6,10 +6,10 @@ use Prim.Native.Nat.{ℕ, _≤_}
 use lib.Dec.{eqb, leb}
 use Rattle.lists.specs.Basic.{all, from}
 use Rattle.lists.specs.State.{overlay}
-use Rattle.lists.specs.Tables.{Tables}
+use Rattle.lists.specs.promises.Tables.{Tables}
 use Rattle.lists.proofs.Basic.{and-true, eqb-false, leb-true, all-from, from-all}
 use Rattle.log.specs.Entry.{member, mapEntry, raw, legal}
-use Rattle.log.specs.Location.{blank}
+use Rattle.log.specs.promises.Location.{blank}
 use Rattle.log.specs.declared.place.Place.{Place}
 use Rattle.log.proofs.Naturality.{raw-map}
 use Rattle.disk.specs.declared.record.Record.{Record}
@@ -21,9 +21,9 @@ use Rattle.disk.specs.Sound.{lengthsRight, recordSound, isOpenUnit, journalSoun
 use Rattle.disk.specs.Questions.{streamOpen, viewOpen, ask, firstNo}
 use Rattle.disk.specs.Answers.{number}
 use Rattle.disk.proofs.Clauses.{right}
-use Rattle.inspect.specs.Located.{Located, journalHere}
-use Rattle.inspect.specs.Clauses.{openUnit, changeIn, Overlays}
-use Rattle.inspect.specs.Inspect.{Accepted, openAs, Sees, Looks}
+use Rattle.inspect.specs.promises.Located.{Located, journalHere}
+use Rattle.inspect.specs.promises.Clauses.{openUnit, changeIn, Overlays}
+use Rattle.inspect.specs.promises.Inspect.{Accepted, openAs, Sees, Looks}
 use Rattle.inspect.specs.declared.look.Looked.the-variants.{Refused}
 use Rattle.inspect.proofs.Locating.{overlay-here}
 

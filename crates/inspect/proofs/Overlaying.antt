@@ -11,19 +11,19 @@ use lib.ListN.{getD}
 use Rattle.lists.specs.Basic.{isSome, orElse, bind, all, from}
 use Rattle.lists.specs.Change.{Change, mapChange}
 use Rattle.lists.specs.State.{State, apply, applyAll, overlay}
-use Rattle.lists.specs.Tables.{Tables, Shows, Ranged, Represents, Did, DidSome, ofKind}
+use Rattle.lists.specs.promises.Tables.{Tables, Shows, Ranged, Represents, Did, DidSome, ofKind}
 use Rattle.lists.proofs.Basic.{and-true, leb-true, from-step, from-none, all-from}
 use Rattle.lists.proofs.Represents.{did-apply, did-overlay}
 use Rattle.log.specs.Entry.{member, mapEntry, raw, legal, legalChange, hasMember, isBlock, isList, asChange}
 use Rattle.log.specs.declared.entry.LogEntry.{LogEntry}
 use Rattle.log.specs.declared.entry.LogEntry.the-variants.{Take, PutFirst, PutAfter, Write, DeleteBlock, DeleteList, Commit}
 use Rattle.log.proofs.Feeding.{fieldsChange}
-use Rattle.log.specs.Location.{blank, journalLocation}
+use Rattle.log.specs.promises.Location.{blank, journalLocation}
 use Rattle.disk.specs.declared.record.Unit.{Unit}
 use Rattle.disk.specs.Record.{noJournaled}
 use Rattle.disk.specs.Disk.{journalPlace}
-use Rattle.inspect.specs.Located.{changeHere, journalHere}
-use Rattle.inspect.specs.Clauses.{Overlays, changeIn}
+use Rattle.inspect.specs.promises.Located.{changeHere, journalHere}
+use Rattle.inspect.specs.promises.Clauses.{Overlays, changeIn}
 
 block-range : (b : ℕ) → isBlock b ≡ true → (1 ≤ b) × (b ≤ 64)
 block-range b h = let (p, q) = and-true _ _ h in (leb-true 1 b p, leb-true b 64 q)

@@ -10,23 +10,23 @@ use Rattle.lists.specs.Basic.{isSome, all, from}
 use Rattle.lists.proofs.Basic.{from-step, from-none}
 use Rattle.log.specs.Entry.{Entry, mapEntry, raw, legal, asEntry}
 use Rattle.log.specs.Reader.{Reader, read, replay}
-use Rattle.log.specs.Location.{blank, queueLocation}
-use Rattle.log.specs.Feed.{Lent, Kept}
+use Rattle.log.specs.promises.Location.{blank, queueLocation}
+use Rattle.log.specs.promises.Feed.{Memory, Keeps}
 use Rattle.log.proofs.Naturality.{raw-map}
 use Rattle.disk.specs.declared.record.Record.{Record}
 use Rattle.disk.specs.declared.record.Queued.{Queued}
 use Rattle.disk.specs.Record.{noQueued, ringPlace}
-use Rattle.inspect.specs.Located.{queuedHere, queueHere}
-use Rattle.inspect.specs.Clauses.{lawful, ReplayTo}
+use Rattle.inspect.specs.promises.Located.{queuedHere, queueHere}
+use Rattle.inspect.specs.promises.Clauses.{lawful, ReplayTo}
 
 -- the entries from k on
 abbrev pub leftOf : Record → ℕ → List (Entry ℕ)
 leftOf r k = from (queuedHere r) k (r .len - k)
 
 -- k entries of the queue fed to reader x: the tables keep a reader whose run has n members
-pub record FedUpTo (r : Record) (x : Reader ℕ) (k n : ℕ) (m : Lent) : Type 0 where
+pub record FedUpTo (r : Record) (x : Reader ℕ) (k n : ℕ) (m : Memory) : Type 0 where
   pub reader : Reader ℕ
-  pub kept : Kept m n reader
+  pub kept : Keeps m n reader
   pub replays : replay blank x (queueHere r) ≡ replay blank reader (leftOf r k)
   pub laws : lawful (queueHere r) ≡ lawful (leftOf r k)
 
@@ -37,11 +37,11 @@ queuedIn r k = getD (r .queue) (ringPlace r k) noQueued
 abbrev pub fedAt : Record → ℕ → Entry ℕ
 fedAt r k = mapEntry (λ s. queueLocation (ringPlace r k)) (asEntry (queuedIn r k .member) (queuedIn r k .entry))
 
-pub fed-none : (r : Record) (x : Reader ℕ) (n : ℕ) (m : Lent) → Kept m n x → FedUpTo r x 0 n m
+pub fed-none : (r : Record) (x : Reader ℕ) (n : ℕ) (m : Memory) → Keeps m n x → FedUpTo r x 0 n m
 unfolding queueHere
 fed-none r x n m h = let e : r .len - 0 ≡ r .len = omega arith in record { reader = x; kept = h; replays = rw e; laws = rw e }
 
-module _ (r : Record) (x : Reader ℕ) (k n : ℕ) (m : Lent) (fed : FedUpTo r x k n m) where
+module _ (r : Record) (x : Reader ℕ) (k n : ℕ) (m : Memory) (fed : FedUpTo r x k n m) where
   abbrev lawAt : Bool
   lawAt = legal (raw 0 (asEntry (queuedIn r k .member) (queuedIn r k .entry)))
 
@@ -70,7 +70,7 @@ module _ (r : Record) (x : Reader ℕ) (k n : ℕ) (m : Lent) (fed : FedUpTo r x
       go true = refl
       go false = refl
 
-  pub fed-more : k < r .len → lawAt ≡ true → (n′ : ℕ) (m′ : Lent) (y : Reader ℕ) → read blank (fed .reader) (fedAt r k) ≡ some y → Kept m′ n′ y → FedUpTo r x (k + 1) n′ m′
+  pub fed-more : k < r .len → lawAt ≡ true → (n′ : ℕ) (m′ : Memory) (y : Reader ℕ) → read blank (fed .reader) (fedAt r k) ≡ some y → Keeps m′ n′ y → FedUpTo r x (k + 1) n′ m′
   fed-more l h n′ m′ y e q = record {
     reader = y;
     kept = q;

@@ -5,15 +5,15 @@ use mathlib.Core.Option.{some, Option·some-injective}
 use mathlib.Core.List.{List, []}
 use Prim.Native.Nat.{ℕ}
 use Rattle.lists.specs.Basic.{isSome, each}
-use Rattle.lists.specs.Tables.{Tables, OfShown}
+use Rattle.lists.specs.promises.Tables.{Tables, OfShown}
 use Rattle.log.specs.Reader.{Reader, replay}
-use Rattle.log.specs.Location.{blank}
-use Rattle.log.specs.Feed.{Lent, Kept}
+use Rattle.log.specs.promises.Location.{blank}
+use Rattle.log.specs.promises.Feed.{Memory, Keeps}
 use Rattle.disk.specs.declared.record.Record.{Record}
 use Rattle.disk.specs.Disk.{disk, queued}
 use Rattle.disk.specs.Sound.{headStanding}
-use Rattle.inspect.specs.Located.{queueHere}
-use Rattle.inspect.specs.Clauses.{holdersRight, lawful, Replays, settled, Settles}
+use Rattle.inspect.specs.promises.Located.{queueHere}
+use Rattle.inspect.specs.promises.Clauses.{holdersRight, lawful, Replays, settledRight, Settles}
 use Rattle.inspect.proofs.Judging.{and-yes}
 
 both-false : (a b c : Bool) → a && b ≡ false → false ≡ a && (b && c)
@@ -25,16 +25,16 @@ module _ (c q : List ℕ) (r : Record) (x : Reader ℕ) where
   abbrev heads : Bool
   heads = headStanding c (r .done) (queued (disk c q [] r))
 
-  settled-refused : lawful (queueHere r) && isSome (replay blank x (queueHere r)) ≡ false → false ≡ settled c q r x
-  unfolding settled each
+  settled-refused : lawful (queueHere r) && isSome (replay blank x (queueHere r)) ≡ false → false ≡ settledRight c q r x
+  unfolding settledRight each
   settled-refused h = both-false (lawful (queueHere r)) (isSome (replay blank x (queueHere r))) _ h
 
-  settled-entered : lawful (queueHere r) ≡ true → (y : Reader ℕ) → replay blank x (queueHere r) ≡ some y → holdersRight r (y .state .lists) && heads ≡ settled c q r x
-  unfolding settled each isSome
+  settled-entered : lawful (queueHere r) ≡ true → (y : Reader ℕ) → replay blank x (queueHere r) ≡ some y → holdersRight r (y .state .lists) && heads ≡ settledRight c q r x
+  unfolding settledRight each isSome
   settled-entered h y e = rw (h, e) (ap (λ (b : Bool). holdersRight r (y .state .lists) && b) (sym (and-yes heads)))
 
 -- the queue was fed, its answer b
-module _ (c q : List ℕ) (m : Lent) (run : ℕ) (r : Record) (b : Bool) (t : Tables) (fed : Replays m run r b t) where
+module _ (c q : List ℕ) (m : Memory) (run : ℕ) (r : Record) (b : Bool) (t : Tables) (fed : Replays m run r b t) where
   pub settles-refused : b ≡ false → Settles c q m run r false t
   settles-refused h = record {
     answer = λ x k. settled-refused c q r x (rw h at (fed x k));
@@ -43,7 +43,7 @@ module _ (c q : List ℕ) (m : Lent) (run : ℕ) (r : Record) (b : Bool) (t : Ta
 
   -- the holders have answer h, and the head k
   module _ (entered : b ≡ true) (h : Bool) (held : OfShown t (λ rs. h ≡ holdersRight r rs)) where
-    answer-is : (x : Reader ℕ) → Kept m run x → h && headStanding c (r .done) (queued (disk c q [] r)) ≡ settled c q r x
+    answer-is : (x : Reader ℕ) → Keeps m run x → h && headStanding c (r .done) (queued (disk c q [] r)) ≡ settledRight c q r x
     answer-is x k =
         let (l, y, e, s) = rw entered at (fed x k) in
         ap (λ (b : Bool). b && headStanding c (r .done) (queued (disk c q [] r))) (held (y .state .lists) s)

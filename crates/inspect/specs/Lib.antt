@@ -1,3 +1,1 @@
-pub mod Located
-pub mod Clauses
-pub mod Inspect
+pub mod promises

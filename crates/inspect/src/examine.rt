@@ -14,14 +14,14 @@ ghost use mathlib.Core.Bool.{true, cond};
 ghost use mathlib.Core.List.{List};
 ghost use Prim.Native.Nat.{ℕ, _≤_, _<_, _*_};
 ghost use lib.ListN.{length};
-ghost use Rattle.lists.specs.Tables.{tablesIn};
+ghost use Rattle.lists.specs.promises.Tables.{tablesIn};
 ghost use Rattle.log.specs.Card.{cardLength, segmentsIn};
 ghost use Rattle.log.specs.Store.{tail};
-ghost use Rattle.log.specs.Within.{Within};
-ghost use Rattle.log.specs.Feed.{lent};
+ghost use Rattle.log.specs.promises.Within.{Within};
+ghost use Rattle.log.specs.promises.Feed.{memory};
 ghost use Rattle.disk.specs.Disk.{disk};
-ghost use Rattle.inspect.specs.Clauses.{Settles, Settled};
-ghost use Rattle.inspect.specs.Inspect.{Examines, ExaminesLog};
+ghost use Rattle.inspect.specs.promises.Clauses.{Settles, Settled};
+ghost use Rattle.inspect.specs.promises.Inspect.{Examines, ExaminesLog};
 
 // A sound disk: the place behind its log.
 pub enum Examined {
@@ -41,7 +41,7 @@ fn settle(
     members: &mut [u8; 128],
 ) -> bool
     requires { ⌜ (cardLength (now card) ≡ true) × (length (now queue_data) ≡ 8192) × (rec .len ≤ 32) × (rec .head < 32) × (behind ≡ tail (now card)) × Within behind × (behind .segment < segmentsIn (now card)) × (run ≤ 64 * 255) ⌝ }
-    ensures { λ r. ⌜ Settles (now (card .entry)) (now (queue_data .entry)) (lent (now (nodes .entry)) (now (members .entry))) run rec r (tablesIn (now (nodes .exit))) ⌝ }
+    ensures { λ r. ⌜ Settles (now (card .entry)) (now (queue_data .entry)) (memory (now (nodes .entry)) (now (members .entry))) run rec r (tablesIn (now (nodes .exit))) ⌝ }
 {
     if !enter_queue(nodes, members, rec, run) {
         return false;
@@ -63,7 +63,7 @@ fn settle_apart(
     members: &mut [u8; 128],
 ) -> bool
     requires { ⌜ (cardLength (now card) ≡ true) × (length (now queue_data) ≡ 8192) × (rec .len ≤ 32) × (rec .head < 32) × (behind ≡ tail (now card)) × Within behind × (behind .segment < segmentsIn (now card)) × (run ≤ 64 * 255) ⌝ }
-    ensures { λ r. ⌜ Settled (now (card .entry)) (now (queue_data .entry)) (lent (now (nodes .entry)) (now (members .entry))) run rec r ⌝ }
+    ensures { λ r. ⌜ Settled (now (card .entry)) (now (queue_data .entry)) (memory (now (nodes .entry)) (now (members .entry))) run rec r ⌝ }
 {
     let mut nodes_then = *nodes;
     settle(card, queue_data, rec, behind, run, &mut nodes_then, members)

@@ -10,7 +10,7 @@ ghost use lib.Dec.{eqb};
 ghost use lib.ListN.{getD};
 ghost use Rattle.lists.specs.Basic.{orElse};
 ghost use Rattle.lists.specs.State.{placed, taken};
-ghost use Rattle.lists.specs.Tables.{tablesIn, OfShown};
+ghost use Rattle.lists.specs.promises.Tables.{tablesIn, OfShown};
 ghost use Rattle.disk.specs.Questions.{freeFrom};
 
 const BLOCKS: u8 = LogEntry::BLOCKS;

@@ -13,7 +13,7 @@ ghost use Prim.Native.Nat.{ℕ, _≤_, _<_};
 ghost use lib.ListN.{length};
 ghost use Rattle.log.specs.Card.{cardLength, segmentsIn};
 ghost use Rattle.log.specs.Store.{tail};
-ghost use Rattle.log.specs.Within.{Within};
+ghost use Rattle.log.specs.promises.Within.{Within};
 ghost use Rattle.disk.specs.Disk.{disk, queued};
 ghost use Rattle.disk.specs.Sound.{headStanding};
 

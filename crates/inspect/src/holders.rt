@@ -3,8 +3,8 @@ use disk::record::Record;
 use lists::tables::is_placed;
 use log::entry::LogEntry;
 ghost use mathlib.Core.Path.{_≡_};
-ghost use Rattle.lists.specs.Tables.{tablesIn, OfShown};
-ghost use Rattle.inspect.specs.Clauses.{holdersRight};
+ghost use Rattle.lists.specs.promises.Tables.{tablesIn, OfShown};
+ghost use Rattle.inspect.specs.promises.Clauses.{holdersRight};
 
 const BLOCKS: usize = LogEntry::BLOCKS as usize;
 

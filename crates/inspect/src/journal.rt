@@ -7,9 +7,9 @@ ghost use mathlib.Core.Path.{_≡_};
 ghost use mathlib.Core.Bool.{true};
 ghost use Prim.Native.Nat.{_≤_};
 ghost use Rattle.lists.specs.Basic.{all, from};
-ghost use Rattle.lists.specs.Tables.{tablesIn};
+ghost use Rattle.lists.specs.promises.Tables.{tablesIn};
 ghost use Rattle.log.specs.Entry.{legal, raw, member};
-ghost use Rattle.inspect.specs.Clauses.{Overlays, changeIn};
+ghost use Rattle.inspect.specs.promises.Clauses.{Overlays, changeIn};
 
 // Unit u's changes in order; one that does not apply is skipped. Did every one apply?
 pub fn enter_journal(nodes: &mut [u8; 1280], unit: Unit, u: usize) -> bool

@@ -6,9 +6,9 @@ use super::units::is_open;
 use disk::answer::Refusal;
 use disk::record::Record;
 ghost use mathlib.Core.Bool.{true, false};
-ghost use Rattle.lists.specs.Tables.{tablesIn};
+ghost use Rattle.lists.specs.promises.Tables.{tablesIn};
 ghost use Rattle.disk.specs.Disk.{disk};
-ghost use Rattle.inspect.specs.Inspect.{Looks};
+ghost use Rattle.inspect.specs.promises.Inspect.{Looks};
 
 // The view that is the persistent state.
 const PERSISTENT: usize = 5;

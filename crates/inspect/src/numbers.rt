@@ -4,7 +4,7 @@ use log::legal::both;
 use log::legal::is_block;
 use log::legal::is_list;
 ghost use mathlib.Core.Path.{_≡_};
-ghost use Rattle.inspect.specs.Clauses.{numbersRight};
+ghost use Rattle.inspect.specs.promises.Clauses.{numbersRight};
 
 // Are they in range? A conflict count always is.
 pub fn numbers_right(rec: Record) -> bool

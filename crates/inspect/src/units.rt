@@ -7,7 +7,7 @@ ghost use mathlib.Core.Path.{_≡_};
 ghost use Prim.Native.Nat.{_-_};
 ghost use lib.ListN.{length, getD};
 ghost use Rattle.log.specs.Entry.{asChange};
-ghost use Rattle.inspect.specs.Clauses.{changeRight, unitRight, unitsRight, openUnit};
+ghost use Rattle.inspect.specs.promises.Clauses.{changeRight, unitRight, unitsRight, openUnit};
 
 // The holder of a block that no unit holds.
 const NOBODY: u8 = 0;

@@ -14,7 +14,7 @@ use lib.Seq.{take-all}
 use Rattle.lists.specs.Basic.{joined}
 use Rattle.lists.specs.State.{Block, Row, placed, onList, onRow, onBlocksOf}
 use Rattle.lists.specs.Lookup.{blocksOf, contentIn, contentOf, nextIn, nextAfter}
-use Rattle.lists.specs.Tables.{Tables, Shows}
+use Rattle.lists.specs.promises.Tables.{Tables, Shows}
 use Rattle.lists.proofs.Basic.{either, or-both, or-right, eqb-same, eqb-false}
 use Rattle.lists.proofs.Runs.{away-at, some-within, blocks-apart, blocks-few, blocks-run}
 use Rattle.text.specs.Written.{Puts}

@@ -15,10 +15,10 @@ use Rattle.lists.proofs.Basic.{and-true, eqb-true, leb-true, le-true, from-shif
 use Rattle.lists.proofs.Naturality.{mapOption, taken-map, blocksOf-map, contentOf-map}
 use Rattle.log.specs.Card.{Content, Outcome, sound, fault, zeros, slot, cardSlot, cardLength, mounted, walkCard}
 use Rattle.log.specs.Reader.{Reader}
-use Rattle.log.specs.Location.{blank, cardLocation, contentAt}
+use Rattle.log.specs.promises.Location.{blank, cardLocation, contentAt}
 use Rattle.log.proofs.Naturality.{mapOutcome, walkCard-map}
-use Rattle.listing.specs.Listing.{listable, refusal, total, headLine, listPart, listLines, blockLine, blockPart, blockLines, outcomeLines, listing}
-use Rattle.listing.specs.Shown.{sumAt}
+use Rattle.listing.specs.Listing.{listable, refusalLine, total, headLine, listPart, listLines, blockLine, blockPart, blockLines, outcomeLines, listing}
+use Rattle.listing.specs.promises.Shown.{sumAt}
 use Rattle.listing.proofs.Lines.{content-in, content-out}
 
 module _ {D E : Type 0} (h : D → E) where
@@ -73,7 +73,7 @@ module _ (c : List ℕ) (h : listable c ≡ true) where
       let r = eqb-true (length c % 4096) 0 (and-true (eqb (length c % 4096) 0) (leb 1 (length c / 4096)) a .0) in
       omega arith
 
-  pub listing-fault : (g i : ℕ) → walkCard cardLocation blank c ≡ fault g i → listing c ≡ refusal 2
+  pub listing-fault : (g i : ℕ) → walkCard cardLocation blank c ≡ fault g i → listing c ≡ refusalLine 2
   unfolding listing outcomeLines
   listing-fault g i e = rw (h, mounted-located c listable-small, e)
 
@@ -84,6 +84,6 @@ module _ (c : List ℕ) (h : listable c ≡ true) where
       rw (h, mounted-located c listable-small, e)
       (ap₂ (λ (a b : List ℕ). headLine c ++ a ++ b) (listLines-map (contentAt c [] []) (r .state .lists)) (blockLines-map (contentAt c [] []) total (r .state .lists)))
 
-pub listing-refused : (c : List ℕ) → listable c ≡ false → listing c ≡ refusal 1
+pub listing-refused : (c : List ℕ) → listable c ≡ false → listing c ≡ refusalLine 1
 unfolding listing
 listing-refused c h = rw h

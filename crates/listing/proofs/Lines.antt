@@ -16,10 +16,10 @@ use Rattle.lists.specs.State.{Row, taken}
 use Rattle.lists.specs.Lookup.{blocksOf, contentOf}
 use Rattle.lists.proofs.Basic.{from-snoc, lt-true, ge-false}
 use Rattle.log.specs.Card.{slot, zeros, count}
-use Rattle.log.specs.Location.{contentAt}
+use Rattle.log.specs.promises.Location.{contentAt}
 use Rattle.text.specs.Decimal.{decimal}
 use Rattle.listing.specs.Listing.{total, numbers, listLine, listPart, blockLine, blockPart}
-use Rattle.listing.specs.Shown.{sumAt}
+use Rattle.listing.specs.promises.Shown.{sumAt}
 
 joined-append : {A : Type 0} (xs ys : List (List A)) → joined (xs ++ ys) ≡ joined xs ++ joined ys
 unfolding joined

@@ -16,8 +16,8 @@ unfoldable pub listable : List ℕ → Bool
 listable c = eqb (length c % segmentBytes) 0 && leb 1 (length c / segmentBytes) && leb (length c / segmentBytes) 16
 
 -- "A refusal prints one line only: `refused`, a blank and the number." "Lines end in byte 10."
-unfoldable pub refusal : ℕ → List ℕ
-refusal n =
+unfoldable pub refusalLine : ℕ → List ℕ
+refusalLine n =
     -- `refused `
     114 ∷ 101 ∷ 102 ∷ 117 ∷ 115 ∷ 101 ∷ 100 ∷ 32 ∷ [] ++ decimal n ++ 10 ∷ []
 
@@ -76,7 +76,7 @@ blockLines sum rs = joined (from (blockPart sum rs) 1 64)
 -- of a card of the right length
 unfoldable pub outcomeLines : List ℕ → Outcome Content → List ℕ
 outcomeLines c (sound r) = headLine c ++ listLines (r .state .lists) ++ blockLines total (r .state .lists)
-outcomeLines c (fault g i) = refusal 2
+outcomeLines c (fault g i) = refusalLine 2
 
 unfoldable pub listing : List ℕ → List ℕ
-listing c = cond (listable c) (outcomeLines c (mounted c)) (refusal 1)
+listing c = cond (listable c) (outcomeLines c (mounted c)) (refusalLine 1)

@@ -11,10 +11,10 @@ use text::put::put_bytes;
 ghost use mathlib.Core.Path.{_≡_};
 ghost use Prim.Native.Nat.{_≤_};
 ghost use lib.ListN.{length};
-ghost use Rattle.lists.specs.Tables.{tablesIn, IsBlock, OfShown};
+ghost use Rattle.lists.specs.promises.Tables.{tablesIn, IsBlock, OfShown};
 ghost use Rattle.text.specs.Written.{Puts};
 ghost use Rattle.listing.specs.Listing.{total, blockPart, blockLines};
-ghost use Rattle.listing.specs.Shown.{sumAt};
+ghost use Rattle.listing.specs.promises.Shown.{sumAt};
 
 const BLOCKS: u8 = LogEntry::BLOCKS;
 

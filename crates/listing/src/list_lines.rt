@@ -11,7 +11,7 @@ ghost use mathlib.Core.List.{[], _∷_};
 ghost use lib.ListN.{length};
 ghost use Rattle.lists.specs.State.{taken};
 ghost use Rattle.lists.specs.Lookup.{blocksOf};
-ghost use Rattle.lists.specs.Tables.{IsList, tablesIn, OfShown};
+ghost use Rattle.lists.specs.promises.Tables.{IsList, tablesIn, OfShown};
 ghost use Rattle.text.specs.Written.{Puts};
 ghost use Rattle.listing.specs.Listing.{numbers, listPart, listLines};
 

@@ -8,13 +8,13 @@ use text::put::put_bytes;
 ghost use mathlib.Core.Path.{_≡_};
 ghost use mathlib.Core.List.{_++_};
 ghost use lib.ListN.{length};
-ghost use Rattle.lists.specs.Tables.{tablesIn, OfShown};
+ghost use Rattle.lists.specs.promises.Tables.{tablesIn, OfShown};
 ghost use Rattle.text.specs.Written.{Puts};
-ghost use Rattle.listing.specs.Listing.{refusal, headLine, listLines, blockLines};
-ghost use Rattle.listing.specs.Shown.{sumAt};
+ghost use Rattle.listing.specs.Listing.{refusalLine, headLine, listLines, blockLines};
+ghost use Rattle.listing.specs.promises.Shown.{sumAt};
 
 pub fn put_refusal(out: &mut [u8], at: usize, number: u64) -> usize
-    ensures { λ r. ⌜ Puts (now (out .entry)) at (refusal number) (now (out .exit)) r ⌝ }
+    ensures { λ r. ⌜ Puts (now (out .entry)) at (refusalLine number) (now (out .exit)) r ⌝ }
 {
     let mut position = put_bytes(out, at, b"refused ");
     position = put_decimal(out, position, number);

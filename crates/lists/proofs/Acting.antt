@@ -5,13 +5,13 @@ use mathlib.Core.Bool.{Bool, true, false}
 use mathlib.Core.Option.{Option, none}
 use Prim.Native.Nat.{ℕ}
 use Rattle.lists.specs.Change.{Change, putFirst, putAfter}
-use Rattle.lists.specs.Tables.{Tables, listNode, fits, done, Did, DidSome, ofKind}
+use Rattle.lists.specs.promises.Tables.{Tables, listNode, suits, done, Did, DidSome, ofKind}
 use Rattle.lists.proofs.Basic.{eqb-false}
 
-pub did-not : (c : Change ℕ) (t : Tables) → fits c t ≡ false → Did c t false t
+pub did-not : (c : Change ℕ) (t : Tables) → suits c t ≡ false → Did c t false t
 did-not c t h = record { answer = sym h; left = rw h }
 
-pub did-so : (c : Change ℕ) (t u : Tables) → fits c t ≡ true → u ≡ done c t → Did c t true u
+pub did-so : (c : Change ℕ) (t u : Tables) → suits c t ≡ true → u ≡ done c t → Did c t true u
 did-so c t u h e = record { answer = sym h; left = rw h e }
 
 -- no kind, no change
@@ -25,5 +25,5 @@ did-none o t e = rw e (refl, refl)
 
 -- first on a list is behind its node
 pub put-first : (b l : ℕ) (t : Tables) (r : Bool) (u : Tables) → Did (putAfter b l (listNode l)) t r u → Did (putFirst b l) t r u
-unfolding fits done
+unfolding suits done
 put-first b l t r u d = record { answer = d .answer; left = d .left }

@@ -9,7 +9,7 @@ use native.Mathlib.Decide.{ℕ-discrete}
 use lib.ListN.{length, getD, set, replicate, length-set}
 use lib.Seq.{ext-getD, getD-set-same, getD-set-other}
 use Rattle.lists.specs.Basic.{from}
-use Rattle.lists.specs.Tables.{Tables, tables, column, placesIn, tablesIn, nextOf, prevOf, ownerOf, placeOf, withNext, withPrev, withOwner, withPlace, linkNodes, emptied}
+use Rattle.lists.specs.promises.Tables.{Tables, tables, column, locationsIn, tablesIn, nextOf, prevOf, ownerOf, locationOf, withNext, withPrev, withOwner, withLocation, linkNodes, cleared}
 use Rattle.lists.proofs.Basic.{from-length, from-get, from-ext, getD-same}
 
 -- A list by its elements' numbers, with one element changed.
@@ -27,9 +27,9 @@ module _ (bs : List ℕ) (x : ℕ) (h : x < 256) where
   unfolding column
   in-column f = from-get (λ n. getD bs (4 * n + f) 0) 0 256 x 0 h ∙ ap (λ (n : ℕ). getD bs (4 * n + f) 0) (zero-add x)
 
-  in-places : getD (placesIn bs) x 0 ≡ getD bs (4 * x + 3) 0 + 256 * getD bs (1024 + x) 0
-  unfolding placesIn
-  in-places =
+  in-locations : getD (locationsIn bs) x 0 ≡ getD bs (4 * x + 3) 0 + 256 * getD bs (1024 + x) 0
+  unfolding locationsIn
+  in-locations =
       from-get (λ n. getD bs (4 * n + 3) 0 + 256 * getD bs (1024 + n) 0) 0 256 x 0 h ∙ ap (λ (n : ℕ). getD bs (4 * n + 3) 0 + 256 * getD bs (1024 + n) 0) (zero-add x)
 
   pub next-read : getD bs (4 * x) 0 ≡ nextOf (tablesIn bs) x
@@ -44,9 +44,9 @@ module _ (bs : List ℕ) (x : ℕ) (h : x < 256) where
   unfolding tablesIn
   owner-read = sym (in-column 2)
 
-  pub place-read : getD bs (4 * x + 3) 0 + 256 * getD bs (1024 + x) 0 ≡ placeOf (tablesIn bs) x
+  pub location-read : getD bs (4 * x + 3) 0 + 256 * getD bs (1024 + x) 0 ≡ locationOf (tablesIn bs) x
   unfolding tablesIn
-  place-read = sym in-places
+  location-read = sym in-locations
 
 -- A byte stored.
 module _ (bs : List ℕ) (x v : ℕ) (h : x < 256) (l : length bs ≡ 1280) where
@@ -66,29 +66,29 @@ module _ (bs : List ℕ) (x v : ℕ) (h : x < 256) (l : length bs ≡ 1280) wher
   column-high g b = from-ext (λ n. getD (set bs (1024 + x) v) (4 * n + g) 0) (λ n. getD bs (4 * n + g) 0) 256
       (λ i k. getD-set-other bs (1024 + x) (4 * i + g) v 0 (λ z. omega arith))
 
-  places-other : (f : ℕ) → f < 3 → placesIn (set bs (4 * x + f) v) ≡ placesIn bs
-  unfolding placesIn
-  places-other f a = from-ext (λ n. getD (set bs (4 * x + f) v) (4 * n + 3) 0 + 256 * getD (set bs (4 * x + f) v) (1024 + n) 0)
+  locations-other : (f : ℕ) → f < 3 → locationsIn (set bs (4 * x + f) v) ≡ locationsIn bs
+  unfolding locationsIn
+  locations-other f a = from-ext (λ n. getD (set bs (4 * x + f) v) (4 * n + 3) 0 + 256 * getD (set bs (4 * x + f) v) (1024 + n) 0)
       (λ n. getD bs (4 * n + 3) 0 + 256 * getD bs (1024 + n) 0) 256
       (λ i k. rw (getD-set-other bs (4 * x + f) (4 * i + 3) v 0 (λ z. omega arith), getD-set-other bs (4 * x + f) (1024 + i) v 0 (λ z. omega arith)))
 
   pub next-set : tablesIn (set bs (4 * x) v) ≡ withNext x v (tablesIn bs)
   unfolding tablesIn
-  next-set = rw (← add-zero (4 * x), column-set 0 (omega arith), column-other 0 1 (omega arith) (omega arith) (λ z. omega arith), column-other 0 2 (omega arith) (omega arith) (λ z. omega arith), places-other 0 (omega arith))
+  next-set = rw (← add-zero (4 * x), column-set 0 (omega arith), column-other 0 1 (omega arith) (omega arith) (λ z. omega arith), column-other 0 2 (omega arith) (omega arith) (λ z. omega arith), locations-other 0 (omega arith))
 
   pub prev-set : tablesIn (set bs (4 * x + 1) v) ≡ withPrev x v (tablesIn bs)
   unfolding tablesIn
-  prev-set = rw (column-other 1 0 (omega arith) (omega arith) (λ z. omega arith), column-set 1 (omega arith), column-other 1 2 (omega arith) (omega arith) (λ z. omega arith), places-other 1 (omega arith))
+  prev-set = rw (column-other 1 0 (omega arith) (omega arith) (λ z. omega arith), column-set 1 (omega arith), column-other 1 2 (omega arith) (omega arith) (λ z. omega arith), locations-other 1 (omega arith))
 
   pub owner-set : tablesIn (set bs (4 * x + 2) v) ≡ withOwner x v (tablesIn bs)
   unfolding tablesIn
-  owner-set = rw (column-other 2 0 (omega arith) (omega arith) (λ z. omega arith), column-other 2 1 (omega arith) (omega arith) (λ z. omega arith), column-set 2 (omega arith), places-other 2 (omega arith))
+  owner-set = rw (column-other 2 0 (omega arith) (omega arith) (λ z. omega arith), column-other 2 1 (omega arith) (omega arith) (λ z. omega arith), column-set 2 (omega arith), locations-other 2 (omega arith))
 
--- A place stored in its two bytes.
+-- A location stored in its two bytes.
 module _ (bs : List ℕ) (x a b : ℕ) (h : x < 256) (l : length bs ≡ 1280) where
-  places-set : placesIn (set (set bs (4 * x + 3) a) (1024 + x) b) ≡ set (placesIn bs) x (a + 256 * b)
-  unfolding placesIn
-  places-set =
+  locations-set : locationsIn (set (set bs (4 * x + 3) a) (1024 + x) b) ≡ set (locationsIn bs) x (a + 256 * b)
+  unfolding locationsIn
+  locations-set =
       let cs = set bs (4 * x + 3) a in
       let k : length cs ≡ 1280 = length-set bs (4 * x + 3) a ∙ l in
       from-set (λ n. getD bs (4 * n + 3) 0 + 256 * getD bs (1024 + n) 0) (λ n. getD (set cs (1024 + x) b) (4 * n + 3) 0 + 256 * getD (set cs (1024 + x) b) (1024 + n) 0) 256 x (a + 256 * b) h
@@ -100,14 +100,14 @@ module _ (bs : List ℕ) (x a b : ℕ) (h : x < 256) (l : length bs ≡ 1280) wh
         getD-set-other bs (4 * x + 3) (1024 + i) a 0 (λ z. omega arith),
       ))
 
-  pub place-set : tablesIn (set (set bs (4 * x + 3) a) (1024 + x) b) ≡ withPlace x (a + 256 * b) (tablesIn bs)
+  pub location-set : tablesIn (set (set bs (4 * x + 3) a) (1024 + x) b) ≡ withLocation x (a + 256 * b) (tablesIn bs)
   unfolding tablesIn
-  place-set =
+  location-set =
       let cs = set bs (4 * x + 3) a in
       let k : length cs ≡ 1280 = length-set bs (4 * x + 3) a ∙ l in
       let same : (f : ℕ) → f < 3 → column f (set cs (1024 + x) b) ≡ column f bs =
       λ f g. column-high cs x b h k f (omega arith) ∙ column-other bs x a h l 3 f (omega arith) (omega arith) (λ z. omega arith) in
-      rw (same 0 (omega arith), same 1 (omega arith), same 2 (omega arith), places-set)
+      rw (same 0 (omega arith), same 1 (omega arith), same 2 (omega arith), locations-set)
 
 -- All bytes 0.
 from-zeros : (n k : ℕ) → from {A = ℕ} (λ i. 0) k n ≡ replicate n 0
@@ -126,11 +126,11 @@ column-zeros : (f : ℕ) → column f zeros ≡ replicate 256 0
 unfolding column
 column-zeros f = from-ext (λ n. getD zeros (4 * n + f) 0) (λ n. 0) 256 (λ i k. zero-at (4 * i + f)) ∙ from-zeros 256 0
 
-places-zeros : placesIn zeros ≡ replicate 256 0
-unfolding placesIn
-places-zeros =
+locations-zeros : locationsIn zeros ≡ replicate 256 0
+unfolding locationsIn
+locations-zeros =
     from-ext (λ n. getD zeros (4 * n + 3) 0 + 256 * getD zeros (1024 + n) 0) (λ n. 0) 256 (λ i k. rw (zero-at (4 * i + 3), zero-at (1024 + i))) ∙ from-zeros 256 0
 
 pub tables-zeros : tablesIn (replicate 1280 0) ≡ tables (replicate 256 0) (replicate 256 0) (replicate 256 0) (replicate 256 0)
 unfolding tablesIn zeros
-tables-zeros = rw (column-zeros 0, column-zeros 1, column-zeros 2, places-zeros)
+tables-zeros = rw (column-zeros 0, column-zeros 1, column-zeros 2, locations-zeros)

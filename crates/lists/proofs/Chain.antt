@@ -5,7 +5,7 @@ use mathlib.Core.List.{List, [], _∷_, _++_}
 use Prim.Native.Nat.{ℕ, _<_}
 use lib.ListN.{length, getD, set, length-set}
 use lib.Seq.{getD-set-same, getD-set-other}
-use Rattle.lists.specs.Tables.{Away, Apart, Linked}
+use Rattle.lists.specs.promises.Tables.{Away, Apart, Linked}
 
 -- all below the tables' length
 abbrev pub Small : List ℕ → Type 0

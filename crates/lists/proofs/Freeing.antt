@@ -9,7 +9,7 @@ use lib.Dec.{eqb}
 use lib.ListN.{length, getD, set, length-set}
 use lib.Seq.{getD-set-other, getD-set-same}
 use Rattle.lists.specs.State.{Block}
-use Rattle.lists.specs.Tables.{Away, Apart, Linked, HasBlocks, blockNodes, times, freeUpTo, freeFrom}
+use Rattle.lists.specs.promises.Tables.{Away, Apart, Linked, HasBlocks, blockNodes, times, freeUpTo, freeNodes}
 use Rattle.lists.proofs.Basic.{either, eqb-true, eqb-false, eqb-neq, eq-true}
 use Rattle.lists.proofs.Chain.{Small, headOf, away-left, away-right, away-append, apart-left, apart-right, apart-middle, apart-cut}
 use Rattle.lists.proofs.Owners.{Same, same-refl, same-set, same-trans}
@@ -99,16 +99,16 @@ module _ (nx : List ℕ) (l : ℕ) where
       first (m ∷ ms) z = z .0
 
   -- one turn, and the end
-  pub free-turn : (n : ℕ) (o : List ℕ) → getD o n 0 ≡ l → 1 ≤ l → freeFrom nx l (getD nx n 0) (set o n 0) ≡ freeFrom nx l n o
-  unfolding freeFrom
+  pub free-turn : (n : ℕ) (o : List ℕ) → getD o n 0 ≡ l → 1 ≤ l → freeNodes nx l (getD nx n 0) (set o n 0) ≡ freeNodes nx l n o
+  unfolding freeNodes
   free-turn n o h g = rw (times-set l n o h g) (sym (upTo-more (times l (set o n 0)) n o h))
 
-  pub free-stop : (n : ℕ) (o : List ℕ) → getD o n 0 ≢ l → freeFrom nx l n o ≡ record { behind = n; owners = o }
-  unfolding freeFrom
+  pub free-stop : (n : ℕ) (o : List ℕ) → getD o n 0 ≢ l → freeNodes nx l n o ≡ record { behind = n; owners = o }
+  unfolding freeNodes
   free-stop n o h = upTo-stop (times l o) n o h
 
   -- n and the nodes ns that follow it are of list l, y is not
   pub free-run : (pv : List ℕ) (a n : ℕ) (ns : List ℕ) (y : ℕ) (r o : List ℕ) → 1 ≤ l → Linked nx pv a (n ∷ ns ++ y ∷ r) → Apart (n ∷ ns ++ y ∷ r)
-      → AllOf l o (n ∷ ns) → getD o y 0 ≢ l → freeFrom nx l n o ≡ record { behind = y; owners = freed o (n ∷ ns) }
-  unfolding freeFrom
+      → AllOf l o (n ∷ ns) → getD o y 0 ≢ l → freeNodes nx l n o ≡ record { behind = y; owners = freed o (n ∷ ns) }
+  unfolding freeNodes
   free-run pv a n ns y r o g k p w q = upTo-run pv y r (times l o) a o (n ∷ ns) k p w q (all-times l o (n ∷ ns) g (apart-left (n ∷ ns) (y ∷ r) p) w)

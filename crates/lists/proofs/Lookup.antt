@@ -11,7 +11,7 @@ use lib.Dec.{eqb}
 use lib.ListN.{length, getD}
 use Rattle.lists.specs.State.{Block, Row, onBlocksOf, onRow, taken, placed, onList}
 use Rattle.lists.specs.Lookup.{contentIn, contentOf, blocksOf, nextIn, nextAfter, listNums, takenAfter}
-use Rattle.lists.specs.Tables.{Tables, Shows, Apart, Linked, HasBlocks, HasLists, IsBlock, IsList, blockNodes, nodes, chain, ownerOf, nextOf, listNode, blockOr0, listWithin, behindNode, behindList, SaysTaken, SaysPlaced, SaysOn, SaysLocation, SaysBlockAfter, SaysListAfter, OfShown}
+use Rattle.lists.specs.promises.Tables.{Tables, Shows, Apart, Linked, HasBlocks, HasLists, IsBlock, IsList, blockNodes, nodes, chain, ownerOf, nextOf, listNode, blockOr0, listWithin, behindNode, behindList, SaysTaken, SaysPlaced, SaysOn, SaysLocation, SaysBlockAfter, SaysListAfter, OfShown}
 use Rattle.lists.proofs.Basic.{not-not, either, or-both, or-cases, eqb-true, eqb-false, eqb-neq, eq-true, le-true, lt-true, gt-false, ge-false}
 use Rattle.lists.proofs.Chain.{away-right, apart-left, apart-right, last, linked-tail}
 use Rattle.lists.proofs.Nodes.{away-taken, onList-taken}
@@ -25,29 +25,29 @@ node-of l h = omega arith
 module _ (t : Tables) (rs : List (Row ℕ)) (s : Shows t rs) where
   pub taken-free : (l : ℕ) → IsList l → eqb (ownerOf t (listNode l)) 0 ≡ not (taken l rs)
   taken-free l g = rw (node-of l (g .1)) (⊎-elim
-      (λ e. rw e (eqb-false (ownerOf t (64 + l)) 0 (λ z. omega (arith, taken-owner (t .owner) (t .place) l rs (s .has) e))))
-      (λ e. rw e (eq-true (ownerOf t (64 + l)) 0 (s .free (64 + l) (untaken-away (t .owner) (t .place) l rs (g .0) (s .has) e))))
+      (λ e. rw e (eqb-false (ownerOf t (64 + l)) 0 (λ z. omega (arith, taken-owner (t .owner) (t .location) l rs (s .has) e))))
+      (λ e. rw e (eq-true (ownerOf t (64 + l)) 0 (s .free (64 + l) (untaken-away (t .owner) (t .location) l rs (g .0) (s .has) e))))
       (either (taken l rs)))
 
   pub taken-own : (l : ℕ) → IsList l → eqb (ownerOf t (listNode l)) l ≡ taken l rs
   taken-own l g = rw (node-of l (g .1)) (⊎-elim
-      (λ e. rw e (eq-true (ownerOf t (64 + l)) l (taken-owner (t .owner) (t .place) l rs (s .has) e)))
-      (λ e. rw e (eqb-false (ownerOf t (64 + l)) l (λ z. omega (arith, s .free (64 + l) (untaken-away (t .owner) (t .place) l rs (g .0) (s .has) e)))))
+      (λ e. rw e (eq-true (ownerOf t (64 + l)) l (taken-owner (t .owner) (t .location) l rs (s .has) e)))
+      (λ e. rw e (eqb-false (ownerOf t (64 + l)) l (λ z. omega (arith, s .free (64 + l) (untaken-away (t .owner) (t .location) l rs (g .0) (s .has) e)))))
       (either (taken l rs)))
 
   pub placed-free : (b : ℕ) → IsBlock b → eqb (ownerOf t b) 0 ≡ not (placed b rs)
   placed-free b g = ⊎-elim
-      (λ e. rw e (eqb-false (ownerOf t b) 0 (λ z. omega (arith, placed-owner (t .owner) (t .place) b rs (s .has) e .0))))
-      (λ e. rw e (eq-true (ownerOf t b) 0 (s .free b (unplaced-away (t .owner) (t .place) b rs (g .1) (s .has) e))))
+      (λ e. rw e (eqb-false (ownerOf t b) 0 (λ z. omega (arith, placed-owner (t .owner) (t .location) b rs (s .has) e .0))))
+      (λ e. rw e (eq-true (ownerOf t b) 0 (s .free b (unplaced-away (t .owner) (t .location) b rs (g .1) (s .has) e))))
       (either (placed b rs))
 
   pub on-own : (l b : ℕ) → IsList l → IsBlock b → eqb (ownerOf t b) l ≡ onList l b rs
   on-own l b g h = ⊎-elim
-      (λ e. rw e (eq-true (ownerOf t b) l (onList-owner (t .owner) (t .place) l b rs (s .has) e)))
+      (λ e. rw e (eq-true (ownerOf t b) l (onList-owner (t .owner) (t .location) l b rs (s .has) e)))
       (λ e. rw e (eqb-false (ownerOf t b) l (λ z.
       ⊎-elim
-      (λ k. true≢false (sym (rw z at (placed-owner (t .owner) (t .place) b rs (s .has) k .1)) ∙ e))
-      (λ k. omega (arith, s .free b (unplaced-away (t .owner) (t .place) b rs (h .1) (s .has) k)))
+      (λ k. true≢false (sym (rw z at (placed-owner (t .owner) (t .location) b rs (s .has) k .1)) ∙ e))
+      (λ k. omega (arith, s .free b (unplaced-away (t .owner) (t .location) b rs (h .1) (s .has) k)))
       (either (placed b rs)))))
       (either (onList l b rs))
 
@@ -130,9 +130,9 @@ unfolding nextAfter nextIn
 block-after t rs s l b h k = ⊎-elim
     (λ (e : eqb b 0 ≡ true).
     let q : b ≡ 0 = eqb-true b 0 e in
-    rw (e, node-of l (taken-range (t .owner) (t .place) l rs (s .has) h .1), q, nextIn) (first-of (t .next) (t .prev) (t .owner) (t .place) l 0 rs (s .has) (s .linked) h))
+    rw (e, node-of l (taken-range (t .owner) (t .location) l rs (s .has) h .1), q, nextIn) (first-of (t .next) (t .prev) (t .owner) (t .location) l 0 rs (s .has) (s .linked) h))
     (λ (e : eqb b 0 ≡ false).
-    rw (e, eqb-false 0 b (λ z. eqb-neq b 0 e (sym z)), nextIn) (after-of (t .next) (t .prev) (t .owner) (t .place) l b 0 rs (s .has) (s .linked) (apart-left (nodes rs) (255 ∷ []) (s .apart .1)) (rw e at k)))
+    rw (e, eqb-false 0 b (λ z. eqb-neq b 0 e (sym z)), nextIn) (after-of (t .next) (t .prev) (t .owner) (t .location) l b 0 rs (s .has) (s .linked) (apart-left (nodes rs) (255 ∷ []) (s .apart .1)) (rw e at k)))
     (either (eqb b 0))
 
 -- The list after another: the first node behind its own that is no block's, at most k nodes on.
@@ -183,11 +183,11 @@ unfolding takenAfter nextIn
 list-after t rs s l h = ⊎-elim
     (λ (e : eqb l 0 ≡ true).
     let q : l ≡ 0 = eqb-true l 0 e in
-    rw (e, q, nextIn) (first-list (t .next) (t .prev) (t .owner) (t .place) 256 0 0 [] rs tt (s .has) (s .linked) (omega arith)))
+    rw (e, q, nextIn) (first-list (t .next) (t .prev) (t .owner) (t .location) 256 0 0 [] rs tt (s .has) (s .linked) (omega arith)))
     (λ (e : eqb l 0 ≡ false).
     let g : taken l rs ≡ true = rw e at h in
-    rw (e, node-of l (taken-range (t .owner) (t .place) l rs (s .has) g .1), eqb-false 0 l (λ z. eqb-neq l 0 e (sym z)), nextIn)
-    (list-of (t .next) (t .prev) (t .owner) (t .place) (s .sized .owner) l 0 rs (s .has) (s .linked) (apart-left (nodes rs) (255 ∷ []) (s .apart .1)) g))
+    rw (e, node-of l (taken-range (t .owner) (t .location) l rs (s .has) g .1), eqb-false 0 l (λ z. eqb-neq l 0 e (sym z)), nextIn)
+    (list-of (t .next) (t .prev) (t .owner) (t .location) (s .sized .owner) l 0 rs (s .has) (s .linked) (apart-left (nodes rs) (255 ∷ []) (s .apart .1)) g))
     (either (eqb l 0))
 
 -- The look-ups' answers, of the lists that tables show.
@@ -202,7 +202,7 @@ module _ {t : Tables} where
   on-said {l} {b} {r} w rs s g h = w .answer ∙ on-own t rs s l b g h
 
   pub location-said : {b r : ℕ} → SaysLocation t b r → OfShown t (λ rs. placed b rs ≡ true → contentOf rs b ≡ some r)
-  location-said {b} {r} w rs s h = content-place (t .owner) (t .place) b rs (s .has) h ∙ ap some (sym (w .answer))
+  location-said {b} {r} w rs s h = content-place (t .owner) (t .location) b rs (s .has) h ∙ ap some (sym (w .answer))
 
   pub block-said : {l p r : ℕ} → SaysBlockAfter t l p r → OfShown t (λ rs. taken l rs ≡ true → eqb p 0 || onList l p rs ≡ true → r ≡ nextAfter rs l p)
   block-said {l} {p} {r} w rs s h k = w .answer ∙ block-after t rs s l p h k

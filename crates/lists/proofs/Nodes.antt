@@ -7,7 +7,7 @@ use Prim.Native.Nat.{ℕ, _+_}
 use lib.Dec.{eqb}
 use Rattle.lists.specs.Basic.{keep}
 use Rattle.lists.specs.State.{Block, Row, onRow, onBlocksOf, taken, placed, onList, insertAfter, at, put, onBlocks, otherBlock, otherRow, block, row}
-use Rattle.lists.specs.Tables.{Away, Apart, blockNodes, nodes}
+use Rattle.lists.specs.promises.Tables.{Away, Apart, blockNodes, nodes}
 use Rattle.lists.proofs.Basic.{either, or-both, or-cases, or-right, and-true, eqb-true, eqb-false}
 use Rattle.lists.proofs.Chain.{away-left, away-right, apart-left, apart-right}
 

@@ -10,7 +10,7 @@ use lib.ListN.{length, getD, set}
 use lib.Seq.{getD-set-other, getD-set-same}
 use Rattle.lists.specs.Basic.{keep}
 use Rattle.lists.specs.State.{Block, Row, onRow, onBlocksOf, taken, placed, onList, insertAfter, at, put, onBlocks, otherBlock, block}
-use Rattle.lists.specs.Tables.{Away, HasBlock, HasBlocks, HasLists, IsList, blockNodes, nodes}
+use Rattle.lists.specs.promises.Tables.{Away, HasBlock, HasBlocks, HasLists, IsList, blockNodes, nodes}
 use Rattle.lists.proofs.Basic.{either, or-both, or-cases, or-right, and-true, eqb-true, eqb-neq, eq-true}
 use Rattle.lists.proofs.Chain.{away-append}
 

@@ -12,7 +12,7 @@ use lib.Seq.{getD-set-other, getD-set-same}
 use Rattle.lists.specs.Basic.{bind, keep, orElse}
 use Rattle.lists.specs.Change.{Change, takeList, putFirst, putAfter, write, delBlock, delList}
 use Rattle.lists.specs.State.{State, Block, Row, taken, placed, onList, insertAfter, at, put, onBlocks, otherBlock, otherRow, block, row, changed, applies, apply}
-use Rattle.lists.specs.Tables.{Tables, tables, nextOf, prevOf, ownerOf, insertNode, cutBetween, placeAt, emptied, freeFrom, cutList, putFits, putDone, fits, done, Did, Away, Apart, Linked, blockNodes, nodes, chain, IsBlock, IsList, HasBlock, HasBlocks, HasLists, Sized, Shows, Ranged, Represents}
+use Rattle.lists.specs.promises.Tables.{Tables, tables, nextOf, prevOf, ownerOf, insertNode, cutNodes, locate, cleared, freeNodes, cutList, putFits, putDone, suits, done, Did, Away, Apart, Linked, blockNodes, nodes, chain, IsBlock, IsList, HasBlock, HasBlocks, HasLists, Sized, Shows, Ranged, Represents}
 use Rattle.lists.proofs.Basic.{either, or-both, and-true, not-false, eqb-true, eqb-neq, getD-same, and-swap, and-implied, not-not}
 use Rattle.lists.proofs.Chain.{Small, headOf, last, away-left, away-right, away-append, apart-left, apart-right, apart-insert, apart-cut, apart-middle, small-left, small-right, last-snoc, next-at, prev-at, linked-tail, linked-insert, linked-cut}
 use Rattle.lists.proofs.Nodes.{Grown, nodes-append, nodes-write, first-grown, after-grown, block-shrunk, row-at, onList-taken}
@@ -44,11 +44,11 @@ module _ (t : Tables) (rs rs′ : List (Row ℕ)) (s : Shows t rs) where
       let c2 : chain rs′ ≡ front ++ n ∷ y ∷ r = rw (is, append-assoc, e) in
       let a1 : Apart (0 ∷ front ++ y ∷ r) = subst (λ (z : List ℕ). Apart (0 ∷ z)) c1 (s .apart) in
       let k1 : Linked (t .next) (t .prev) 0 (front ++ y ∷ r) = subst (λ (z : List ℕ). Linked (t .next) (t .prev) 0 z) c1 (s .linked) in
-      let m1 : Small (0 ∷ front ++ y ∷ r) = (omega arith, subst (λ (z : List ℕ). Small z) c1 (chain-small (t .owner) (t .place) rs (s .has))) in
+      let m1 : Small (0 ∷ front ++ y ∷ r) = (omega arith, subst (λ (z : List ℕ). Small z) c1 (chain-small (t .owner) (t .location) rs (s .has))) in
       let w1 : Away n (0 ∷ front ++ y ∷ r) = ((λ z. omega arith), subst (λ (z : List ℕ). Away n z) c1 (away-append n (nodes rs) (255 ∷ []) away ((λ z. omega arith), tt))) in
       let q : nextOf t x ≡ y = rw (← hx) (next-at (t .next) (t .prev) 0 front y r k1) in
       record {
-        sized = record { next = simp length-set (s .sized .next); prev = simp length-set (s .sized .prev); owner = simp length-set (s .sized .owner); place = lp };
+        sized = record { next = simp length-set (s .sized .next); prev = simp length-set (s .sized .prev); owner = simp length-set (s .sized .owner); location = lp };
         apart = subst (λ (z : List ℕ). Apart (0 ∷ z)) (sym c2) (apart-insert n (0 ∷ front) (y ∷ r) w1 a1);
         linked = rw c2 (rw q (rw (← hx) (linked-insert (t .next) (t .prev) (s .sized .next) (s .sized .prev) n 0 front y r a1 w1 m1 (omega arith) k1)));
         has = own;
@@ -60,17 +60,17 @@ module _ (t : Tables) (rs rs′ : List (Row ℕ)) (s : Shows t rs) where
 
   -- the nodes S go
   shows-cut : (front S back : List ℕ) (x y : ℕ) (r o : List ℕ) → nodes rs ≡ front ++ (S ++ back) → nodes rs′ ≡ front ++ back → last 0 front ≡ x
-      → back ++ 255 ∷ [] ≡ y ∷ r → length o ≡ 256 → HasLists o (t .place) rs′ → ((m : ℕ) → Away m (front ++ back) → getD o m 0 ≡ 0)
-      → Shows (cutBetween x y o t) rs′
-  unfolding cutBetween
+      → back ++ 255 ∷ [] ≡ y ∷ r → length o ≡ 256 → HasLists o (t .location) rs′ → ((m : ℕ) → Away m (front ++ back) → getD o m 0 ≡ 0)
+      → Shows (cutNodes x y o t) rs′
+  unfolding cutNodes
   shows-cut front S back x y r o was is hx e lo own free =
       let c1 : chain rs ≡ front ++ (S ++ y ∷ r) = rw (was, append-assoc, append-assoc, e) in
       let c2 : chain rs′ ≡ front ++ y ∷ r = rw (is, append-assoc, e) in
       let a1 : Apart (0 ∷ front ++ (S ++ y ∷ r)) = subst (λ (z : List ℕ). Apart (0 ∷ z)) c1 (s .apart) in
       let k1 : Linked (t .next) (t .prev) 0 (front ++ (S ++ y ∷ r)) = subst (λ (z : List ℕ). Linked (t .next) (t .prev) 0 z) c1 (s .linked) in
-      let m1 : Small (0 ∷ front ++ (S ++ y ∷ r)) = (omega arith, subst (λ (z : List ℕ). Small z) c1 (chain-small (t .owner) (t .place) rs (s .has))) in
+      let m1 : Small (0 ∷ front ++ (S ++ y ∷ r)) = (omega arith, subst (λ (z : List ℕ). Small z) c1 (chain-small (t .owner) (t .location) rs (s .has))) in
       record {
-        sized = record { next = simp length-set (s .sized .next); prev = simp length-set (s .sized .prev); owner = lo; place = s .sized .place };
+        sized = record { next = simp length-set (s .sized .next); prev = simp length-set (s .sized .prev); owner = lo; location = s .sized .location };
         apart = subst (λ (z : List ℕ). Apart (0 ∷ z)) (sym c2) (apart-cut (0 ∷ front) S (y ∷ r) a1);
         linked = rw c2 (rw (← hx) (linked-cut (t .next) (t .prev) (s .sized .next) (s .sized .prev) 0 front S y r a1 m1 k1));
         has = own;
@@ -83,47 +83,47 @@ module _ (t : Tables) (rs : List (Row ℕ)) (s : Shows t rs) where
   apart-nodes = apart-left (nodes rs) (255 ∷ []) (s .apart .1)
 
   -- owners and places after a node of no list came in
-  has-new : (n l d : ℕ) → Away n (nodes rs) → HasLists (set (t .owner) n l) (set (t .place) n d) rs
-  has-new n l d h = has-same (t .owner) (set (t .owner) n l) (t .place) (set (t .place) n d) rs (same-set (t .owner) n l (nodes rs) h) (same-set (t .place) n d (nodes rs) h) (s .has)
+  has-new : (n l d : ℕ) → Away n (nodes rs) → HasLists (set (t .owner) n l) (set (t .location) n d) rs
+  has-new n l d h = has-same (t .owner) (set (t .owner) n l) (t .location) (set (t .location) n d) rs (same-set (t .owner) n l (nodes rs) h) (same-set (t .location) n d (nodes rs) h) (s .has)
 
-  new-block : (b l d : ℕ) → IsBlock b → HasBlock (set (t .owner) b l) (set (t .place) b d) l (block b d)
+  new-block : (b l d : ℕ) → IsBlock b → HasBlock (set (t .owner) b l) (set (t .location) b d) l (block b d)
   new-block b l d g = record {
     range = g;
     owned = getD-set-same (t .owner) b l 0 (omega (arith, s .sized .owner));
-    stands = getD-set-same (t .place) b d 0 (omega (arith, s .sized .place));
+    stands = getD-set-same (t .location) b d 0 (omega (arith, s .sized .location));
   }
 
   shows-take : (l : ℕ) → IsList l → taken l rs ≡ false → Shows (insertNode (prevOf t 255) (64 + l) l t) (rs ++ row l [] ∷ [])
   unfolding insertNode
   shows-take l g h =
-      let w : Away (64 + l) (nodes rs) = untaken-away (t .owner) (t .place) l rs (g .0) (s .has) h in
-      shows-insert t rs (rs ++ row l [] ∷ []) s (nodes rs) [] (prevOf t 255) (64 + l) l (t .place) (sym (append-nil (nodes rs))) (nodes-append rs (row l [] ∷ []))
-      (sym (prev-at (t .next) (t .prev) 0 (nodes rs) 255 [] (s .linked))) (omega arith) (omega arith) w (s .sized .place)
-      (has-append (set (t .owner) (64 + l) l) (t .place) rs (row l [] ∷ [])
-      (has-same (t .owner) (set (t .owner) (64 + l) l) (t .place) (t .place) rs (same-set (t .owner) (64 + l) l (nodes rs) w) (same-refl (t .place) (nodes rs)) (s .has))
+      let w : Away (64 + l) (nodes rs) = untaken-away (t .owner) (t .location) l rs (g .0) (s .has) h in
+      shows-insert t rs (rs ++ row l [] ∷ []) s (nodes rs) [] (prevOf t 255) (64 + l) l (t .location) (sym (append-nil (nodes rs))) (nodes-append rs (row l [] ∷ []))
+      (sym (prev-at (t .next) (t .prev) 0 (nodes rs) 255 [] (s .linked))) (omega arith) (omega arith) w (s .sized .location)
+      (has-append (set (t .owner) (64 + l) l) (t .location) rs (row l [] ∷ [])
+      (has-same (t .owner) (set (t .owner) (64 + l) l) (t .location) (t .location) rs (same-set (t .owner) (64 + l) l (nodes rs) w) (same-refl (t .location) (nodes rs)) (s .has))
       (record { range = g; owned = getD-set-same (t .owner) (64 + l) l 0 (omega (arith, s .sized .owner)) }, tt, tt))
 
   shows-put : (b l x d : ℕ) (f : List (Block ℕ) → List (Block ℕ)) → IsBlock b → placed b rs ≡ false → Grown (nodes rs) (nodes (map (at l f) rs)) x b
       → ((o p : List ℕ) → HasBlock o p l (block b d) → (xs : List (Block ℕ)) → HasBlocks o p l xs → HasBlocks o p l (f xs))
-      → Shows (placeAt b d (insertNode x b l t)) (map (at l f) rs)
-  unfolding insertNode placeAt
+      → Shows (locate b d (insertNode x b l t)) (map (at l f) rs)
+  unfolding insertNode locate
   shows-put b l x d f g h w k =
-      let a : Away b (nodes rs) = unplaced-away (t .owner) (t .place) b rs (g .1) (s .has) h in
-      shows-insert t rs (map (at l f) rs) s (w .front ++ x ∷ []) (w .back) x b l (set (t .place) b d)
-      (w .was ∙ simp append-assoc) (w .now ∙ simp append-assoc) (last-snoc 0 (w .front) x) (g .0) (omega arith) a (simp length-set (s .sized .place))
-      (has-at (set (t .owner) b l) (set (t .place) b d) l f (k (set (t .owner) b l) (set (t .place) b d) (new-block b l d g)) rs (has-new b l d a))
+      let a : Away b (nodes rs) = unplaced-away (t .owner) (t .location) b rs (g .1) (s .has) h in
+      shows-insert t rs (map (at l f) rs) s (w .front ++ x ∷ []) (w .back) x b l (set (t .location) b d)
+      (w .was ∙ simp append-assoc) (w .now ∙ simp append-assoc) (last-snoc 0 (w .front) x) (g .0) (omega arith) a (simp length-set (s .sized .location))
+      (has-at (set (t .owner) b l) (set (t .location) b d) l f (k (set (t .owner) b l) (set (t .location) b d) (new-block b l d g)) rs (has-new b l d a))
 
-  shows-write : (b d : ℕ) → IsBlock b → Shows (placeAt b d t) (map (onBlocks (map (put b d))) rs)
-  unfolding placeAt
+  shows-write : (b d : ℕ) → IsBlock b → Shows (locate b d t) (map (onBlocks (map (put b d))) rs)
+  unfolding locate
   shows-write b d g = record {
-    sized = record { next = s .sized .next; prev = s .sized .prev; owner = s .sized .owner; place = simp length-set (s .sized .place) };
+    sized = record { next = s .sized .next; prev = s .sized .prev; owner = s .sized .owner; location = simp length-set (s .sized .location) };
     apart = rw (nodes-write b d rs) (s .apart);
     linked = rw (nodes-write b d rs) (s .linked);
-    has = has-write (t .owner) (t .place) b d (omega (arith, s .sized .place)) rs (s .has);
+    has = has-write (t .owner) (t .location) b d (omega (arith, s .sized .location)) rs (s .has);
     free = λ m h. s .free m (rw (nodes-write b d rs) at h);
   }
 
-  shows-delBlock : (b : ℕ) → IsBlock b → placed b rs ≡ true → Shows (cutBetween (prevOf t b) (nextOf t b) (set (t .owner) b 0) t) (map (onBlocks (keep (otherBlock b))) rs)
+  shows-delBlock : (b : ℕ) → IsBlock b → placed b rs ≡ true → Shows (cutNodes (prevOf t b) (nextOf t b) (set (t .owner) b 0) t) (map (onBlocks (keep (otherBlock b))) rs)
   shows-delBlock b g h =
       let w = block-shrunk b rs h apart-nodes in
       let (y, r, e) = uncons (w .back) in
@@ -135,9 +135,9 @@ module _ (t : Tables) (rs : List (Row ℕ)) (s : Shows t rs) where
       let a2 : Away b (w .front ++ w .back) = away-append b (w .front) (w .back) (apart-middle (w .front) b (w .back) a1) (apart-right (w .front) (b ∷ w .back) a1 .0) in
       shows-cut t rs (map (onBlocks (keep (otherBlock b))) rs) s (w .front) (b ∷ []) (w .back) (prevOf t b) (nextOf t b) r (set (t .owner) b 0)
       (w .was) (w .now) (sym (prev-at (t .next) (t .prev) 0 (w .front) b (y ∷ r) k1)) (rw q e) (simp length-set (s .sized .owner))
-      (has-same (t .owner) (set (t .owner) b 0) (t .place) (t .place) (map (onBlocks (keep (otherBlock b))) rs)
-      (same-set (t .owner) b 0 (nodes (map (onBlocks (keep (otherBlock b))) rs)) (rw (w .now) a2)) (same-refl (t .place) (nodes (map (onBlocks (keep (otherBlock b))) rs)))
-      (has-keep (t .owner) (t .place) b rs (s .has)))
+      (has-same (t .owner) (set (t .owner) b 0) (t .location) (t .location) (map (onBlocks (keep (otherBlock b))) rs)
+      (same-set (t .owner) b 0 (nodes (map (onBlocks (keep (otherBlock b))) rs)) (rw (w .now) a2)) (same-refl (t .location) (nodes (map (onBlocks (keep (otherBlock b))) rs)))
+      (has-keep (t .owner) (t .location) b rs (s .has)))
       (λ m z. ⊎-elim
       (λ u. rw (eqb-true m b u) (getD-set-same (t .owner) b 0 0 (omega (arith, s .sized .owner))))
       (λ u. getD-set-other (t .owner) b m 0 0 (eqb-neq m b u)
@@ -145,7 +145,7 @@ module _ (t : Tables) (rs : List (Row ℕ)) (s : Shows t rs) where
       (either (eqb m b)))
 
   -- the node behind a list's blocks is of no list or of another
-  behind-other : (l : ℕ) → IsList l → (qs : List (Row ℕ)) → HasLists (t .owner) (t .place) qs → taken l qs ≡ false → (y : ℕ) (r : List ℕ) → nodes qs ++ 255 ∷ [] ≡ y ∷ r → ownerOf t y ≢ l
+  behind-other : (l : ℕ) → IsList l → (qs : List (Row ℕ)) → HasLists (t .owner) (t .location) qs → taken l qs ≡ false → (y : ℕ) (r : List ℕ) → nodes qs ++ 255 ∷ [] ≡ y ∷ r → ownerOf t y ≢ l
   unfolding taken
   behind-other l g [] w h y r e z =
       let q : 255 ≡ y = ap headOf e in
@@ -171,27 +171,27 @@ module _ (t : Tables) (rs : List (Row ℕ)) (s : Shows t rs) where
       let was : nodes rs ≡ A ++ (S ++ B) = ap nodes (w .was) ∙ nodes-append (w .before) (row l (w .blocks) ∷ w .after) in
       let now : nodes (keep (otherRow l) rs) ≡ A ++ B = ap nodes (w .kept) ∙ nodes-append (w .before) (w .after) in
       let c1 : chain rs ≡ A ++ (S ++ y ∷ r) = rw (was, append-assoc A (S ++ B), append-assoc S B, e) in
-      let h1 : HasLists (t .owner) (t .place) (w .before ++ row l (w .blocks) ∷ w .after) = subst (λ (z : List (Row ℕ)). HasLists (t .owner) (t .place) z) (w .was) (s .has) in
-      let h2 = has-right (t .owner) (t .place) (w .before) (row l (w .blocks) ∷ w .after) h1 in
-      let all : AllOf l (t .owner) S = (h2 .0 .owned, blocks-all (t .owner) (t .place) l (w .blocks) (h2 .1)) in
+      let h1 : HasLists (t .owner) (t .location) (w .before ++ row l (w .blocks) ∷ w .after) = subst (λ (z : List (Row ℕ)). HasLists (t .owner) (t .location) z) (w .was) (s .has) in
+      let h2 = has-right (t .owner) (t .location) (w .before) (row l (w .blocks) ∷ w .after) h1 in
+      let all : AllOf l (t .owner) S = (h2 .0 .owned, blocks-all (t .owner) (t .location) l (w .blocks) (h2 .1)) in
       let a1 : Apart (A ++ (S ++ y ∷ r)) = subst (λ (z : List ℕ). Apart z) c1 (s .apart .1) in
       let a2 : Apart (A ++ (S ++ B)) = subst (λ (z : List ℕ). Apart z) was apart-nodes in
       let k1 : Linked (t .next) (t .prev) 0 (A ++ (S ++ y ∷ r)) = subst (λ (z : List ℕ). Linked (t .next) (t .prev) 0 z) c1 (s .linked) in
-      let m1 : Small (A ++ (S ++ y ∷ r)) = subst (λ (z : List ℕ). Small z) c1 (chain-small (t .owner) (t .place) rs (s .has)) in
-      let q : freeFrom (t .next) l (64 + l) (t .owner) ≡ record { behind = y; owners = freed (t .owner) S } =
+      let m1 : Small (A ++ (S ++ y ∷ r)) = subst (λ (z : List ℕ). Small z) c1 (chain-small (t .owner) (t .location) rs (s .has)) in
+      let q : freeNodes (t .next) l (64 + l) (t .owner) ≡ record { behind = y; owners = freed (t .owner) S } =
       free-run (t .next) l (t .prev) (last 0 A) (64 + l) (blockNodes (w .blocks)) y r (t .owner) (g .0)
       (linked-tail (t .next) (t .prev) 0 A (S ++ y ∷ r) k1) (apart-right A (S ++ y ∷ r) a1) all (behind-other l g (w .after) (h2 .2) (w .others) y r e) in
-      let done : Shows (cutBetween (prevOf t (64 + l)) y (freed (t .owner) S) t) (keep (otherRow l) rs) =
+      let done : Shows (cutNodes (prevOf t (64 + l)) y (freed (t .owner) S) t) (keep (otherRow l) rs) =
       shows-cut t rs (keep (otherRow l) rs) s A S B (prevOf t (64 + l)) y r (freed (t .owner) S) was now
       (sym (prev-at (t .next) (t .prev) 0 A (64 + l) (blockNodes (w .blocks) ++ y ∷ r) k1)) e (freed-length (t .owner) S ∙ s .sized .owner)
-      (subst (λ (z : List (Row ℕ)). HasLists (freed (t .owner) S) (t .place) z) (sym (w .kept))
-      (has-same (t .owner) (freed (t .owner) S) (t .place) (t .place) (w .before ++ w .after)
+      (subst (λ (z : List (Row ℕ)). HasLists (freed (t .owner) S) (t .location) z) (sym (w .kept))
+      (has-same (t .owner) (freed (t .owner) S) (t .location) (t .location) (w .before ++ w .after)
       (subst (λ (z : List ℕ). Same (t .owner) (freed (t .owner) S) z) (sym (nodes-append (w .before) (w .after))) (freed-same (t .owner) S A B a2))
-      (same-refl (t .place) (nodes (w .before ++ w .after)))
-      (has-append (t .owner) (t .place) (w .before) (w .after) (has-left (t .owner) (t .place) (w .before) (row l (w .blocks) ∷ w .after) h1) (h2 .2))))
+      (same-refl (t .location) (nodes (w .before ++ w .after)))
+      (has-append (t .owner) (t .location) (w .before) (w .after) (has-left (t .owner) (t .location) (w .before) (row l (w .blocks) ∷ w .after) h1) (h2 .2))))
       (λ m z. freed-free m (t .owner) S (s .sized .owner) (small-left S (y ∷ r) (small-right A (S ++ y ∷ r) m1))
       (λ u. s .free m (rw was (away-append m A (S ++ B) (away-left m A B z) (away-append m S B u (away-right m A B z)))))) in
-      rw (taken-owner (t .owner) (t .place) l rs (s .has) h, q) done
+      rw (taken-owner (t .owner) (t .location) l rs (s .has) h, q) done
 
   shows-done : (c : Change ℕ) → Ranged c → applies c rs ≡ true → Shows (done c t) (changed 0 c rs)
   unfolding applies changed done putDone
@@ -209,8 +209,8 @@ module _ (t : Tables) (rs : List (Row ℕ)) (s : Shows t rs) where
   shows-done (delBlock b) g h = shows-delBlock b g h
   shows-done (delList l) g h = rw (node-of l (g .1)) (shows-delList l g h)
 
-  fits-applies : (c : Change ℕ) → Ranged c → fits c t ≡ applies c rs
-  unfolding fits applies putFits
+  fits-applies : (c : Change ℕ) → Ranged c → suits c t ≡ applies c rs
+  unfolding suits applies putFits
   fits-applies (takeList l) g = taken-free t rs s l g
   fits-applies (putFirst b l) g = rw (placed-free t rs s b (g .0), taken-own t rs s l (g .1)) (and-swap (not (placed b rs)) (taken l rs))
   fits-applies (putAfter b l p) g =
@@ -248,10 +248,10 @@ module _ (f : State ℕ → Option (State ℕ)) where
   represents-then (some s) q u v r h e k = k s (h .1)
 
 -- The state with no list.
-pub shows-emptied : Shows emptied []
-unfolding emptied
+pub shows-emptied : Shows cleared []
+unfolding cleared
 shows-emptied = record {
-  sized = record { next = refl; prev = refl; owner = refl; place = refl };
+  sized = record { next = refl; prev = refl; owner = refl; location = refl };
   apart = (((λ e. omega arith), tt), (tt, tt));
   linked = (refl, refl, tt);
   has = tt;

@@ -9,7 +9,7 @@ use lib.Dec.{eqb}
 use lib.ListN.{length, getD, replicate, getD-replicate}
 use Rattle.lists.specs.State.{Block, Row}
 use Rattle.lists.specs.Lookup.{blocksOf, nextIn, nextAfter, listNums, takenAfter}
-use Rattle.lists.specs.Tables.{Tables, Away, Apart, HasBlocks, HasLists, Shows, blockNodes, nodes, times}
+use Rattle.lists.specs.promises.Tables.{Tables, Away, Apart, HasBlocks, HasLists, Shows, blockNodes, nodes, times}
 use Rattle.lists.proofs.Basic.{either, eqb-same, eqb-false}
 use Rattle.lists.proofs.Chain.{away-right, apart-left, apart-right}
 use Rattle.lists.proofs.Freeing.{AllOf, all-times}
@@ -97,10 +97,10 @@ module _ (t : Tables) (rs : List (Row ℕ)) (s : Shows t rs) where
   apart-nodes = apart-left (nodes rs) (255 ∷ []) (s .apart .1)
 
   pub lists-apart : Apart (0 ∷ listNums rs)
-  lists-apart = (nums-some (t .owner) (t .place) rs (s .has), nums-apart rs apart-nodes)
+  lists-apart = (nums-some (t .owner) (t .location) rs (s .has), nums-apart rs apart-nodes)
 
   pub lists-few : length (listNums rs) ≤ 16
-  lists-few = few 16 (listNums rs) (nums-apart rs apart-nodes) (nums-marked (t .owner) (t .place) rs (s .has))
+  lists-few = few 16 (listNums rs) (nums-apart rs apart-nodes) (nums-marked (t .owner) (t .location) rs (s .has))
 
   -- from 0 on, as many times as there are lists
   pub lists-run : (i : ℕ) → i ≤ length (listNums rs) → takenAfter rs (getD (0 ∷ listNums rs) i 0) ≡ getD (listNums rs) i 0
@@ -108,10 +108,10 @@ module _ (t : Tables) (rs : List (Row ℕ)) (s : Shows t rs) where
   lists-run i h = nextIn-at (0 ∷ listNums rs) i lists-apart (omega arith)
 
   pub blocks-apart : (l : ℕ) → Apart (0 ∷ blocksOf rs l)
-  blocks-apart l = row-blocks (t .owner) (t .place) l rs (s .has) apart-nodes .0
+  blocks-apart l = row-blocks (t .owner) (t .location) l rs (s .has) apart-nodes .0
 
   pub blocks-few : (l : ℕ) → length (blocksOf rs l) ≤ 64
-  blocks-few l = few 64 (blocksOf rs l) (blocks-apart l .1) (row-blocks (t .owner) (t .place) l rs (s .has) apart-nodes .1)
+  blocks-few l = few 64 (blocksOf rs l) (blocks-apart l .1) (row-blocks (t .owner) (t .location) l rs (s .has) apart-nodes .1)
 
   pub blocks-run : (l i : ℕ) → i ≤ length (blocksOf rs l) → nextAfter rs l (getD (0 ∷ blocksOf rs l) i 0) ≡ getD (blocksOf rs l) i 0
   unfolding nextAfter

@@ -2,4 +2,4 @@ pub mod Basic
 pub mod Change
 pub mod Lookup
 pub mod State
-pub mod Tables
+pub mod promises

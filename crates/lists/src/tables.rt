@@ -4,15 +4,15 @@
 // of their taking, followed by its blocks in order. So a put is an insertion behind a node, first or not, a removal needs no search, and no end is
 // a special case. A node's owner is the list that it is of, 0 for a free one.
 //
-// The array holds node by node four bytes, next, prev, owner and the low byte of the place, and behind all nodes the high bytes of the places. Every
-// byte is the number of a node, so no function asks anything of its numbers. What is promised of a state asks that they are in range.
+// The array holds node by node four bytes, next, prev, owner and the low byte of its content's location, and behind all nodes the high bytes of
+// those. Every byte is the number of a node, so no function asks anything of its numbers. What is promised of a state asks that they are in range.
 use crate::kind;
 use crate::limits::BLOCKS;
 ghost use mathlib.Core.Path.{_≡_};
 ghost use Prim.Native.Nat.{_+_, _*_, _≤_};
 ghost use lib.ListN.{length};
 ghost use Rattle.lists.specs.Change.{takeList, putAfter, write, delBlock, delList};
-ghost use Rattle.lists.specs.Tables.{tablesIn, nextOf, prevOf, ownerOf, placeOf, listNode, withNext, withPrev, withOwner, withPlace, linkNodes, insertNode, Frees, blockOr0, listWithin, emptied, Did, DidSome, ofKind, SaysTaken, SaysPlaced, SaysOn, SaysLocation, SaysBlockAfter, SaysListAfter};
+ghost use Rattle.lists.specs.promises.Tables.{tablesIn, nextOf, prevOf, ownerOf, listNode, withNext, withPrev, withOwner, withLocation, linkNodes, insertNode, Frees, blockOr0, listWithin, cleared, Did, DidSome, ofKind, SaysTaken, SaysPlaced, SaysOn, SaysLocation, SaysBlockAfter, SaysListAfter};
 
 const START: u8 = 0;
 
@@ -24,14 +24,14 @@ const LIST_NODES: u8 = 64;
 // The location of a fresh block's content.
 const BLANK: u16 = 0;
 
-// Where a node's bytes stand: from NODE * x on, and the high byte of its place at HIGH + x.
+// Where a node's bytes stand: from NODE * x on, and the high byte of its location at HIGH + x.
 const NODE: usize = 4;
 
 const PREV: usize = 1;
 
 const OWNER: usize = 2;
 
-const PLACE: usize = 3;
+const LOCATION: usize = 3;
 
 const HIGH: usize = 1024;
 
@@ -65,14 +65,6 @@ pub fn of_bytes(low: u8, high: u8) -> u16
     low as u16 + 256 * high as u16
 }
 
-fn place_of(nodes: &[u8; 1280], x: u8) -> u16
-    ensures { λ r. ⌜ r ≡ placeOf (tablesIn (now (nodes .entry))) x ⌝ }
-{
-    let low = nodes[NODE * x as usize + PLACE];
-    let high = nodes[HIGH + x as usize];
-    of_bytes(low, high)
-}
-
 fn set_next(nodes: &mut [u8; 1280], x: u8, y: u8)
     ensures { λ r. ⌜ tablesIn (now (nodes .exit)) ≡ withNext x y (tablesIn (now (nodes .entry))) ⌝ }
 {
@@ -94,11 +86,11 @@ fn set_owner(nodes: &mut [u8; 1280], x: u8, list: u8)
     nodes[NODE * x as usize + OWNER] = list;
 }
 
-fn set_place(nodes: &mut [u8; 1280], x: u8, location: u16)
-    ensures { λ r. ⌜ tablesIn (now (nodes .exit)) ≡ withPlace x location (tablesIn (now (nodes .entry))) ⌝ }
+fn set_location(nodes: &mut [u8; 1280], x: u8, location: u16)
+    ensures { λ r. ⌜ tablesIn (now (nodes .exit)) ≡ withLocation x location (tablesIn (now (nodes .entry))) ⌝ }
 {
     sized(*nodes);
-    nodes[NODE * x as usize + PLACE] = (location % 256) as u8;
+    nodes[NODE * x as usize + LOCATION] = (location % 256) as u8;
     nodes[HIGH + x as usize] = (location / 256) as u8;
 }
 
@@ -119,7 +111,7 @@ fn link(nodes: &mut [u8; 1280], x: u8, y: u8)
 
 // The tables of the state with no list: every node is free, and the end follows the start. What they held does not matter.
 pub fn clear(nodes: &mut [u8; 1280])
-    ensures { λ r. ⌜ tablesIn (now (nodes .exit)) ≡ emptied ⌝ }
+    ensures { λ r. ⌜ tablesIn (now (nodes .exit)) ≡ cleared ⌝ }
 {
     *nodes = [0u8; 1280];
     link(nodes, START, END);
@@ -159,7 +151,7 @@ fn put(nodes: &mut [u8; 1280], block: u8, list: u8, x: u8) -> bool
         return false;
     }
     insert(nodes, x, block, list);
-    set_place(nodes, block, BLANK);
+    set_location(nodes, block, BLANK);
     true
 }
 
@@ -169,7 +161,7 @@ fn write_block(nodes: &mut [u8; 1280], block: u8, location: u16) -> bool
     if owner_of(nodes, block) == 0 {
         return false;
     }
-    set_place(nodes, block, location);
+    set_location(nodes, block, location);
     true
 }
 
@@ -264,7 +256,9 @@ pub fn is_on(nodes: &[u8; 1280], list: u8, block: u8) -> bool
 pub fn location_of(nodes: &[u8; 1280], block: u8) -> u16
     ensures { λ r. ⌜ SaysLocation (tablesIn (now (nodes .entry))) block r ⌝ }
 {
-    place_of(nodes, block)
+    let low = nodes[NODE * block as usize + LOCATION];
+    let high = nodes[HIGH + block as usize];
+    of_bytes(low, high)
 }
 
 // The block that follows node x, 0 if none does.

@@ -21,7 +21,7 @@ use Rattle.log.proofs.CardLength.{card-size}
 use Rattle.log.proofs.Places.{fits-both}
 use Rattle.log.proofs.EntryStores.{storeOf, dataAt, codeAt}
 use Rattle.log.proofs.LogStores.{going, dataBytes, codeBytes, stores-many, store-data, store-code}
-use Rattle.log.specs.Begun.{standsFrom}
+use Rattle.log.specs.promises.Begun.{standsFrom}
 
 -- A loop over bytes.
 abbrev pub sameAt : List ℕ → ℕ → List ℕ → ℕ → Bool

@@ -6,8 +6,8 @@ use Prim.Native.Nat.{ℕ, suc, _+_, _-_, _*_, _≤_, _<_}
 use native.Mathlib.Omega.{arith}
 use borrow.Author.Tests.{lt-ltb}
 use lib.ListN.{length, take, drop, length-take, length-drop, drop-of-length-le}
-use Rattle.log.specs.Card.{zeros, slot}
-use Rattle.log.specs.Location.{contentAt, splice}
+use Rattle.log.specs.Card.{zeros, slot, splice}
+use Rattle.log.specs.promises.Location.{contentAt}
 use Rattle.log.proofs.Locations.{content-queue, content-journal}
 
 -- all of the destination is new

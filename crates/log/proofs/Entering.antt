@@ -10,15 +10,15 @@ use lib.ListN.{length, set, length-append}
 use borrow.Author.Tests.{leb-true}
 use Rattle.lists.specs.Basic.{guard, bind}
 use Rattle.lists.specs.Change.{takeList, putFirst, putAfter, write, delBlock, delList, mapChange, carriedBy}
-use Rattle.lists.specs.Tables.{Tables, DidSome}
+use Rattle.lists.specs.promises.Tables.{Tables, DidSome}
 use Rattle.lists.proofs.Basic.{bind-some, guard-some, eqb-true}
 use Rattle.log.specs.Entry.{Entry, plain, member, commit, mapEntry, carried, changeBytes, encode, decode, raw, entryLength, legal, asEntry}
 use Rattle.log.specs.Reader.{Reader, read}
 use Rattle.log.specs.Card.{usedBy, isNext, entryAt, Item, good, itemsOf, walk, fault}
-use Rattle.log.specs.Feed.{Lent, memberSet, fieldsOf, ReadTo, Commits}
-use Rattle.log.specs.Location.{cardLocation}
-use Rattle.log.specs.Found.{entered, bytesFrom, Stands}
-use Rattle.log.specs.Walk.{runAfter, Reads, stepIf, Enters, Steps, Went}
+use Rattle.log.specs.promises.Feed.{Memory, memberSet, fieldsOf, ReadTo, Commits}
+use Rattle.log.specs.promises.Location.{cardLocation}
+use Rattle.log.specs.promises.Found.{entered, bytesFrom, Stands}
+use Rattle.log.specs.promises.Walk.{runAfter, Reads, stepIf, Enters, Advances, Went}
 use Rattle.log.specs.declared.walk.Cursor.{Cursor}
 use Rattle.log.specs.declared.walk.Step.{Step}
 use Rattle.log.specs.declared.walk.Step.the-variants.{Next, Stuck}
@@ -31,7 +31,7 @@ use Rattle.log.proofs.Parsing.{part-size}
 use Rattle.log.proofs.Feeding.{NoCommit, fieldsChange, ended, legal-ranged, read-now, read-later}
 
 -- A parsed entry, which is x, read.
-module _ (m : Lent) (run : ℕ) (e x : LogEntry) (q : e ≡ x) (d : ℕ) where
+module _ (m : Memory) (run : ℕ) (e x : LogEntry) (q : e ≡ x) (d : ℕ) where
   reads-now : (b : Bool) (u : Tables) → NoCommit x → DidSome (fieldsChange x d) (m .tables) b u → Reads m run false e d b (ended m u)
   reads-now b u n w r k l = rw q (read-now x n m run r k d (legal-ranged x n (rw q at l)) b u w)
 
@@ -43,13 +43,13 @@ module _ (m : Lent) (run : ℕ) (e x : LogEntry) (q : e ≡ x) (d : ℕ) where
       })
   reads-later d′ n p v r k l = rw (q, p) (read-later x n m run r k d (legal-ranged x n (rw q at l)) d′ v)
 
-reads-commit : (m : Lent) (run : ℕ) (e : LogEntry) (n d : ℕ) → e ≡ Commit n → (b : Bool) (m′ : Lent) → Commits m run n b m′ → Reads m run false e d b m′
+reads-commit : (m : Memory) (run : ℕ) (e : LogEntry) (n d : ℕ) → e ≡ Commit n → (b : Bool) (m′ : Memory) → Commits m run n b m′ → Reads m run false e d b m′
 unfolding asEntry mapEntry legal
 reads-commit m run e n d q b m′ w r k l = rw q (w r k (leb-true n 15 (rw q at l)))
 
 -- The step behind it, k slots being used before it, j behind it.
-module _ (m : Lent) (run : ℕ) (e x : LogEntry) (q : e ≡ x) (d a k : ℕ) where
-  enters-if : (t b : Bool) (m′ : Lent) (s : Step) (j : ℕ) → s ≡ stepIf b a j (runAfter t run) → j ≡ k + usedBy (carried (asEntry false x)) → Reads m run t e d b m′ → Enters m run t e d a k s m′
+module _ (m : Memory) (run : ℕ) (e x : LogEntry) (q : e ≡ x) (d a k : ℕ) where
+  enters-if : (t b : Bool) (m′ : Memory) (s : Step) (j : ℕ) → s ≡ stepIf b a j (runAfter t run) → j ≡ k + usedBy (carried (asEntry false x)) → Reads m run t e d b m′ → Enters m run t e d a k s m′
   enters-if t true m′ s j g u w = rw (g, u, q) (refl, rw q at w)
   enters-if t false m′ s j g u w = rw g w
 
@@ -67,10 +67,10 @@ module _ (m : Lent) (run : ℕ) (e x : LogEntry) (q : e ≡ x) (d a k : ℕ) whe
   enters-later d′ s j g l n o v = enters-if true true _ s j g l (reads-later m run e x q d d′ n o v)
 
   -- a take or a commit with the mark
-  pub enters-never : (m′ : Lent) → entered true x ≡ none → Enters m run true e d a k Stuck m′
+  pub enters-never : (m′ : Memory) → entered true x ≡ none → Enters m run true e d a k Stuck m′
   enters-never m′ p r h l = rw (q, p) refl
 
-pub enters-commit : (m : Lent) (run : ℕ) (e : LogEntry) (n d a k : ℕ) (q : e ≡ Commit n) (b : Bool) (m′ : Lent) (s : Step) → s ≡ stepIf b a k 0 → Commits m run n b m′
+pub enters-commit : (m : Memory) (run : ℕ) (e : LogEntry) (n d a k : ℕ) (q : e ≡ Commit n) (b : Bool) (m′ : Memory) (s : Step) → s ≡ stepIf b a k 0 → Commits m run n b m′
     → Enters m run false e d a k s m′
 unfolding asEntry carried usedBy
 enters-commit m run e n d a k q b m′ s g w = enters-if m run e (Commit n) q d a k false b m′ s k g (sym (add-zero k)) (reads-commit m run e n d q b m′ w)
@@ -152,8 +152,8 @@ size-read k bs y rest h =
 abbrev pub cursor : ℕ → ℕ → ℕ → Cursor
 cursor a k run = record { at = a; slots = k; run = run }
 
-module _ (c : List ℕ) (g : ℕ) (cur : Cursor) (m m′ : Lent) where
-  pub steps-bad : entryAt (cur .slots) (bytesFrom c g (cur .at)) ≡ none → Steps c g cur m Stuck m′
+module _ (c : List ℕ) (g : ℕ) (cur : Cursor) (m m′ : Memory) where
+  pub steps-bad : entryAt (cur .slots) (bytesFrom c g (cur .at)) ≡ none → Advances c g cur m Stuck m′
   steps-bad p r k n i is = items-bad cardLocation g (cur .slots) n i (bytesFrom c g (cur .at)) is r p
 
   module _ (h : 4096 * g + 4096 ≤ length c) (t : Bool) (x : LogEntry) (n : ℕ) (f : Stands c g (cur .at) (cur .slots) t x n) where
@@ -163,7 +163,7 @@ module _ (c : List ℕ) (g : ℕ) (cur : Cursor) (m m′ : Lent) where
     placed : (y : Entry ℕ) → entered t x ≡ some y → mapEntry (λ s. cardLocation g (cur .slots)) y ≡ mapEntry (cardLocation g) y
     placed y u = place-next (cardLocation g) (cur .slots) y (rw (carried-mark x y t u) (f .turn))
 
-    steps-refused : Reads m (cur .run) t x (cardLocation g (cur .slots)) false m′ → Steps c g cur m Stuck m′
+    steps-refused : Reads m (cur .run) t x (cardLocation g (cur .slots)) false m′ → Advances c g cur m Stuck m′
     steps-refused w r k j i is = go (entered t x) refl (w r k (f .ranged))
       where
         go : (o : Option (Entry ℕ)) → entered t x ≡ o → bind o (λ y. read 0 r (mapEntry (λ s. cardLocation g (cur .slots)) y)) ≡ none
@@ -172,7 +172,7 @@ module _ (c : List ℕ) (g : ℕ) (cur : Cursor) (m m′ : Lent) where
         go (some y) u z = items-stuck cardLocation g (cur .slots) j i (bytesFrom c g (cur .at)) is r y (bytesFrom c g n) (here-is (some y) u) (rw (placed y u) at z)
 
     steps-next : Reads m (cur .run) t x (cardLocation g (cur .slots)) true m′
-        → Steps c g cur m (Next (cursor n (cur .slots + usedBy (carried (asEntry false x))) (runAfter t (cur .run)))) m′
+        → Advances c g cur m (Next (cursor n (cur .slots + usedBy (carried (asEntry false x))) (runAfter t (cur .run)))) m′
     steps-next w = record {
       onward = f .onward;
       until = f .until;
@@ -209,6 +209,6 @@ module _ (c : List ℕ) (g : ℕ) (cur : Cursor) (m m′ : Lent) where
               kept = z .2;
             }
 
-    pub steps-entered : (s : Step) → Enters m (cur .run) t x (cardLocation g (cur .slots)) n (cur .slots) s m′ → Steps c g cur m s m′
+    pub steps-entered : (s : Step) → Enters m (cur .run) t x (cardLocation g (cur .slots)) n (cur .slots) s m′ → Advances c g cur m s m′
     steps-entered Stuck w = steps-refused w
     steps-entered (Next next) w = rw (w .0) (steps-next (w .1))

@@ -15,12 +15,12 @@ use borrow.Author.Tests.{le-leb, lt-leb, leb-true}
 use Rattle.lists.specs.Basic.{bind}
 use Rattle.lists.specs.Change.{Change, takeList, putFirst, putAfter, write, delBlock, delList, mapChange}
 use Rattle.lists.specs.State.{State, apply, applyAll}
-use Rattle.lists.specs.Tables.{Tables, Shows, Ranged, Represents, Did, DidSome, ofKind}
+use Rattle.lists.specs.promises.Tables.{Tables, Shows, Ranged, Represents, Did, DidSome, ofKind}
 use Rattle.lists.proofs.Basic.{and-true}
 use Rattle.lists.proofs.Represents.{did-apply}
 use Rattle.log.specs.Entry.{plain, member, commit, mapEntry, isBlock, isList, isSlot, legalChange, legal, hasMember, raw, asChange, asEntry}
 use Rattle.log.specs.Reader.{Reader, reader, settled, read, lastOf}
-use Rattle.log.specs.Feed.{Lent, memberSet, Recalled, Recalls, Kept, ReadTo, fieldsOf, FedTo, fedIf, RunUpTo, Commits}
+use Rattle.log.specs.promises.Feed.{Memory, memberSet, Recalled, Recalls, Keeps, ReadTo, fieldsOf, FedTo, fedIf, RunUpTo, Commits}
 use Rattle.log.specs.declared.entry.LogEntry.{LogEntry}
 use Rattle.log.specs.declared.entry.LogEntry.the-variants.{Take, PutFirst, PutAfter, Write, DeleteBlock, DeleteList, Commit}
 use Rattle.log.specs.declared.feed.Fed.the-variants.{Run}
@@ -129,11 +129,11 @@ module _ (ms : List ℕ) (run : ℕ) (cs : List (Change ℕ)) (w : Recalls ms ru
           rw (getD-at cs c [] (takeList 0) j (w .size ∙ sym e), e) last-recalled
 
 -- The tables of a state after the run has ended.
-abbrev pub ended : Lent → Tables → Lent
+abbrev pub ended : Memory → Tables → Memory
 ended m u = record { tables = u; members = m .members }
 
-module _ (m : Lent) (run : ℕ) (r : Reader ℕ) (k : Kept m run r) where
-  kept-settled : (u : Tables) (s : State ℕ) → Shows u (s .lists) → Kept (ended m u) 0 (settled s)
+module _ (m : Memory) (run : ℕ) (r : Reader ℕ) (k : Keeps m run r) where
+  kept-settled : (u : Tables) (s : State ℕ) → Shows u (s .lists) → Keeps (ended m u) 0 (settled s)
   kept-settled u s h = record {
     shows = h;
     recalls = record { bytes = k .recalls .bytes; size = refl; each = λ j lo hi. absurd (omega arith) };
@@ -266,7 +266,7 @@ module _ (e : LogEntry) (n : NoCommit e) where
       let k : legal (mapEntry (λ s. 0) (plain (asChange e))) ≡ true = rw (entry-change false e n) at h in
       ranged-map (λ s. 0) (asChange e) .0 (change-ranged (mapChange (λ s. 0) (asChange e)) k)
 
-  module _ (m : Lent) (run : ℕ) (r : Reader ℕ) (k : Kept m run r) (d : ℕ) (g : Ranged (asChange e)) where
+  module _ (m : Memory) (run : ℕ) (r : Reader ℕ) (k : Keeps m run r) (d : ℕ) (g : Ranged (asChange e)) where
     -- made at once
     pub read-now : (b : Bool) (u : Tables) → DidSome (fieldsChange e d) (m .tables) b u → ReadTo (read 0 r (mapEntry (λ s. d) (asEntry false e))) b (ended m u) 0
     unfolding mapEntry
@@ -292,12 +292,12 @@ pub run-settled : (n : ℕ) (b : Bool) → RunUpTo n (fedIf b)
 run-settled n true = omega arith
 run-settled n false = tt
 
-fed-read : (o : Option (Reader ℕ)) (b : Bool) (m : Lent) → ReadTo o b m 0 → FedTo o (fedIf b) m
+fed-read : (o : Option (Reader ℕ)) (b : Bool) (m : Memory) → ReadTo o b m 0 → FedTo o (fedIf b) m
 fed-read o true m h = h
 fed-read o false m h = h
 
-module _ (m : Lent) (run : ℕ) (r : Reader ℕ) (k : Kept m run r) (d : ℕ) (t : Bool) (e : LogEntry) (l : legal (raw 0 (asEntry t e)) ≡ true) where
-  pub fed-commit : (b : Bool) (m′ : Lent) → fieldsOf e .kind ≡ 0 → Commits m run (fieldsOf e .count) b m′ → FedTo (read 0 r (mapEntry (λ s. d) (asEntry t e))) (fedIf b) m′
+module _ (m : Memory) (run : ℕ) (r : Reader ℕ) (k : Keeps m run r) (d : ℕ) (t : Bool) (e : LogEntry) (l : legal (raw 0 (asEntry t e)) ≡ true) where
+  pub fed-commit : (b : Bool) (m′ : Memory) → fieldsOf e .kind ≡ 0 → Commits m run (fieldsOf e .count) b m′ → FedTo (read 0 r (mapEntry (λ s. d) (asEntry t e))) (fedIf b) m′
   unfolding asEntry mapEntry legal raw
   fed-commit b m′ z w = go e z l w
     where

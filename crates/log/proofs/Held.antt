@@ -31,7 +31,7 @@ use denote.Steps.{owned, peeks, heard}
 use denote.Struct.Declared.{Declared}
 use denote.Struct.Laws as LL
 use denote.Struct.Rest.{own-open, own-shut}
-use Rattle.log.specs.Found.{InSegment, Finds}
+use Rattle.log.specs.promises.Found.{InSegment, Finds}
 use Rattle.log.specs.declared.reader.Found.{Found}
 use Rattle.log.specs.declared.reader.Reader.{Reader}
 use Rattle.log.proofs.reader.Reader as T

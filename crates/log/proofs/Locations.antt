@@ -12,7 +12,7 @@ use Rattle.lists.proofs.Basic.{and-true, bind-some, guard-some}
 use Rattle.log.specs.Entry.{Entry, plain, member, commit, mapEntry, carried, isBlock, isSlot, legalChange, hasMember, legal, decode}
 use Rattle.log.specs.Card.{slot, cardSlot, cardLength, segmentsIn, count, segmentEntries, segmentItems, isNext, usedBy, entryAt, Item, good, bad, itemsOf, afterEmpty, items, sound, fault, walkCard, mounted}
 use Rattle.log.specs.Reader.{Reader}
-use Rattle.log.specs.Location.{cardLocation, queueLocation, journalLocation, contentAt}
+use Rattle.log.specs.promises.Location.{cardLocation, queueLocation, journalLocation, contentAt}
 use Rattle.log.proofs.Decode.{decode-complete}
 use Rattle.log.proofs.Naturality.{mapReader, mapOutcome, walkCard-map}
 use Rattle.log.proofs.Walking.{card-small}

@@ -17,8 +17,8 @@ use Rattle.lists.specs.Change.{Change, carriedBy}
 use Rattle.lists.proofs.Basic.{bind-bind, bind-ext, bind-some, guard-some, eqb-true, all-from}
 use Rattle.log.specs.Entry.{Entry, plain, member, commit, hasMember, asEntry, changeOf, entryOf, checked, legal, legalChange, isBlock, isList, isSlot, isCount, sizeOf, decode, carried}
 use Rattle.log.specs.Card.{part, isNext, entryAt}
-use Rattle.log.specs.Parse.{byteAt, decodedAt}
-use Rattle.log.specs.Found.{entered, InSegment, bytesFrom, Stands}
+use Rattle.log.specs.promises.Parse.{byteAt, decodedAt}
+use Rattle.log.specs.promises.Found.{entered, InSegment, bytesFrom, Stands}
 use Rattle.log.specs.declared.entry.LogEntry.{LogEntry}
 use Rattle.log.specs.declared.entry.LogEntry.the-variants.{Take, PutFirst, PutAfter, Write, DeleteBlock, DeleteList, Commit}
 

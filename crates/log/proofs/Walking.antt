@@ -10,15 +10,15 @@ use native.Mathlib.Numerals.{add-one}
 use lib.Dec.{leb, eqb}
 use lib.ListN.{length, getD}
 use borrow.Author.Tests.{leb-true, lt-ltb, le-ltb, ne-eqb}
-use Rattle.lists.specs.Tables.{Shows}
+use Rattle.lists.specs.promises.Tables.{Shows}
 use Rattle.lists.proofs.Basic.{eqb-same, and-true}
 use Rattle.log.specs.Entry.{entryLength}
 use Rattle.log.specs.Reader.{Reader, start}
 use Rattle.log.specs.Card.{cardLength, segmentsIn, cardSlot, count, segmentEntries, segmentItems, Item, good, bad, itemsOf, afterEmpty, items, walk, walkCard, fault}
-use Rattle.log.specs.Feed.{Lent, Kept}
-use Rattle.log.specs.Location.{cardLocation}
+use Rattle.log.specs.promises.Feed.{Memory, Keeps}
+use Rattle.log.specs.promises.Location.{cardLocation}
 use Rattle.log.specs.Store.{opened, after, behind, behindAll, tail}
-use Rattle.log.specs.Walk.{itemsFrom, Went, seat, Through, FirstUsed, Sounds}
+use Rattle.log.specs.promises.Walk.{itemsFrom, Went, seat, Through, FirstUsed, Sounds}
 use Rattle.log.specs.declared.place.Place.{Place}
 use Rattle.log.specs.declared.walk.Cursor.{Cursor}
 use Rattle.log.proofs.Naturality.{tail-map}
@@ -29,19 +29,19 @@ use Rattle.log.proofs.Entering.{cursor}
 abbrev pub placeIn : ℕ → Cursor → ℕ → Place
 placeIn g cur i = record { segment = g; entries = i; bytes = cur .at - (4096 * g + 3585); slots = cur .slots }
 
-pub record Past (c : List ℕ) (g n i : ℕ) (cur : Cursor) (r : Reader ℕ) (m : Lent) : Type 0 where
+pub record Past (c : List ℕ) (g n i : ℕ) (cur : Cursor) (r : Reader ℕ) (m : Memory) : Type 0 where
   pub place : (p₀ : Place) → seat g p₀ ≡ opened g
       → (p : Place) × (seat g p ≡ placeIn g cur i) × (0 < i → p ≡ placeIn g cur i)
       × ((is : List (Item ℕ)) → behindAll p₀ (segmentItems cardLocation c g ++ is) ≡ behindAll p (itemsFrom c g cur (n - i) i ++ is))
   pub reader : Reader ℕ
-  pub kept : Kept m (cur .run) reader
+  pub kept : Keeps m (cur .run) reader
   pub walked : (is : List (Item ℕ)) → walk 0 r (segmentItems cardLocation c g ++ is) ≡ walk 0 reader (itemsFrom c g cur (n - i) i ++ is)
 
 segment-start : (c : List ℕ) (g n run : ℕ) → n ≡ count c g → segmentItems cardLocation c g ≡ itemsFrom c g (cursor (4096 * g + 3585) 0 run) (n - 0) 0
 unfolding segmentItems segmentEntries
 segment-start c g n run h = let e : n - 0 ≡ count c g = omega arith in rw e
 
-pub past-start : (c : List ℕ) (g n run : ℕ) (r : Reader ℕ) (m : Lent) → n ≡ count c g → Kept m run r → Past c g n 0 (cursor (4096 * g + 3585) 0 run) r m
+pub past-start : (c : List ℕ) (g n run : ℕ) (r : Reader ℕ) (m : Memory) → n ≡ count c g → Keeps m run r → Past c g n 0 (cursor (4096 * g + 3585) 0 run) r m
 unfolding opened
 past-start c g n run r m h k = record {
   place = λ p₀ s. (p₀, s ∙ ap (λ (b : ℕ). record { segment = g; entries = 0; bytes = b; slots = 0 }) none, (λ z. absurd (omega arith)), λ is. rw (segment-start c g n run h));
@@ -53,12 +53,12 @@ past-start c g n run r m h k = record {
     none : 0 ≡ 4096 * g + 3585 - (4096 * g + 3585)
     none = omega arith
 
-module _ (c : List ℕ) (g n i : ℕ) (cur : Cursor) (r : Reader ℕ) (m : Lent) (past : Past c g n i cur r m) where
+module _ (c : List ℕ) (g n i : ℕ) (cur : Cursor) (r : Reader ℕ) (m : Memory) (past : Past c g n i cur r m) where
   pub past-stuck : i < n → ((j k : ℕ) (is : List (Item ℕ)) → walk 0 (past .reader) (itemsFrom c g cur (suc j) k ++ is) ≡ fault g k)
       → (is : List (Item ℕ)) → walk 0 r (segmentItems cardLocation c g ++ is) ≡ fault g i
   past-stuck h f is = let e : n - i ≡ suc (n - (i + 1)) = omega arith in past .walked is ∙ rw e (f (n - (i + 1)) i is)
 
-  pub past-more : (next : Cursor) (m′ : Lent) → i < n → 4096 * g + 3585 ≤ cur .at → Went c g cur (past .reader) next m′ → Past c g n (i + 1) next r m′
+  pub past-more : (next : Cursor) (m′ : Memory) → i < n → 4096 * g + 3585 ≤ cur .at → Went c g cur (past .reader) next m′ → Past c g n (i + 1) next r m′
   unfolding behindAll behind after walk
   past-more next m′ h l w = record {
     place = λ p₀ s.
@@ -106,18 +106,18 @@ module _ (c : List ℕ) (h n : ℕ) where
   empty-more g k = let e : n - h ≡ suc (n - (h + 1)) = omega arith in rw (e, add-one h) (rw (k, afterEmpty))
 
 -- The card, which has n segments, passed up to segment g.
-pub record Upto (c : List ℕ) (n g run : ℕ) (p : Place) (m : Lent) : Type 0 where
+pub record Upto (c : List ℕ) (n g run : ℕ) (p : Place) (m : Memory) : Type 0 where
   pub seated : seat g p ≡ opened g
   pub place : tail c ≡ behindAll p (items cardLocation c (n - g) g)
   pub reader : Reader ℕ
-  pub kept : Kept m run reader
+  pub kept : Keeps m run reader
   pub walked : walkCard cardLocation 0 c ≡ walk 0 reader (items cardLocation c (n - g) g)
 
 pub card-small : (c : List ℕ) → cardLength c ≡ true → (length c ≡ 4096 * segmentsIn c) × (segmentsIn c ≤ 64)
 unfolding cardLength
 card-small c h = (card-size c h .0, leb-true (segmentsIn c) 64 (and-true (eqb (length c % 4096) 0 && leb 1 (segmentsIn c)) (leb (segmentsIn c) 64) h .1))
 
-pub upto-start : (c : List ℕ) (m : Lent) → Shows (m .tables) [] → length (m .members) ≡ 128 → Upto c (segmentsIn c) 0 0 (opened 0) m
+pub upto-start : (c : List ℕ) (m : Memory) → Shows (m .tables) [] → length (m .members) ≡ 128 → Upto c (segmentsIn c) 0 0 (opened 0) m
 unfolding walkCard tail opened
 upto-start c m h a = record {
   seated = refl;
@@ -130,7 +130,7 @@ upto-start c m h a = record {
     whole : segmentsIn c - 0 ≡ segmentsIn c
     whole = omega arith
 
-module _ (c : List ℕ) (n g run : ℕ) (p : Place) (m : Lent) (upto : Upto c n g run p m) where
+module _ (c : List ℕ) (n g run : ℕ) (p : Place) (m : Memory) (upto : Upto c n g run p m) where
   empty-items : g < n → getD c (4096 * g + 3584) 0 ≡ 0 → items cardLocation c (n - g) g ≡ afterEmpty c (n - (g + 1)) (g + 1)
   unfolding items count
   empty-items h k = let e : n - g ≡ suc (n - (g + 1)) = omega arith in rw (e, add-one g) (rw (k, items))
@@ -169,7 +169,7 @@ module _ (c : List ℕ) (n g run : ℕ) (p : Place) (m : Lent) (upto : Upto c n 
   pub upto-broken : g < n → getD c (4096 * g + 3584) 0 ≢ 0 → (i : ℕ) → ((is : List (Item ℕ)) → walk 0 (upto .reader) (segmentItems cardLocation c g ++ is) ≡ fault g i) → walkCard cardLocation 0 c ≡ fault g i
   upto-broken h k i f = upto .walked ∙ rw (used-items h k) (f (items cardLocation c (n - (g + 1)) (g + 1)))
 
-  pub upto-more : g < n → getD c (4096 * g + 3584) 0 ≢ 0 → (p′ : Place) (run′ : ℕ) (m′ : Lent) → p′ .segment ≡ g → Through c g (upto .reader) p′ run′ m′ → Upto c n (g + 1) run′ p′ m′
+  pub upto-more : g < n → getD c (4096 * g + 3584) 0 ≢ 0 → (p′ : Place) (run′ : ℕ) (m′ : Memory) → p′ .segment ≡ g → Through c g (upto .reader) p′ run′ m′ → Upto c n (g + 1) run′ p′ m′
   upto-more h k p′ run′ m′ s t = record {
     seated = rw (ne-eqb (p′ .segment) (g + 1) (λ z. omega arith));
     place = upto .place ∙ rw (used-items h k) (t .place p (upto .seated) (items cardLocation c (n - (g + 1)) (g + 1)));

@@ -15,7 +15,7 @@ use Rattle.log.specs.declared.place.Place.{Place}
 use Rattle.log.specs.Entry.{Entry, plain, member, commit, mapEntry, carried, changeBytes, encode, raw, entryLength, asEntry}
 use Rattle.log.specs.Card.{usedBy}
 use Rattle.log.specs.Store.{opened, after, fits, home}
-use Rattle.log.specs.Within.{Within}
+use Rattle.log.specs.promises.Within.{Within}
 use Rattle.log.proofs.Naturality.{entryLength-map}
 use Rattle.log.proofs.Segment.{used-map}
 use Rattle.log.proofs.Places.{fits-both, fits-opened}

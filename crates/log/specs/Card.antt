@@ -44,6 +44,10 @@ zeros = replicate slotBytes 0
 unfoldable pub slot : List ℕ → ℕ → Content
 slot l k = take slotBytes (drop (slotBytes * k) l)
 
+-- bytes v put into a buffer from i on
+unfoldable pub splice : List ℕ → ℕ → List ℕ → List ℕ
+splice d i v = take i d ++ v ++ drop (i + length v) d
+
 -- the content of slot k of segment g; a segment is 16 times 256 bytes
 unfoldable pub cardSlot : List ℕ → ℕ → ℕ → Content
 cardSlot c g k = slot c (16 * g + k)

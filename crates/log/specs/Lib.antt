@@ -3,12 +3,5 @@ pub mod Reader
 pub mod Card
 pub mod Store
 pub mod Flush
-pub mod Parse
-pub mod Within
 pub mod Turns
-pub mod Begun
-pub mod Location
-pub mod Found
-pub mod Feed
-pub mod Walk
-pub mod Mount
+pub mod promises

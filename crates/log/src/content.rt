@@ -7,7 +7,7 @@ ghost use mathlib.Core.Path.{_≡_};
 ghost use Prim.Native.Nat.{_≤_};
 ghost use lib.ListN.{length};
 ghost use Rattle.log.specs.Card.{slot};
-ghost use Rattle.log.specs.Location.{contentAt};
+ghost use Rattle.log.specs.promises.Location.{contentAt};
 
 const QUEUE: usize = QUEUE_AT as usize;
 

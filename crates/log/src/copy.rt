@@ -2,7 +2,7 @@
 ghost use mathlib.Core.Path.{_≡_};
 ghost use Prim.Native.Nat.{ℕ, _+_, _-_, _*_, _<_, _≤_};
 ghost use lib.ListN.{length, getD, set};
-ghost use Rattle.log.specs.Location.{splice};
+ghost use Rattle.log.specs.Card.{splice};
 
 // The first 256 bytes of src go to dest from `at` on.
 pub fn copy_in(dest: &mut [u8], at: usize, src: &[u8])

@@ -9,8 +9,8 @@ use lists::tables::of_bytes;
 ghost use mathlib.Core.Path.{_≡_};
 ghost use mathlib.Core.Bool.{true};
 ghost use Prim.Native.Nat.{_<_};
-ghost use Rattle.lists.specs.Tables.{tablesIn};
-ghost use Rattle.log.specs.Feed.{lent, memberSet, fieldsOf, fedIf, ActsMember, Commits, Feeds};
+ghost use Rattle.lists.specs.promises.Tables.{tablesIn};
+ghost use Rattle.log.specs.promises.Feed.{memory, memberSet, fieldsOf, fedIf, ActsMember, Commits, Feeds};
 
 const KEPT: usize = 16;
 
@@ -58,7 +58,7 @@ pub fn keep(
 
 // Member `j` of the run acts.
 fn act_member(nodes: &mut [u8; 1280], members: &[u8; 128], j: usize) -> bool
-    ensures { λ r. ⌜ ActsMember (lent (now (nodes .entry)) (now (members .entry))) j r (tablesIn (now (nodes .exit))) ⌝ }
+    ensures { λ r. ⌜ ActsMember (memory (now (nodes .entry)) (now (members .entry))) j r (tablesIn (now (nodes .exit))) ⌝ }
 {
     let i = MEMBER * (j % KEPT);
     let kind = members[i];
@@ -71,7 +71,7 @@ fn act_member(nodes: &mut [u8; 1280], members: &[u8; 128], j: usize) -> bool
 
 // A commit: the last `n` members of the run act, in their order. It is refused if there are fewer, or if one of them doesn't apply.
 pub fn commit(nodes: &mut [u8; 1280], members: &[u8; 128], run: usize, n: usize) -> bool
-    ensures { λ r. ⌜ Commits (lent (now (nodes .entry)) (now (members .entry))) run n r (lent (now (nodes .exit)) (now (members .entry))) ⌝ }
+    ensures { λ r. ⌜ Commits (memory (now (nodes .entry)) (now (members .entry))) run n r (memory (now (nodes .exit)) (now (members .entry))) ⌝ }
 {
     if run < n {
         return false;
@@ -138,7 +138,7 @@ pub fn feed(
     location: u16,
 ) -> Fed
     requires { ⌜ run < 1000000 ⌝ }
-    ensures { λ r. ⌜ Feeds (lent (now (nodes .entry)) (now (members .entry))) run member e location r (lent (now (nodes .exit)) (now (members .exit))) ⌝ }
+    ensures { λ r. ⌜ Feeds (memory (now (nodes .entry)) (now (members .entry))) run member e location r (memory (now (nodes .exit)) (now (members .exit))) ⌝ }
 {
     let f = fields_of(e);
     if f.kind == NO_KIND {

@@ -15,8 +15,8 @@ ghost use lib.ListN.{length};
 ghost use Rattle.log.specs.Entry.{mapEntry, asEntry};
 ghost use Rattle.log.specs.Card.{cardLength, segmentsIn};
 ghost use Rattle.log.specs.Store.{fits, headAt};
-ghost use Rattle.log.specs.Within.{Within};
-ghost use Rattle.log.specs.Begun.{standsFrom};
+ghost use Rattle.log.specs.promises.Within.{Within};
+ghost use Rattle.log.specs.promises.Begun.{standsFrom};
 
 // Do the first `n` of some bytes stand on the card, from `at` on?
 fn bytes_stand(card: &[u8], at: usize, bytes: &[u8], n: usize) -> bool

@@ -4,7 +4,7 @@ use super::layout::SEGMENT;
 use super::layout::SLOT;
 ghost use mathlib.Core.Path.{_≡_};
 ghost use Prim.Native.Nat.{_<_};
-ghost use Rattle.log.specs.Location.{cardLocation};
+ghost use Rattle.log.specs.promises.Location.{cardLocation};
 
 // How many locations a segment has.
 const LOCATIONS: usize = SEGMENT / SLOT;

@@ -6,7 +6,7 @@ use super::walk::Walked;
 use super::walk::walk;
 ghost use mathlib.Core.Path.{_≡_};
 ghost use Rattle.log.specs.Card.{cardLength};
-ghost use Rattle.log.specs.Mount.{Mounts};
+ghost use Rattle.log.specs.promises.Mount.{Mounts};
 
 // The most segments of a card.
 pub const SEGMENTS: usize = 64;

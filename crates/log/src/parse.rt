@@ -12,7 +12,7 @@ ghost use lib.Count.{ones};
 ghost use lib.Dec.{leb};
 ghost use lib.ListN.{length};
 ghost use Rattle.log.specs.Entry.{isSlot, isCount, sizeOf};
-ghost use Rattle.log.specs.Parse.{byteAt, Inside, parsedOf, decodedAt};
+ghost use Rattle.log.specs.promises.Parse.{byteAt, Inside, parsedOf, decodedAt};
 
 // The maps of the kinds, without the mark of a member.
 const TAKE: u8 = map::LIST;

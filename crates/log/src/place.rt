@@ -8,7 +8,7 @@ ghost use mathlib.Core.Bool.{false};
 ghost use Prim.Native.Nat.{_<_};
 ghost use Rattle.log.specs.Entry.{asEntry};
 ghost use Rattle.log.specs.Store.{opened, after, fits, home};
-ghost use Rattle.log.specs.Within.{Within, asPlace};
+ghost use Rattle.log.specs.promises.Within.{Within, asPlace};
 
 // The segment, and what it holds before this place: entries, entry bytes, slots used.
 pub struct Place {

@@ -8,7 +8,7 @@ use super::parse::byte_at;
 use super::parse::parse;
 ghost use mathlib.Core.Path.{_≡_};
 ghost use Rattle.log.specs.Card.{entriesOffset};
-ghost use Rattle.log.specs.Found.{InSegment, Finds};
+ghost use Rattle.log.specs.promises.Found.{InSegment, Finds};
 
 // The mark of a member in an entry's map.
 const MARK: u8 = 1 << map::MEMBER;

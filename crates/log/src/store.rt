@@ -18,7 +18,7 @@ ghost use lib.ListN.{length, set, take};
 ghost use Rattle.log.specs.Entry.{mapEntry, asEntry};
 ghost use Rattle.log.specs.Card.{Content, segmentsIn};
 ghost use Rattle.log.specs.Store.{doStores, formatStores, entryStores};
-ghost use Rattle.log.specs.Within.{Storable};
+ghost use Rattle.log.specs.promises.Within.{Storable};
 ghost use Rattle.log.specs.Turns.{InTurn, Clearable, storedAt, clearedAt};
 
 // One byte. Outside the slice nothing is stored.

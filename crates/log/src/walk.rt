@@ -18,11 +18,11 @@ ghost use mathlib.Core.Path.{_≡_};
 ghost use mathlib.Core.Bool.{true, false};
 ghost use Prim.Native.Nat.{_*_, _≤_, _<_};
 ghost use lib.ListN.{length};
-ghost use Rattle.lists.specs.Tables.{Tables};
+ghost use Rattle.lists.specs.promises.Tables.{Tables};
 ghost use Rattle.log.specs.Card.{cardLength};
-ghost use Rattle.log.specs.Location.{cardLocation};
-ghost use Rattle.log.specs.Feed.{lent};
-ghost use Rattle.log.specs.Walk.{stepIf, Enters, OnSegment, Steps, OnCard, Passes, FirstUsed, Walks};
+ghost use Rattle.log.specs.promises.Location.{cardLocation};
+ghost use Rattle.log.specs.promises.Feed.{memory};
+ghost use Rattle.log.specs.promises.Walk.{stepIf, Enters, OnSegment, Advances, OnCard, Passes, FirstUsed, Walks};
 
 // The next entry of a segment: where it stands, how many slots are used before it, and how many members stand directly before it.
 pub struct Cursor {
@@ -70,7 +70,7 @@ fn plain(
     slots: usize,
 ) -> Step
     requires { ⌜ (g < 64) × (slots < 256) ⌝ }
-    ensures { λ r. ⌜ Enters (lent (now (nodes .entry)) (now (members .entry))) run false e (cardLocation g slots) at slots r (lent (now (nodes .exit)) (now (members .entry))) ⌝ }
+    ensures { λ r. ⌜ Enters (memory (now (nodes .entry)) (now (members .entry))) run false e (cardLocation g slots) at slots r (memory (now (nodes .exit)) (now (members .entry))) ⌝ }
 {
     match e {
         LogEntry::Take { list } => {
@@ -162,7 +162,7 @@ fn step_entry(
     cur: Cursor,
 ) -> Step
     requires { ⌜ OnSegment (now card) g cur ⌝ }
-    ensures { λ r. ⌜ Steps (now (card .entry)) g cur (lent (now (nodes .entry)) (now (members .entry))) r (lent (now (nodes .exit)) (now (members .exit))) ⌝ }
+    ensures { λ r. ⌜ Advances (now (card .entry)) g cur (memory (now (nodes .entry)) (now (members .entry))) r (memory (now (nodes .exit)) (now (members .exit))) ⌝ }
 {
     let at = cur.at;
     let slots = cur.slots;
@@ -183,7 +183,7 @@ fn walk_segment(
     run: usize,
 ) -> Segment
     requires { ⌜ OnCard (now card) g run ⌝ }
-    ensures { λ r. ⌜ Passes (now (card .entry)) g run (lent (now (nodes .entry)) (now (members .entry))) r (lent (now (nodes .exit)) (now (members .exit))) ⌝ }
+    ensures { λ r. ⌜ Passes (now (card .entry)) g run (memory (now (nodes .entry)) (now (members .entry))) r (memory (now (nodes .exit)) (now (members .exit))) ⌝ }
 {
     let start = SEGMENT * g + ENTRIES_AT;
     let n = card[SEGMENT * g + COUNT_AT] as usize;
@@ -231,7 +231,7 @@ fn first_used(card: &[u8], g: usize, n: usize) -> usize
 // The whole card. What the tables held does not matter.
 pub fn walk(card: &[u8], nodes: &mut [u8; 1280], members: &mut [u8; 128]) -> Walked
     requires { ⌜ cardLength (now card) ≡ true ⌝ }
-    ensures { λ r. ⌜ Walks (now (card .entry)) r (lent (now (nodes .exit)) (now (members .exit))) ⌝ }
+    ensures { λ r. ⌜ Walks (now (card .entry)) r (memory (now (nodes .exit)) (now (members .exit))) ⌝ }
 {
     tables::clear(nodes);
     *members = [0u8; 128];

@@ -8,12 +8,12 @@ use Rattle.text.specs.Adler.{adler, adlerFrom}
 use Rattle.text.specs.Decimal.{digits, decimal, digitsOnly, value, numberAfter, numberOf}
 use Rattle.text.specs.Hex.{glyph, glyphs, trimOnto, trimmed, orDash, hexText, between, isNibble, nibble, hexOnly, isHex, pairs, hexBytes}
 use Rattle.text.specs.Line.{run, wordFrom, same}
-use Rattle.text.specs.Written.{written, after}
+use Rattle.text.specs.Written.{written, afterText}
 use Rattle.text.specs.declared.number.Number.the-variants.{Value, Bad}
 
 -- two bytes at the last place of three
-cut : (written (1 ∷ 2 ∷ 3 ∷ []) 2 (7 ∷ 8 ∷ []) ≡ 1 ∷ 2 ∷ 7 ∷ []) × (after 3 2 2 ≡ 4)
-unfolding written after
+cut : (written (1 ∷ 2 ∷ 3 ∷ []) 2 (7 ∷ 8 ∷ []) ≡ 1 ∷ 2 ∷ 7 ∷ []) × (afterText 3 2 2 ≡ 4)
+unfolding written afterText
 cut = (refl, refl)
 
 -- 2 ^ 64 - 1

@@ -7,7 +7,7 @@ use native.Mathlib.Decide.{decLt}
 use native.Mathlib.Nat.{add-zero, add-suc, suc-add}
 use lib.ListN.{length, take, drop, set, length-append}
 use lib.Seq.{sets-eq, length-sets, set-out, take-at, length-take-le}
-use Rattle.text.specs.Written.{written, after, Puts}
+use Rattle.text.specs.Written.{written, afterText, Puts}
 
 pub written-length : (out : List ℕ) (at : ℕ) (text : List ℕ) → length (written out at text) ≡ length out
 unfolding written
@@ -26,21 +26,21 @@ written-append out at (x ∷ a) b =
     ap (λ (k : ℕ). written (written (set out at x) (suc at) a) k b) (add-suc at (length a) ∙ sym (suc-add at (length a)))
     ∙ written-append (set out at x) (suc at) a b
 
-after-after : (n at j k : ℕ) → after n (after n at j) k ≡ after n at (j + k)
-unfolding after
+after-after : (n at j k : ℕ) → afterText n (afterText n at j) k ≡ afterText n at (j + k)
+unfolding afterText
 after-after n at j k = omega arith
 
 -- past the end one position is as good as another
-written-after : (n : ℕ) (l : List ℕ) (at k : ℕ) (text : List ℕ) → length l ≡ n → written l (after n at k) text ≡ written l (at + k) text
-unfolding after
+written-after : (n : ℕ) (l : List ℕ) (at k : ℕ) (text : List ℕ) → length l ≡ n → written l (afterText n at k) text ≡ written l (at + k) text
+unfolding afterText
 written-after n l at k text e = go (decLt (suc n) (at + k))
   where
-    go : Dec (suc n < at + k) → written l (after n at k) text ≡ written l (at + k) text
-    go (yes h) = written-out l (after n at k) text (omega arith) ∙ sym (written-out l (at + k) text (omega arith))
-    go (no h) = let same : after n at k ≡ at + k = omega arith in rw same
+    go : Dec (suc n < at + k) → written l (afterText n at k) text ≡ written l (at + k) text
+    go (yes h) = written-out l (afterText n at k) text (omega arith) ∙ sym (written-out l (at + k) text (omega arith))
+    go (no h) = let same : afterText n at k ≡ at + k = omega arith in rw same
 
 pub puts-none : (out : List ℕ) (at : ℕ) → Puts out at [] out at
-unfolding written after
+unfolding written afterText
 puts-none out at = record { bytes = refl; position = omega arith }
 
 -- a text, and then another
@@ -56,16 +56,16 @@ puts-more {out} {a} {one} {b} {two} {at} {next} {last} p q =
           ∙ written-append out at a b;
       position =
           q .position
-          ∙ ap (λ (n : ℕ). after n next (length b)) same
-          ∙ ap (λ (k : ℕ). after (length out) k (length b)) (p .position)
+          ∙ ap (λ (n : ℕ). afterText n next (length b)) same
+          ∙ ap (λ (k : ℕ). afterText (length out) k (length b)) (p .position)
           ∙ after-after (length out) at (length a) (length b)
-          ∙ ap (after (length out) at) (sym (length-append a b));
+          ∙ ap (afterText (length out) at) (sym (length-append a b));
     }
 
 -- the position tells whether the text fits
 pub puts-fit : {out text filled : List ℕ} {at next : ℕ} → Puts out at text filled next → next ≤ length out
     → (next ≡ at + length text) × (take next filled ≡ take at out ++ text)
-unfolding written after
+unfolding written afterText
 puts-fit {out} {text} {filled} {at} {next} p h =
     let e : next ≡ at + length text = omega (arith, p .position) in
     let fits : at + length text ≤ length out = omega arith in (

@@ -10,10 +10,10 @@ unfoldable pub written : List ℕ → ℕ → List ℕ → List ℕ
 written out at text = sets out at text
 
 -- the position after k bytes at a position of a buffer of n: a text that does not fit ends at n + 1, one that starts farther out stays there
-unfoldable pub after : ℕ → ℕ → ℕ → ℕ
-after n at k = max at (min (at + k) (suc n))
+unfoldable pub afterText : ℕ → ℕ → ℕ → ℕ
+afterText n at k = max at (min (at + k) (suc n))
 
 -- the text is put at a position of the buffer, which makes it `filled`, and the text that follows goes to `next`
 pub record Puts (out : List ℕ) (at : ℕ) (text filled : List ℕ) (next : ℕ) : Type 0 where
   pub bytes : filled ≡ written out at text
-  pub position : next ≡ after (length out) at (length text)
+  pub position : next ≡ afterText (length out) at (length text)

@@ -26,7 +26,7 @@ unfolding refusal questions destination replyAnswer
 returns c =
     let a = c .before .before .before .before .before .before .before .args in
     let d = (disk (a .card .now) (a .queue-data .now) (a .journal-data .now) (a .rec)) in
-    first-refused (Call.begin (a .u)) d _ (checked d) _ tt refl (rw (c .before .x .given .1) at (c .before .before .before .check .ensures))
+    first-refused (Call.begin (a .unit)) d _ (checked d) _ tt refl (rw (c .before .x .given .1) at (c .before .before .before .check .ensures))
 
 enum-told : tie.Need-enum-told
 enum-told c = search needs
@@ -35,8 +35,8 @@ returns-2 : tie.Need-returns-2
 unfolding replyAnswer
 returns-2 c =
     let a = c .before .before .before .before .before .before .before .args in
-    begin-outside (disk (a .card .now) (a .queue-data .now) (a .journal-data .now) (a .rec)) (a .u) (rw (c .before .enum-told .given .1) at (c .before .before .before .check .ensures))
-    (⊎-elim (λ x. inl (x .taken)) (λ x. inr (ltb-true 4 (a .u) (x .1 .taken))) (c .if1 .came))
+    begin-outside (disk (a .card .now) (a .queue-data .now) (a .journal-data .now) (a .rec)) (a .unit) (rw (c .before .enum-told .given .1) at (c .before .before .before .check .ensures))
+    (⊎-elim (λ x. inl (x .taken)) (λ x. inr (ltb-true 4 (a .unit) (x .1 .taken))) (c .if1 .came))
 
 is-open-requires : tie.Need-is-open-requires
 is-open-requires c κs = search needs
@@ -45,8 +45,8 @@ returns-3 : tie.Need-returns-3
 unfolding replyAnswer
 returns-3 c =
     let a = c .before .before .before .before .before .before .before .before .before .before .args in
-    begin-twice (disk (a .card .now) (a .queue-data .now) (a .journal-data .now) (a .rec)) (a .u) (rw (c .before .before .before .before .enum-told .given .1) at (c .before .before .before .before .before .before .check .ensures))
-    (omega arith) (ltb-false 4 (a .u) (c .before .before .if2 .left)) (c .before .is-open .result) (c .before .is-open .ensures) (c .if3 .taken)
+    begin-twice (disk (a .card .now) (a .queue-data .now) (a .journal-data .now) (a .rec)) (a .unit) (rw (c .before .before .before .before .enum-told .given .1) at (c .before .before .before .before .before .before .check .ensures))
+    (omega arith) (ltb-false 4 (a .unit) (c .before .before .if2 .left)) (c .before .is-open .result) (c .before .is-open .ensures) (c .if3 .taken)
 
 empty-requires : tie.Need-empty-requires
 empty-requires c κs = search needs
@@ -56,8 +56,8 @@ unfolding replyAnswer opening unitOf
 returns-4 c =
     let a = c .before .before .before .before .before .before .before .before .before .before .before .args in
     let d = disk (a .card .now) (a .queue-data .now) (a .journal-data .now) (a .rec) in
-    begin-opens d (a .u) (rw (c .before .before .before .before .before .enum-told .given .1) at (c .before .before .before .before .before .before .before .check .ensures))
-    (omega arith) (ltb-false 4 (a .u) (c .before .before .before .if2 .left)) (c .before .before .is-open .result) (c .before .before .is-open .ensures) (c .before .if3 .left)
+    begin-opens d (a .unit) (rw (c .before .before .before .before .before .enum-told .given .1) at (c .before .before .before .before .before .before .before .check .ensures))
+    (omega arith) (ltb-false 4 (a .unit) (c .before .before .before .if2 .left)) (c .before .before .is-open .result) (c .before .before .is-open .ensures) (c .before .if3 .left)
     ∙ rw (c .empty .ensures)
 
 pub begin-spec : {M : Type 1} → statement M

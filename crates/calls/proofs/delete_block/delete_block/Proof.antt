@@ -19,7 +19,7 @@ unfolding replyAnswer
 returns c =
     let a = c .before .before .before .before .before .before .before .before .args in
     let d = (disk (a .card .now) (a .queue-data .now) (a .journal-data .now) (a .rec)) in
-    edit-unseen d (a .s) (deleteBlock (a .b)) _ (rw (c .before .x .given .1) at (c .before .before .before .look-stream .ensures))
+    edit-unseen d (a .stream) (deleteBlock (a .block)) _ (rw (c .before .x .given .1) at (c .before .before .before .look-stream .ensures))
 
 enum-told : tie.Need-enum-told
 enum-told c = search needs
@@ -30,7 +30,7 @@ delete-placed-requires c κs = seen-ranges (rw (c .before .enum-told .given .1) 
 returns-2 : tie.Need-returns-2
 returns-2 c =
     let a = c .before .before .before .before .before .before .before .before .before .args in
-    deletes-block (disk (a .card .now) (a .queue-data .now) (a .journal-data .now) (a .rec)) (a .s) (a .b) _ _ _ (rw (c .before .before .enum-told .given .1) at (c .before .before .before .before .look-stream .ensures)) (c .delete-placed .ensures)
+    deletes-block (disk (a .card .now) (a .queue-data .now) (a .journal-data .now) (a .rec)) (a .stream) (a .block) _ _ _ (rw (c .before .before .enum-told .given .1) at (c .before .before .before .before .look-stream .ensures)) (c .delete-placed .ensures)
 
 pub delete-block-spec : {M : Type 1} → statement M
 delete-block-spec =

@@ -19,7 +19,7 @@ unfolding replyAnswer
 returns c =
     let a = c .before .before .before .before .before .before .before .before .args in
     let d = (disk (a .card .now) (a .queue-data .now) (a .journal-data .now) (a .rec)) in
-    edit-unseen d (a .s) (deleteList (a .l)) _ (rw (c .before .x .given .1) at (c .before .before .before .look-stream .ensures))
+    edit-unseen d (a .stream) (deleteList (a .list)) _ (rw (c .before .x .given .1) at (c .before .before .before .look-stream .ensures))
 
 enum-told : tie.Need-enum-told
 enum-told c = search needs
@@ -30,7 +30,7 @@ delete-taken-requires c κs = seen-ranges (rw (c .before .enum-told .given .1) a
 returns-2 : tie.Need-returns-2
 returns-2 c =
     let a = c .before .before .before .before .before .before .before .before .before .args in
-    deletes-list (disk (a .card .now) (a .queue-data .now) (a .journal-data .now) (a .rec)) (a .s) (a .l) _ _ _ (rw (c .before .before .enum-told .given .1) at (c .before .before .before .before .look-stream .ensures)) (c .delete-taken .ensures)
+    deletes-list (disk (a .card .now) (a .queue-data .now) (a .journal-data .now) (a .rec)) (a .stream) (a .list) _ _ _ (rw (c .before .before .enum-told .given .1) at (c .before .before .before .before .look-stream .ensures)) (c .delete-taken .ensures)
 
 pub delete-list-spec : {M : Type 1} → statement M
 delete-list-spec =

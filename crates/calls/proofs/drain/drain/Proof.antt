@@ -4,7 +4,7 @@ use Prim.Native.Nat.{_-_}
 use native.Mathlib.Omega.{arith}
 use borrow.Author.Needs.{needs}
 use lib.ListN.{length-take, length-drop}
-use Rattle.calls.specs.Flushing.{Flushable}
+use Rattle.calls.specs.promises.Flushing.{Flushable}
 use Rattle.calls.proofs.Draining.{Going, going-start, going-head, going-on, flushes-full, flushes-spent, flushes-drained}
 use Rattle.calls.proofs.drain.drain.Statement.{statement}
 use Rattle.calls.proofs.drain.drain.Tie as tie

@@ -21,7 +21,7 @@ returns c =
     let l = c .before .before .before in
     let a = l .before .before .before .before .before .before .args in
     let d = disk (a .card .now) (a .queue-data .now) (a .journal-data .now) (a .rec) in
-    end-not-entered (a .u) d _ (rw (c .before .x .given .1) at (l .enter .ensures))
+    end-not-entered (a .unit) d _ (rw (c .before .x .given .1) at (l .enter .ensures))
 
 enum-told : tie.Need-enum-told
 enum-told c = search needs
@@ -31,7 +31,7 @@ end-unit-requires c κs =
     let l = c .before .before .before .before in
     let a = l .before .before .before .before .before .before .args in
     let d = disk (a .card .now) (a .queue-data .now) (a .journal-data .now) (a .rec) in
-    stands-ready (a .u) d _ (rw (c .before .before .enum-told .given .1) at (l .enter .ensures))
+    stands-ready (a .unit) d _ (rw (c .before .before .enum-told .given .1) at (l .enter .ensures))
 
 same-length-2 : tie.Need-same-length-2
 same-length-2 c = search needs
@@ -42,7 +42,7 @@ returns-2 c =
     let l = e .before .before .before .before .before in
     let a = l .before .before .before .before .before .before .args in
     let d = disk (a .card .now) (a .queue-data .now) (a .journal-data .now) (a .rec) in
-    ends-performs (a .u) d _ (rw (e .before .before .before .enum-told .given .1) at (l .enter .ensures)) (e .end-unit .result .reply) _ (e .end-unit .result .rec) (e .end-unit .ensures)
+    ends-performs (a .unit) d _ (rw (e .before .before .before .enum-told .given .1) at (l .enter .ensures)) (e .end-unit .result .reply) _ (e .end-unit .result .rec) (e .end-unit .ensures)
 
 pub end-spec : {M : Type 1} → statement M
 end-spec =

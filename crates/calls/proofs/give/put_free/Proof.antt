@@ -1,6 +1,6 @@
 -- The number is of the committed state that the tables show; the journal laid over it shows the view. Assumes nothing.
 use Rattle.calls.proofs.Giving.{free-block-limit}
-use Rattle.calls.specs.Giving.{viewHere}
+use Rattle.calls.specs.promises.Giving.{viewHere}
 use Rattle.calls.proofs.Putting.{puts-number}
 use borrow.Author.Needs.{needs}
 use Rattle.calls.proofs.give.put_free.Statement.{statement}

@@ -4,7 +4,7 @@ use Prim.Native.Nat.{_-_, _≤_}
 use native.Mathlib.Omega.{arith}
 use lib.ListN.{length, length-set}
 use Rattle.lists.proofs.Lookup.{list-said}
-use Rattle.lists.specs.Tables.{OfShown, tablesIn}
+use Rattle.lists.specs.promises.Tables.{OfShown, tablesIn}
 use Rattle.calls.proofs.Taken.{Storing, storing-none, storing-more, storing-end, storing-full}
 use Rattle.calls.proofs.inventory.put_lists.Statement.{statement}
 use Rattle.calls.proofs.inventory.put_lists.Tie as tie

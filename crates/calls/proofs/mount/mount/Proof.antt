@@ -1,13 +1,15 @@
 -- Questions 1 and 2 are those of the log's mounting. Assumes nothing.
-use mathlib.Core.Path.{_≡_, sym, _∙_}
-use mathlib.Core.Bool.{true, false, true≢false}
+use mathlib.Core.Path.{_≡_, sym, ap, _∙_}
+use mathlib.Core.Bool.{Bool, true, false, _&&_, and-false}
 use mathlib.Core.List.{[]}
 use Prim.Native.Nat.{ℕ}
+use lib.Dec.{eqb}
+use lib.ListN.{length}
 use borrow.Author.Needs.{needs}
 use borrow.Author.Tests.{not-true, not-false}
 use Rattle.lists.specs.Basic.{isSome}
 use Rattle.log.specs.Reader.{Reader}
-use Rattle.log.specs.Card.{Content, sound, fault, mounted}
+use Rattle.log.specs.Card.{Content, cardLength, sound, fault, mounted}
 use Rattle.disk.specs.declared.answer.Refusal.the-variants.{WrongLength}
 use Rattle.disk.specs.declared.answer.MountReply.the-variants.{Accepted, Fault, Refused}
 use Rattle.disk.specs.Record.{freshRecord}
@@ -18,10 +20,12 @@ use Rattle.disk.specs.Questions.{mountable, questions, refusal, firstNo, ask}
 use Rattle.disk.specs.Perform.{accepted, refused, faultAt, refusalAnswer}
 use Rattle.disk.specs.Answers.{number, mountAnswer}
 use Rattle.disk.proofs.Performing.{perform-accepted, perform-refused}
-use Rattle.disk.proofs.Questions.{card-length}
 use Rattle.calls.specs.Performs.{Performs}
 use Rattle.calls.proofs.mount.mount.Statement.{statement}
 use Rattle.calls.proofs.mount.mount.Tie as tie
+
+abbrev DataRight : Disk → Bool
+DataRight d = eqb (length (d .queueData)) 8192 && eqb (length (d .journalData)) 15360
 
 mount-refused : (d : Disk) → lengthsRight d ≡ false → Performs mount d d (mountAnswer (Refused WrongLength)) []
 unfolding refusal questions firstNo ask refused ends refusalAnswer destination mountAnswer number
@@ -36,13 +40,24 @@ mount-accepted : (d : Disk) (r : Reader Content) → lengthsRight d ≡ true →
 unfolding refusal questions firstNo ask mountable readerOf isSome accepted mountAnswer
 mount-accepted d r h m = perform-accepted mount d (rw (h, m))
 
-lengths-right-requires : tie.Need-lengths-right-requires
-lengths-right-requires c κs = search needs
+-- the three lengths, of which the card's is asked last
+lengths-data : (d : Disk) → DataRight d ≡ false → lengthsRight d ≡ false
+unfolding lengthsRight
+lengths-data d h = ap (λ (b : Bool). cardLength (d .card) && b) h ∙ and-false (cardLength (d .card))
+
+lengths-card : (d : Disk) → cardLength (d .card) ≡ false → lengthsRight d ≡ false
+unfolding lengthsRight
+lengths-card d h = rw h
+
+lengths-all : (d : Disk) → DataRight d ≡ true → cardLength (d .card) ≡ true → lengthsRight d ≡ true
+unfolding lengthsRight
+lengths-all d h k = rw k h
+
+data-right-requires : tie.Need-data-right-requires
+data-right-requires c κs = search needs
 
 returns : tie.Need-returns
-returns c =
-    let s = c .before .before .before .before .before in
-    mount-refused _ (sym (c .before .lengths-right .ensures (s .args .rec)) ∙ not-true (c .before .lengths-right .result) (c .if1 .taken))
+returns c = mount-refused _ (lengths-data _ (sym (c .before .data-right .ensures) ∙ not-true (c .before .data-right .result) (c .if1 .taken)))
 
 mount-requires : tie.Need-mount-requires
 mount-requires c κs = search needs
@@ -60,33 +75,26 @@ fresh-requires : tie.Need-fresh-requires
 fresh-requires c κs = search needs
 
 returns-2 : tie.Need-returns-2
-returns-2 c =
-    let l = c .before .before .before .before in
-    let s = l .before .before .before .before in
-    let h = sym (l .lengths-right .ensures (s .args .rec)) ∙ not-false (l .lengths-right .result) (c .before .before .before .if1 .left) in
-    absurd (true≢false (sym (card-length _ h) ∙ (rw (c .enum-told .given .1) at (c .before .before .mount .ensures))))
+returns-2 c = mount-refused _ (lengths-card _ (rw (c .enum-told .given .1) at (c .before .before .mount .ensures)))
 
 returns-3 : tie.Need-returns-3
 returns-3 c =
     let l = c .before .before .before .before .before in
-    let s = l .before .before .before .before in
-    let h = sym (l .lengths-right .ensures (s .args .rec)) ∙ not-false (l .lengths-right .result) (c .before .before .before .before .if1 .left) in
     let w = rw (c .before .segment .given .1) at (c .before .before .before .mount .ensures) in
-    mount-fault _ _ _ h (w .1)
+    mount-fault _ _ _ (lengths-all _ (sym (l .data-right .ensures) ∙ not-false (l .data-right .result) (c .before .before .before .before .if1 .left)) (w .0)) (w .1)
 
 returns-4 : tie.Need-returns-4
 returns-4 c =
     let l = c .before .before .before .before .before in
-    let s = l .before .before .before .before in
-    let h = sym (l .lengths-right .ensures (s .args .rec)) ∙ not-false (l .lengths-right .result) (c .before .before .before .before .if1 .left) in
     let w = rw (c .before .enum-told2 .given .1) at (c .before .before .before .mount .ensures) in
-    rw (c .fresh .ensures) (mount-accepted _ (w .reader) h (w .walked))
+    rw (c .fresh .ensures)
+    (mount-accepted _ (w .reader) (lengths-all _ (sym (l .data-right .ensures) ∙ not-false (l .data-right .result) (c .before .before .before .before .if1 .left)) (w .right)) (w .walked))
 
 pub mount-spec : {M : Type 1} → statement M
 mount-spec =
     tie.close
     (tie.spec
-    lengths-right-requires
+    data-right-requires
     returns
     mount-requires
     enum-told

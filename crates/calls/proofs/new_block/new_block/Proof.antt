@@ -20,7 +20,7 @@ returns c =
     let l = c .before .before .before in
     let a = l .before .before .before .before .before .args in
     let d = disk (a .card .now) (a .queue-data .now) (a .journal-data .now) (a .rec) in
-    edit-unseen d (a .s) (newBlock (a .l) (a .p)) _ (rw (c .before .x .given .1) at (l .enter .ensures))
+    edit-unseen d (a .stream) (newBlock (a .list) (a .predecessor)) _ (rw (c .before .x .given .1) at (l .enter .ensures))
 
 enum-told : tie.Need-enum-told
 enum-told c = search needs
@@ -30,7 +30,7 @@ put-free-requires c κs =
     let l = c .before .before .before in
     let a = l .before .before .before .before .before .args in
     let d = disk (a .card .now) (a .queue-data .now) (a .journal-data .now) (a .rec) in
-    stands-put (a .s) d _ (rw (c .before .enum-told .given .1) at (l .enter .ensures))
+    stands-put (a .stream) d _ (rw (c .before .enum-told .given .1) at (l .enter .ensures))
 
 returns-2 : tie.Need-returns-2
 returns-2 c =
@@ -38,7 +38,7 @@ returns-2 c =
     let a = l .before .before .before .before .before .args in
     let d = disk (a .card .now) (a .queue-data .now) (a .journal-data .now) (a .rec) in
     let k = rw (c .before .before .enum-told .given .1) at (l .enter .ensures) in
-    puts-performs (a .s) d _ k (a .l) (a .p) (c .put-free .result .reply) (c .put-free .result .rec) (c .put-free .ensures)
+    puts-performs (a .stream) d _ k (a .list) (a .predecessor) (c .put-free .result .reply) (c .put-free .result .rec) (c .put-free .ensures)
 
 pub new-block-spec : {M : Type 1} → statement M
 new-block-spec =

@@ -21,7 +21,7 @@ returns c =
     let l = c .before .before .before in
     let a = l .before .before .before .before .before .args in
     let d = disk (a .card .now) (a .queue-data .now) (a .journal-data .now) (a .rec) in
-    edit-unseen d (a .s) newList _ (rw (c .before .x .given .1) at (l .enter .ensures))
+    edit-unseen d (a .stream) newList _ (rw (c .before .x .given .1) at (l .enter .ensures))
 
 enum-told : tie.Need-enum-told
 enum-told c = search needs
@@ -37,7 +37,7 @@ returns-2 c =
     let a = l .before .before .before .before .before .args in
     let d = disk (a .card .now) (a .queue-data .now) (a .journal-data .now) (a .rec) in
     let k = rw (c .before .before .enum-told .given .1) at (l .enter .ensures) in
-    takes-performs (a .s) d _ k (c .take-list .result .reply) (c .take-list .result .rec) (c .take-list .ensures (k .located .here .lists) (k .located .shows))
+    takes-performs (a .stream) d _ k (c .take-list .result .reply) (c .take-list .result .rec) (c .take-list .ensures (k .located .here .lists) (k .located .shows))
 
 pub new-list-spec : {M : Type 1} → statement M
 new-list-spec =

@@ -33,15 +33,15 @@ returns-2 c =
     next-out _ _ _ _ _ (rw (e .enum-told .given .1) at (e .before .before .look-view .ensures))
     (sym (c .before .is-position .ensures) ∙ not-true (c .before .is-position .result) (c .if1 .taken))
 
-cast-list : tie.Need-cast-list
-cast-list c =
+cast-l : tie.Need-cast-l
+cast-l c =
     let a = c .before .before .before .before .before .before .before .before .before .args in
-    omega (arith, position-range (a .l) (a .p) (sym (c .before .is-position .ensures) ∙ not-false (c .before .is-position .result) (c .if1 .left)) .0 .1)
+    omega (arith, position-range (a .list) (a .predecessor) (sym (c .before .is-position .ensures) ∙ not-false (c .before .is-position .result) (c .if1 .left)) .0 .1)
 
-cast-predecessor : tie.Need-cast-predecessor
-cast-predecessor c =
+cast-p : tie.Need-cast-p
+cast-p c =
     let a = c .before .before .before .before .before .before .before .before .before .args in
-    omega (arith, position-range (a .l) (a .p) (sym (c .before .is-position .ensures) ∙ not-false (c .before .is-position .result) (c .if1 .left)) .1)
+    omega (arith, position-range (a .list) (a .predecessor) (sym (c .before .is-position .ensures) ∙ not-false (c .before .is-position .result) (c .if1 .left)) .1)
 
 is-taken-requires : tie.Need-is-taken-requires
 is-taken-requires c κs = search needs
@@ -58,7 +58,7 @@ follows-requires : tie.Need-follows-requires
 follows-requires c κs =
     let q = c .before .before .before .before in
     let a = q .before .before .before .before .before .before .before .before .before .args in
-    position-range (a .l) (a .p) (sym (q .before .is-position .ensures) ∙ not-false (q .before .is-position .result) (q .if1 .left))
+    position-range (a .list) (a .predecessor) (sym (q .before .is-position .ensures) ∙ not-false (q .before .is-position .result) (q .if1 .left))
 
 returns-4 : tie.Need-returns-4
 returns-4 c =
@@ -97,8 +97,8 @@ next-spec =
     enum-told
     is-position-requires
     returns-2
-    cast-list
-    cast-predecessor
+    cast-l
+    cast-p
     is-taken-requires
     returns-3
     follows-requires

@@ -38,11 +38,11 @@ returns-2 c =
     let r = rw (c .before .before .is-block .ensures) at (c .before .both .ensures) in
     read-out _ _ _ _ _ (rw (e .enum-told .given .1) at (e .before .before .look-view .ensures)) (sym r ∙ not-true (c .before .both .result) (c .if1 .taken))
 
-cast-block : tie.Need-cast-block
-cast-block c =
+cast-b : tie.Need-cast-b
+cast-b c =
     let a = c .before .before .before .before .before .before .before .before .before .before .before .args in
     let r = rw (c .before .before .is-block .ensures) at (c .before .both .ensures) in
-    omega (arith, read-range (a .b) (length (a .dest .now)) (sym r ∙ not-false (c .before .both .result) (c .if1 .left)) .0 .1)
+    omega (arith, read-range (a .block) (length (a .dest .now)) (sym r ∙ not-false (c .before .both .result) (c .if1 .left)) .0 .1)
 
 is-placed-requires : tie.Need-is-placed-requires
 is-placed-requires c κs = search needs
@@ -68,9 +68,9 @@ copy-content-requires c κs =
     let r = rw (q .before .before .is-block .ensures) at (q .before .both .ensures) in
     let w = sym r ∙ not-false (q .before .both .result) (q .if1 .left) in
     let s = rw (e .enum-told .given .1) at (e .before .before .look-view .ensures) in (
-      read-sized (disk (a .card .now) (a .queue-data .now) (a .journal-data .now) (a .rec)) (a .v) (a .b) (a .dest .now) _ s w
+      read-sized (disk (a .card .now) (a .queue-data .now) (a .journal-data .now) (a .rec)) (a .view) (a .block) (a .dest .now) _ s w
           _ (placed-said (m .before .is-placed .ensures)) (not-false (m .before .is-placed .result) (m .if2 .left)) (c .before .location-of .result) (location-said (c .before .location-of .ensures)),
-      read-range (a .b) (length (a .dest .now)) w .1,
+      read-range (a .block) (length (a .dest .now)) w .1,
     )
 
 same-length : tie.Need-same-length
@@ -99,7 +99,7 @@ read-spec =
     is-block-requires
     both-requires
     returns-2
-    cast-block
+    cast-b
     is-placed-requires
     returns-3
     location-of-requires

@@ -25,7 +25,7 @@ unfolding replyAnswer
 returns c =
     let a = c .before .before .before .before .before .before .before .before .before .before .before .args in
     let d = (disk (a .card .now) (a .queue-data .now) (a .journal-data .now) (a .rec)) in
-    edit-unseen d (a .s) (writeBlock (a .b) (a .content .now)) _ (rw (c .before .x .given .1) at (c .before .before .before .look-stream .ensures))
+    edit-unseen d (a .stream) (writeBlock (a .block) (a .content .now)) _ (rw (c .before .x .given .1) at (c .before .before .before .look-stream .ensures))
 
 enum-told : tie.Need-enum-told
 enum-told c = search needs
@@ -42,8 +42,8 @@ copy-content-requires c κs =
     let w = c .before .before .before .before .write-placed in
     let d = disk (a .card .now) (a .queue-data .now) (a .journal-data .now) (a .rec) in
     let z = rw (c .before .before .before .before .before .before .enum-told .given .1) at (c .before .before .before .before .before .before .before .before .look-stream .ensures) in
-    write-fits d (a .s) (a .b) (a .content .now) (w .result .reply) (w .result .rec) _ z (c .before .before .enum-told2 .given .1)
-    (write-decides d (a .s) (a .b) (a .content .now) (w .result .reply) (w .result .rec) _ z (w .ensures))
+    write-fits d (a .stream) (a .block) (a .content .now) (w .result .reply) (w .result .rec) _ z (c .before .before .enum-told2 .given .1)
+    (write-decides d (a .stream) (a .block) (a .content .now) (w .result .reply) (w .result .rec) _ z (w .ensures))
 
 enum-told-3 : tie.Need-enum-told-3
 enum-told-3 c = search needs
@@ -60,8 +60,8 @@ returns-2 c =
     let w = c .before .before .before .before .before .before .before .before .before .write-placed in
     let d = disk (a .card .now) (a .queue-data .now) (a .journal-data .now) (a .rec) in
     let z = rw (c .before .before .before .before .before .before .before .before .before .before .before .enum-told .given .1) at (c .before .before .before .before .before .before .before .before .before .before .before .before .before .look-stream .ensures) in
-    write-accepted d (a .s) (a .b) (a .content .now) (w .result .reply) (w .result .rec) (c .before .before .before .before .before .before .before .enum-told2 .given .1)
-    (write-decides d (a .s) (a .b) (a .content .now) (w .result .reply) (w .result .rec) _ z (w .ensures))
+    write-accepted d (a .stream) (a .block) (a .content .now) (w .result .reply) (w .result .rec) (c .before .before .before .before .before .before .before .enum-told2 .given .1)
+    (write-decides d (a .stream) (a .block) (a .content .now) (w .result .reply) (w .result .rec) _ z (w .ensures))
     _ _ (c .before .before .before .before .copy-content .ensures)
 
 same-length-5 : tie.Need-same-length-5
@@ -76,8 +76,8 @@ returns-3 c =
     let w = c .before .before .write-placed in
     let d = disk (a .card .now) (a .queue-data .now) (a .journal-data .now) (a .rec) in
     let z = rw (c .before .before .before .before .enum-told .given .1) at (c .before .before .before .before .before .before .look-stream .ensures) in
-    write-refused d (a .s) (a .b) (a .content .now) (w .result .reply) (w .result .rec) _ (c .enum-told3 .given .1)
-    (write-decides d (a .s) (a .b) (a .content .now) (w .result .reply) (w .result .rec) _ z (w .ensures))
+    write-refused d (a .stream) (a .block) (a .content .now) (w .result .reply) (w .result .rec) _ (c .enum-told3 .given .1)
+    (write-decides d (a .stream) (a .block) (a .content .now) (w .result .reply) (w .result .rec) _ z (w .ensures))
 
 pub write-spec : {M : Type 1} → statement M
 write-spec =

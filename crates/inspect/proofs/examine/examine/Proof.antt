@@ -3,7 +3,7 @@ use mathlib.Core.Path.{sym, _∙_}
 use mathlib.Core.Bool.{cond}
 use borrow.Author.Needs.{needs}
 use borrow.Author.Tests.{not-true, not-false}
-use Rattle.lists.specs.Tables.{tablesIn}
+use Rattle.lists.specs.promises.Tables.{tablesIn}
 use Rattle.disk.specs.Disk.{disk}
 use Rattle.inspect.proofs.Shaped.{record-shaped}
 use Rattle.inspect.proofs.Examining.{lengths-asked, numbers-asked, wrong-numbers, wrong-units, log-examined}

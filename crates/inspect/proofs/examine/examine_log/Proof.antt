@@ -1,6 +1,6 @@
 -- A fault refuses the card; else the clauses behind the log are asked, over copies where the log's state is wanted. Assumes nothing.
-use Rattle.lists.specs.Tables.{tablesIn}
-use Rattle.log.specs.Feed.{lent}
+use Rattle.lists.specs.promises.Tables.{tablesIn}
+use Rattle.log.specs.promises.Feed.{memory}
 use Rattle.inspect.proofs.Examining.{place-asked, faulty, unsettled, settled-log, settled-queue}
 use borrow.Author.Needs.{needs}
 use Rattle.inspect.proofs.examine.examine_log.Statement.{statement}
@@ -29,7 +29,7 @@ settle-apart-requires c κs =
     let s = z .args in
     let g = c .before .before .before .before .behind .given in
     let w = c .before .before .before .before .before .before .walk in
-    let m = lent (w .last .1 .0) (w .last .1 .1 .0) in
+    let m = memory (w .last .1 .0) (w .last .1 .1 .0) in
     let e = rw (g .1) at (w .ensures) in
     let (i, k) = place-asked (s .card .now) (g .0 .0) (g .0 .1 .0) m (z .pre .0) e in
     (z .pre .0, z .pre .1, z .pre .2, z .pre .3, e .place, i, k, e .short)
@@ -40,7 +40,7 @@ returns-2 c =
     let s = z .args in
     let g = c .before .before .before .before .before .before .behind .given in
     let w = c .before .before .before .before .before .before .before .before .walk in
-    let m = lent (w .last .1 .0) (w .last .1 .1 .0) in
+    let m = memory (w .last .1 .0) (w .last .1 .1 .0) in
     let e = rw (g .1) at (w .ensures) in
     λ j. rw (c .before .before .before .before .if1 .taken) (settled-log (s .card .now) (s .queue-data .now) j (s .rec) (z .pre .0) (g .0 .0) (g .0 .1 .0) m e (c .before .settle-apart .result) (c .before .settle-apart .ensures) (c .if2 .taken))
 
@@ -50,7 +50,7 @@ returns-3 c =
     let s = z .args in
     let g = c .before .before .before .before .before .before .behind .given in
     let w = c .before .before .before .before .before .before .before .before .walk in
-    let m = lent (w .last .1 .0) (w .last .1 .1 .0) in
+    let m = memory (w .last .1 .0) (w .last .1 .1 .0) in
     let e = rw (g .1) at (w .ensures) in
     λ j. unsettled (s .card .now) (s .queue-data .now) j (s .rec) (z .pre .0) (g .0 .0) (g .0 .1 .0) m e 0 (m .tables) (c .before .settle-apart .result) (c .before .settle-apart .ensures) (c .if2 .left)
 
@@ -60,7 +60,7 @@ settle-requires c κs =
     let s = z .args in
     let g = c .before .before .before .before .behind .given in
     let w = c .before .before .before .before .before .before .walk in
-    let m = lent (w .last .1 .0) (w .last .1 .1 .0) in
+    let m = memory (w .last .1 .0) (w .last .1 .1 .0) in
     let e = rw (g .1) at (w .ensures) in
     let (i, k) = place-asked (s .card .now) (g .0 .0) (g .0 .1 .0) m (z .pre .0) e in
     (z .pre .0, z .pre .1, z .pre .2, z .pre .3, e .place, i, k, e .short)
@@ -71,7 +71,7 @@ returns-4 c =
     let s = z .args in
     let g = c .before .before .before .before .before .before .behind .given in
     let w = c .before .before .before .before .before .before .before .before .walk in
-    let m = lent (w .last .1 .0) (w .last .1 .1 .0) in
+    let m = memory (w .last .1 .0) (w .last .1 .1 .0) in
     let e = rw (g .1) at (w .ensures) in
     let y = c .before .settle in
     let l = y .last .1 .1 .1 .1 .1 in
@@ -83,7 +83,7 @@ returns-5 c =
     let s = z .args in
     let g = c .before .before .before .before .before .before .behind .given in
     let w = c .before .before .before .before .before .before .before .before .walk in
-    let m = lent (w .last .1 .0) (w .last .1 .1 .0) in
+    let m = memory (w .last .1 .0) (w .last .1 .1 .0) in
     let e = rw (g .1) at (w .ensures) in
     λ j. unsettled (s .card .now) (s .queue-data .now) j (s .rec) (z .pre .0) (g .0 .0) (g .0 .1 .0) m e 0 (m .tables) (c .before .settle .result) (c .before .settle .ensures .answer) (c .if3 .left)
 

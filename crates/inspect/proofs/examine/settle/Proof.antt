@@ -1,6 +1,6 @@
 -- The queue, the holders and the head are asked in turn, each over the tables that the one before left. Assumes nothing.
-use Rattle.lists.specs.Tables.{tablesIn}
-use Rattle.log.specs.Feed.{lent}
+use Rattle.lists.specs.promises.Tables.{tablesIn}
+use Rattle.log.specs.promises.Feed.{memory}
 use Rattle.inspect.proofs.Settling.{settles-refused, settles-held, settles-last}
 use borrow.Author.Needs.{needs}
 use borrow.Author.Tests.{not-true, not-false}
@@ -15,7 +15,7 @@ returns : tie.Need-returns
 returns c =
     let s = c .before .before .before .before .before .before .args in
     let q = c .before .enter-queue in
-    let m = lent (s .nodes .now) (s .members .now) in
+    let m = memory (s .nodes .now) (s .members .now) in
     let t = tablesIn (q .last .0) in
     settles-refused (s .card .now) (s .queue-data .now) m (s .run) (s .rec) (q .result) t (q .ensures) (not-true _ (c .if1 .taken))
 
@@ -26,7 +26,7 @@ returns-2 : tie.Need-returns-2
 returns-2 c =
     let s = c .before .before .before .before .before .before .before .before .before .args in
     let q = c .before .before .before .before .enter-queue in
-    let m = lent (s .nodes .now) (s .members .now) in
+    let m = memory (s .nodes .now) (s .members .now) in
     let t = tablesIn (q .last .0) in
     settles-held (s .card .now) (s .queue-data .now) m (s .run) (s .rec) (q .result) t (q .ensures) (not-false _ (c .before .before .before .if1 .left)) (c .before .holders-right .result) (c .before .holders-right .ensures) (not-true _ (c .if2 .taken))
 
@@ -37,7 +37,7 @@ returns-3 : tie.Need-returns-3
 returns-3 c =
     let s = c .before .before .before .before .before .before .before .before .before .before .args in
     let q = c .before .before .before .before .before .enter-queue in
-    let m = lent (s .nodes .now) (s .members .now) in
+    let m = memory (s .nodes .now) (s .members .now) in
     let t = tablesIn (q .last .0) in
     settles-last (s .card .now) (s .queue-data .now) m (s .run) (s .rec) (q .result) t (q .ensures) (not-false _ (c .before .before .before .before .if1 .left)) (c .before .before .holders-right .result) (c .before .before .holders-right .ensures) (not-false _ (c .before .if2 .left)) (c .head-stands .result) (c .head-stands .ensures [])
 

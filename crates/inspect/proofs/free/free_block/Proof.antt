@@ -9,7 +9,7 @@ use lib.Dec.{eqb}
 use lib.ListN.{getD}
 use borrow.Author.Tests.{not-true, not-false}
 use Rattle.lists.specs.State.{Row, placed}
-use Rattle.lists.specs.Tables.{OfShown, tablesIn}
+use Rattle.lists.specs.promises.Tables.{OfShown, tablesIn}
 use Rattle.lists.proofs.Basic.{eqb-false}
 use Rattle.lists.proofs.Lookup.{placed-said}
 use Rattle.inspect.proofs.Searching.{Left, none-tried, found, passed, nowhere}

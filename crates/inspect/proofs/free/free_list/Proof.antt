@@ -4,7 +4,7 @@ use Prim.Native.Nat.{_-_, _≤_}
 use native.Mathlib.Omega.{arith}
 use borrow.Author.Tests.{not-true, not-false}
 use Rattle.lists.specs.State.{taken}
-use Rattle.lists.specs.Tables.{OfShown, tablesIn}
+use Rattle.lists.specs.promises.Tables.{OfShown, tablesIn}
 use Rattle.lists.proofs.Lookup.{taken-said}
 use Rattle.inspect.proofs.Searching.{Left, none-tried, found, passed, nowhere}
 use borrow.Author.Needs.{needs}

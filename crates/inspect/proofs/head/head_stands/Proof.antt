@@ -7,7 +7,7 @@ use lib.ListN.{length, getD}
 use Rattle.log.specs.Entry.{asEntry}
 use Rattle.log.specs.Card.{segmentsIn}
 use Rattle.log.specs.Store.{headAt}
-use Rattle.log.specs.Within.{asPlace}
+use Rattle.log.specs.promises.Within.{asPlace}
 use Rattle.log.proofs.Slot.{length-slot}
 use Rattle.log.proofs.Copying.{slot-part}
 use Rattle.log.proofs.Within.{within-home}

@@ -7,9 +7,9 @@ use lib.ListN.{getD}
 use Rattle.lists.proofs.Lookup.{placed-said}
 use borrow.Author.Needs.{needs}
 use borrow.Author.Tests.{not-true, not-false}
-use Rattle.lists.specs.Tables.{OfShown, tablesIn}
+use Rattle.lists.specs.promises.Tables.{OfShown, tablesIn}
 use Rattle.disk.specs.Record.{holderOf}
-use Rattle.inspect.specs.Clauses.{holderRight}
+use Rattle.inspect.specs.promises.Clauses.{holderRight}
 use Rattle.inspect.proofs.Judging.{Left, left-fails, left-passes, left-ends, open-high, open-unit, held-none, held-closed, held-placed, held-well, holders-all}
 use Rattle.inspect.proofs.holders.holders_right.Statement.{statement}
 use Rattle.inspect.proofs.holders.holders_right.Tie as tie

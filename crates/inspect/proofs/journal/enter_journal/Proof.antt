@@ -5,7 +5,7 @@ use Prim.Native.Nat.{ℕ, _+_, _-_, _*_, _≤_}
 use native.Mathlib.Omega.{arith}
 use borrow.Author.Tests.{not-true, not-false}
 use Rattle.lists.specs.State.{State}
-use Rattle.lists.specs.Tables.{Shows, tablesIn}
+use Rattle.lists.specs.promises.Tables.{Shows, tablesIn}
 use Rattle.inspect.proofs.Overlaying.{Laid, laid-none, laid-turn, laid-all}
 use borrow.Author.Needs.{needs}
 use Rattle.inspect.proofs.journal.enter_journal.Statement.{statement}

@@ -7,15 +7,15 @@ use Rattle.inspect.proofs.lengths.lengths_right.Tie as tie
 is-card-requires : tie.Need-is-card-requires
 is-card-requires c κs = search needs
 
+data-right-requires : tie.Need-data-right-requires
+data-right-requires c κs = search needs
+
 both-requires : tie.Need-both-requires
 both-requires c κs = search needs
 
-both-requires-2 : tie.Need-both-requires-2
-both-requires-2 c κs = search needs
-
 returns : tie.Need-returns
 unfolding lengthsRight
-returns c = λ rec. rw (c .both2 .ensures, c .before .both .ensures, c .before .before .is-card .ensures)
+returns c = λ rec. rw (c .both .ensures, c .before .data-right .ensures, c .before .before .is-card .ensures)
 
 pub lengths-right-spec : {M : Type 1} → statement M
-lengths-right-spec = tie.close (tie.spec is-card-requires both-requires both-requires-2 returns)
+lengths-right-spec = tie.close (tie.spec is-card-requires data-right-requires both-requires returns)

@@ -3,7 +3,7 @@ use mathlib.Core.Path.{sym, _∙_}
 use mathlib.Core.List.{[]}
 use native.Mathlib.Omega.{arith}
 use borrow.Author.Tests.{not-true, not-false}
-use Rattle.lists.specs.Tables.{Tables, tables, tablesIn}
+use Rattle.lists.specs.promises.Tables.{Tables, tables, tablesIn}
 use Rattle.lists.proofs.Basic.{eqb-true, eqb-neq}
 use Rattle.disk.specs.Disk.{disk}
 use Rattle.inspect.proofs.Looking.{unit-lawful, open-range, look-length, look-unsound, look-persistent, look-no-stream, look-committed, look-closed, look-unit}

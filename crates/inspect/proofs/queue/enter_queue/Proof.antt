@@ -5,7 +5,7 @@ use native.Mathlib.Omega.{arith}
 use borrow.Author.Needs.{needs}
 use borrow.Author.Tests.{not-true, not-false}
 use Rattle.log.specs.Reader.{Reader}
-use Rattle.log.specs.Feed.{lent, Kept}
+use Rattle.log.specs.promises.Feed.{memory, Keeps}
 use Rattle.inspect.proofs.Queueing.{FedUpTo, fed-none, fed-unlawful, fed-refused, fed-more, fed-all}
 use Rattle.inspect.proofs.queue.enter_queue.Statement.{statement}
 use Rattle.inspect.proofs.queue.enter_queue.Tie as tie
@@ -13,7 +13,7 @@ use Rattle.inspect.proofs.queue.enter_queue.Tie as tie
 abbrev Inv-loop : tie.InvT-loop
 Inv-loop nodes₀ members₀ run rec members-in-run₀ k₀ nodes members members-in-run k =
     (k ≤ rec .len) × (members-in-run ≤ run + k)
-    × ((x : Reader ℕ) → Kept (lent nodes₀ members₀) run x → FedUpTo rec x k members-in-run (lent nodes members))
+    × ((x : Reader ℕ) → Keeps (memory nodes₀ members₀) run x → FedUpTo rec x k members-in-run (memory nodes members))
 
 abbrev μ-loop : tie.MeasureT-loop
 μ-loop nodes₀ members₀ run rec members-in-run₀ k₀ nodes members members-in-run k = rec .len - k
@@ -21,7 +21,7 @@ abbrev μ-loop : tie.MeasureT-loop
 loop-holds : tie.Need-loop-holds Inv-loop μ-loop
 loop-holds c =
     let s = c .args in
-    (omega arith, omega arith, λ x h. fed-none (s .t3) x (s .run) (lent (s .nodes .now) (s .members .now)) h)
+    (omega arith, omega arith, λ x h. fed-none (s .t3) x (s .run) (memory (s .nodes .now) (s .members .now)) h)
 
 add-at : tie.Need-add-at Inv-loop μ-loop
 add-at c = omega arith
@@ -82,7 +82,7 @@ loop-again c =
     let a = i .before .is-legal in
     let legal = sym (a .ensures) ∙ not-false (a .result) (i .if1 .left) in
     let told = c .before .n .given .1 in
-    let t = lent (f .last .0) (f .last .1 .0) in (
+    let t = memory (f .last .0) (f .last .1 .0) in (
       omega arith,
       omega (arith, rw told at (f .ensures .short)),
       λ x h.

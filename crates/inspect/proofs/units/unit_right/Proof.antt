@@ -5,7 +5,7 @@ use Prim.Native.Nat.{_-_, _≤_}
 use native.Mathlib.Omega.{arith}
 use borrow.Author.Needs.{needs}
 use borrow.Author.Tests.{not-true, not-false}
-use Rattle.inspect.specs.Clauses.{changeRight, changeIn}
+use Rattle.inspect.specs.promises.Clauses.{changeRight, changeIn}
 use Rattle.inspect.proofs.Judging.{Left, left-all, left-fails, left-passes, left-ends, unit-long, unit-closed, unit-open}
 use Rattle.inspect.proofs.units.unit_right.Statement.{statement}
 use Rattle.inspect.proofs.units.unit_right.Tie as tie

@@ -7,7 +7,7 @@ use borrow.Author.Tests.{not-true, not-false}
 use Rattle.lists.specs.State.{placed}
 use Rattle.text.proofs.Writing.{puts-none, puts-more, puts-length}
 use Rattle.listing.specs.Listing.{blockLine}
-use Rattle.listing.specs.Shown.{sumAt}
+use Rattle.listing.specs.promises.Shown.{sumAt}
 use Rattle.listing.proofs.Blocks.{content-none}
 use Rattle.listing.proofs.Lines.{block-none, block-some}
 use Rattle.listing.proofs.block_lines.put_block.Statement.{statement}

@@ -3,12 +3,12 @@ use mathlib.Core.Path.{_≡_, refl, _∙_}
 use Prim.Native.Nat.{_-_, _≤_}
 use native.Mathlib.Omega.{arith}
 use lib.ListN.{length}
-use Rattle.lists.specs.Tables.{tablesIn, OfShown}
+use Rattle.lists.specs.promises.Tables.{tablesIn, OfShown}
 use Rattle.lists.specs.Basic.{from, joined}
 use Rattle.text.specs.Written.{Puts}
 use Rattle.text.proofs.Writing.{puts-none, puts-more}
 use Rattle.listing.specs.Listing.{blockPart, blockLines}
-use Rattle.listing.specs.Shown.{sumAt}
+use Rattle.listing.specs.promises.Shown.{sumAt}
 use Rattle.listing.proofs.Lines.{lines-more}
 use Rattle.listing.proofs.block_lines.put_blocks.Statement.{statement}
 use Rattle.listing.proofs.block_lines.put_blocks.Tie as tie

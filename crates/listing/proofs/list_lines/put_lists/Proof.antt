@@ -3,7 +3,7 @@ use mathlib.Core.Path.{_≡_, refl, _∙_}
 use Prim.Native.Nat.{_-_, _≤_}
 use native.Mathlib.Omega.{arith}
 use lib.ListN.{length}
-use Rattle.lists.specs.Tables.{tablesIn, OfShown}
+use Rattle.lists.specs.promises.Tables.{tablesIn, OfShown}
 use Rattle.lists.specs.Basic.{from, joined}
 use Rattle.text.specs.Written.{Puts}
 use Rattle.text.proofs.Writing.{puts-none, puts-more}

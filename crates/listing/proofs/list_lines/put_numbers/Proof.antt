@@ -6,7 +6,7 @@ use native.Mathlib.Omega.{arith}
 use lib.ListN.{length}
 use Rattle.lists.proofs.Lookup.{block-said}
 use Rattle.lists.specs.State.{taken}
-use Rattle.lists.specs.Tables.{OfShown, tablesIn}
+use Rattle.lists.specs.promises.Tables.{OfShown, tablesIn}
 use Rattle.text.proofs.Writing.{puts-length}
 use Rattle.listing.proofs.Blocks.{Putting, putting-none, putting-more, putting-end, putting-full}
 use Rattle.listing.proofs.list_lines.put_numbers.Statement.{statement}

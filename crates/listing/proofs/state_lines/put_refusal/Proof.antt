@@ -1,7 +1,7 @@
 -- The parts of the line, one after the other. Assumes nothing.
 use borrow.Author.Needs.{needs}
 use Rattle.text.proofs.Writing.{puts-more}
-use Rattle.listing.specs.Listing.{refusal}
+use Rattle.listing.specs.Listing.{refusalLine}
 use Rattle.listing.proofs.state_lines.put_refusal.Statement.{statement}
 use Rattle.listing.proofs.state_lines.put_refusal.Tie as tie
 
@@ -21,7 +21,7 @@ same-length : tie.Need-same-length
 same-length c = search needs
 
 returns : tie.Need-returns
-unfolding refusal
+unfolding refusalLine
 returns c =
     let b = c .before .before in
     puts-more (puts-more (b .before .before .before .before .before .before .before .before .put-bytes .ensures) (b .before .before .before .before .put-decimal .ensures)) (b .put-byte .ensures)

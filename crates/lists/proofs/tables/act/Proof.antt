@@ -1,5 +1,5 @@
 -- Each arm is the function of its kind. Assumes nothing.
-use Rattle.lists.specs.Tables.{ofKind}
+use Rattle.lists.specs.promises.Tables.{ofKind}
 use Rattle.lists.proofs.Acting.{put-first, no-kind, did-none}
 use borrow.Author.Needs.{needs}
 use Rattle.lists.proofs.tables.act.Statement.{statement}

@@ -1,5 +1,5 @@
 -- The node before a block that is on some list leads to the one behind it. Assumes nothing.
-use Rattle.lists.specs.Tables.{fits, done, cutBetween}
+use Rattle.lists.specs.promises.Tables.{suits, done, cutNodes}
 use Rattle.lists.proofs.Basic.{eqb-false, eq-true}
 use Rattle.lists.proofs.Acting.{did-not, did-so}
 use borrow.Author.Needs.{needs}
@@ -10,7 +10,7 @@ owner-of-requires : tie.Need-owner-of-requires
 owner-of-requires c κs = search needs
 
 returns : tie.Need-returns
-unfolding fits
+unfolding suits
 returns c = did-not _ _ (rw (eq-true _ _ (rw (c .before .owner-of .ensures) at (c .if1 .taken))))
 
 prev-of-requires : tie.Need-prev-of-requires
@@ -26,7 +26,7 @@ set-owner-requires : tie.Need-set-owner-requires
 set-owner-requires c κs = search needs
 
 returns-2 : tie.Need-returns-2
-unfolding fits done cutBetween
+unfolding suits done cutNodes
 returns-2 c =
     did-so _ _ _
     (rw (eqb-false _ _ (rw (c .before .before .before .before .before .before .before .before .before .owner-of .ensures) at (c .before .before .before .before .before .before .before .before .if1 .left))))

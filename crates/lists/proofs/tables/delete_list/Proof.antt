@@ -1,5 +1,5 @@
 -- The list's nodes are freed, and the node before them leads to the one behind. Assumes nothing.
-use Rattle.lists.specs.Tables.{fits, done, cutBetween, cutList}
+use Rattle.lists.specs.promises.Tables.{suits, done, cutNodes, cutList}
 use Rattle.lists.proofs.Basic.{eqb-false, eq-true}
 use Rattle.lists.proofs.Acting.{did-not, did-so}
 use borrow.Author.Needs.{needs}
@@ -13,7 +13,7 @@ owner-of-requires : tie.Need-owner-of-requires
 owner-of-requires c κs = search needs
 
 returns : tie.Need-returns
-unfolding fits
+unfolding suits
 returns c = did-not _ _ (rw (eq-true _ _ (rw (c .before .owner-of .ensures, c .before .before .before .list-node .ensures) at (c .if1 .taken))))
 
 prev-of-requires : tie.Need-prev-of-requires
@@ -26,7 +26,7 @@ link-requires : tie.Need-link-requires
 link-requires c κs = search needs
 
 returns-2 : tie.Need-returns-2
-unfolding fits done cutBetween cutList
+unfolding suits done cutNodes cutList
 returns-2 c =
     let n = c .before .before .before .before .before .before .before .before .before .list-node .ensures in
     let o = c .before .before .before .before .before .before .before .owner-of .ensures in

@@ -5,7 +5,7 @@ use mathlib.Core.List.{List}
 use Prim.Native.Nat.{ℕ, suc, _<_, _≤_}
 use native.Mathlib.Omega.{arith}
 use borrow.Author.Needs.{needs}
-use Rattle.lists.specs.Tables.{Tables, tables, tablesIn, nextOf, ownerOf, withOwner, Freed, freeFrom, times, Frees}
+use Rattle.lists.specs.promises.Tables.{Tables, tables, tablesIn, nextOf, ownerOf, withOwner, Freed, freeNodes, times, Frees}
 use Rattle.lists.proofs.Freeing.{times-set, free-turn, free-stop}
 use Rattle.lists.proofs.tables.free_nodes.Statement.{statement}
 use Rattle.lists.proofs.tables.free_nodes.Tie as tie
@@ -15,8 +15,8 @@ record Freeing (t₀ : Tables) (list from : ℕ) (t : Tables) (n of : ℕ) : Typ
   here : of ≡ ownerOf t n
   next : t .next ≡ t₀ .next
   prev : t .prev ≡ t₀ .prev
-  place : t .place ≡ t₀ .place
-  rest : freeFrom (t .next) list n (t .owner) ≡ freeFrom (t₀ .next) list from (t₀ .owner)
+  location : t .location ≡ t₀ .location
+  rest : freeNodes (t .next) list n (t .owner) ≡ freeNodes (t₀ .next) list from (t₀ .owner)
 
 module _ (t₀ t : Tables) (list from n of : ℕ) (s : Freeing t₀ list from t n of) where
   -- one node freed
@@ -31,10 +31,10 @@ module _ (t₀ t : Tables) (list from n of : ℕ) (s : Freeing t₀ list from t 
     here = g;
     next = ap (λ (x : Tables). x .next) e ∙ s .next;
     prev = ap (λ (x : Tables). x .prev) e ∙ s .prev;
-    place = ap (λ (x : Tables). x .place) e ∙ s .place;
+    location = ap (λ (x : Tables). x .location) e ∙ s .location;
     rest =
-        ap (λ (k : ℕ). freeFrom (u .next) list k (u .owner)) f
-        ∙ ap (λ (x : Tables). freeFrom (x .next) list (nextOf x n) (x .owner)) e
+        ap (λ (k : ℕ). freeNodes (u .next) list k (u .owner)) f
+        ∙ ap (λ (x : Tables). freeNodes (x .next) list (nextOf x n) (x .owner)) e
         ∙ free-turn (t .next) list n (t .owner) (sym (s .here) ∙ h) (s .some)
         ∙ s .rest;
   }
@@ -44,7 +44,7 @@ module _ (t₀ t : Tables) (list from n of : ℕ) (s : Freeing t₀ list from t 
       let e = sym (s .rest) ∙ free-stop (t .next) list n (t .owner) (λ z. h (s .here ∙ z)) in
       record {
         answer = sym (ap (λ (f : Freed). f .behind) e);
-        left = λ i. tables (s .next i) (s .prev i) (sym (ap (λ (f : Freed). f .owners) e) i) (s .place i);
+        left = λ i. tables (s .next i) (s .prev i) (sym (ap (λ (f : Freed). f .owners) e) i) (s .location i);
       }
 
 abbrev Inv-loop : tie.InvT-loop
@@ -57,7 +57,7 @@ owner-of-requires : tie.Need-owner-of-requires Inv-loop μ-loop
 owner-of-requires c κs = search needs
 
 loop-holds : tie.Need-loop-holds Inv-loop μ-loop
-loop-holds c = record { some = c .before .before .pre; here = c .owner-of .ensures; next = refl; prev = refl; place = refl; rest = refl }
+loop-holds c = record { some = c .before .before .pre; here = c .owner-of .ensures; next = refl; prev = refl; location = refl; rest = refl }
 
 set-owner-requires : tie.Need-set-owner-requires Inv-loop μ-loop
 set-owner-requires c κs = search needs

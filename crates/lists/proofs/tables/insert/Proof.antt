@@ -1,5 +1,5 @@
 -- Node x leads to n, and n to what followed x. Assumes nothing.
-use Rattle.lists.specs.Tables.{insertNode}
+use Rattle.lists.specs.promises.Tables.{insertNode}
 use borrow.Author.Needs.{needs}
 use Rattle.lists.proofs.tables.insert.Statement.{statement}
 use Rattle.lists.proofs.tables.insert.Tie as tie

@@ -3,7 +3,7 @@ use mathlib.Core.Path.{_∙_, ap}
 use mathlib.Core.Bool.{not}
 use Prim.Native.Nat.{ℕ}
 use lib.Dec.{eqb}
-use Rattle.lists.specs.Tables.{tablesIn, ownerOf}
+use Rattle.lists.specs.promises.Tables.{tablesIn, ownerOf}
 use borrow.Author.Needs.{needs}
 use Rattle.lists.proofs.tables.is_taken.Statement.{statement}
 use Rattle.lists.proofs.tables.is_taken.Tie as tie

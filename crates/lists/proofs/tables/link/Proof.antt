@@ -1,6 +1,6 @@
 -- One number in each of two tables. Assumes nothing.
 use mathlib.Core.Path.{_∙_, ap}
-use Rattle.lists.specs.Tables.{Tables, withPrev}
+use Rattle.lists.specs.promises.Tables.{Tables, withPrev}
 use borrow.Author.Needs.{needs}
 use Rattle.lists.proofs.tables.link.Statement.{statement}
 use Rattle.lists.proofs.tables.link.Tie as tie

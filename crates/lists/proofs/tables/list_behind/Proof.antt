@@ -5,7 +5,7 @@ use Prim.Native.Nat.{ℕ, suc, _+_, _-_, _<_, _≤_}
 use native.Mathlib.Omega.{arith}
 use lib.ListN.{getD}
 use borrow.Author.Needs.{needs}
-use Rattle.lists.specs.Tables.{tablesIn, listWithin}
+use Rattle.lists.specs.promises.Tables.{tablesIn, listWithin}
 use Rattle.lists.proofs.Lookup.{within-none, within-end, within-list, within-block}
 use Rattle.lists.proofs.tables.list_behind.Statement.{statement}
 use Rattle.lists.proofs.tables.list_behind.Tie as tie

@@ -1,5 +1,5 @@
 -- The list's node is free, and goes in behind the last one. Assumes nothing.
-use Rattle.lists.specs.Tables.{fits, done}
+use Rattle.lists.specs.promises.Tables.{suits, done}
 use Rattle.lists.proofs.Basic.{eqb-false, eq-true}
 use Rattle.lists.proofs.Acting.{did-not, did-so}
 use borrow.Author.Needs.{needs}
@@ -13,7 +13,7 @@ owner-of-requires : tie.Need-owner-of-requires
 owner-of-requires c κs = search needs
 
 returns : tie.Need-returns
-unfolding fits
+unfolding suits
 returns c = did-not _ _ (eqb-false _ _ (rw (c .before .owner-of .ensures, c .before .before .before .list-node .ensures) at (c .if1 .taken)))
 
 prev-of-requires : tie.Need-prev-of-requires
@@ -23,7 +23,7 @@ insert-requires : tie.Need-insert-requires
 insert-requires c κs = search needs
 
 returns-2 : tie.Need-returns-2
-unfolding fits done
+unfolding suits done
 returns-2 c =
     let n = c .before .before .before .before .before .before .before .list-node .ensures in
     did-so _ _ _ (eq-true _ _ (rw (c .before .before .before .before .before .owner-of .ensures, n) at (c .before .before .before .before .if1 .left))) (rw (c .before .before .prev-of .ensures, n) at (c .insert .ensures))

@@ -1,5 +1,5 @@
 -- A block that is on some list gets its place. Assumes nothing.
-use Rattle.lists.specs.Tables.{fits, done, placeAt}
+use Rattle.lists.specs.promises.Tables.{suits, done, locate}
 use Rattle.lists.proofs.Basic.{eqb-false, eq-true}
 use Rattle.lists.proofs.Acting.{did-not, did-so}
 use borrow.Author.Needs.{needs}
@@ -10,15 +10,15 @@ owner-of-requires : tie.Need-owner-of-requires
 owner-of-requires c κs = search needs
 
 returns : tie.Need-returns
-unfolding fits
+unfolding suits
 returns c = did-not _ _ (rw (eq-true _ _ (rw (c .before .owner-of .ensures) at (c .if1 .taken))))
 
-set-place-requires : tie.Need-set-place-requires
-set-place-requires c κs = search needs
+set-location-requires : tie.Need-set-location-requires
+set-location-requires c κs = search needs
 
 returns-2 : tie.Need-returns-2
-unfolding fits done placeAt
-returns-2 c = did-so _ _ _ (rw (eqb-false _ _ (rw (c .before .before .before .owner-of .ensures) at (c .before .before .if1 .left)))) (c .set-place .ensures)
+unfolding suits done locate
+returns-2 c = did-so _ _ _ (rw (eqb-false _ _ (rw (c .before .before .before .owner-of .ensures) at (c .before .before .if1 .left)))) (c .set-location .ensures)
 
 pub write-block-spec : {M : Type 1} → statement M
-write-block-spec = tie.close (tie.spec owner-of-requires returns set-place-requires returns-2)
+write-block-spec = tie.close (tie.spec owner-of-requires returns set-location-requires returns-2)

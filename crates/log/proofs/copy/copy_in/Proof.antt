@@ -7,7 +7,7 @@ use native.Mathlib.Numerals.{add-one}
 use borrow.Author.Needs.{needs}
 use lib.ListN.{length, take, drop, getD, set}
 use lib.Seq.{paste, paste-zero, paste-suc, length-paste, take-all}
-use Rattle.log.specs.Location.{splice}
+use Rattle.log.specs.Card.{splice}
 use Rattle.log.proofs.copy.copy_in.Statement.{statement}
 use Rattle.log.proofs.copy.copy_in.Tie as tie
 

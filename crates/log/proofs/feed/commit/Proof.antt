@@ -9,9 +9,9 @@ use lib.ListN.{drop, getD}
 use borrow.Author.Tests.{not-true, not-false}
 use Rattle.lists.specs.Change.{Change, takeList}
 use Rattle.lists.specs.State.{State, apply, applyAll}
-use Rattle.lists.specs.Tables.{tablesIn, Shows, Represents}
+use Rattle.lists.specs.promises.Tables.{tablesIn, Shows, Represents}
 use Rattle.log.specs.Reader.{Reader, lastOf}
-use Rattle.log.specs.Feed.{lent, Kept}
+use Rattle.log.specs.promises.Feed.{memory, Keeps}
 use Rattle.log.proofs.Feeding.{read-short, read-commit, last-from, turn-made, turn-refused, all-made, none-refused}
 use borrow.Author.Needs.{needs}
 use Rattle.log.proofs.feed.commit.Statement.{statement}
@@ -20,7 +20,7 @@ use Rattle.log.proofs.feed.commit.Tie as tie
 abbrev Inv-loop : tie.InvT-loop
 Inv-loop nodes₀ members run n j₀ nodes j =
     (n ≤ run) × (run - n ≤ j) × (j ≤ run)
-    × ((r : Reader ℕ) → Kept (lent nodes₀ members) run r → n ≤ 15
+    × ((r : Reader ℕ) → Keeps (memory nodes₀ members) run r → n ≤ 15
     → (s : State ℕ) × Shows (tablesIn nodes) (s .lists) × (applyAll 0 (drop j (r .run)) s ≡ applyAll 0 (lastOf n (r .run)) (r .state)))
 
 abbrev μ-loop : tie.MeasureT-loop

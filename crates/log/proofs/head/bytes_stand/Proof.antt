@@ -2,7 +2,7 @@
 use mathlib.Core.Path.{_≡_, sym, _∙_}
 use Prim.Native.Nat.{_-_, _≤_}
 use native.Mathlib.Omega.{arith}
-use Rattle.log.specs.Begun.{standsFrom}
+use Rattle.log.specs.promises.Begun.{standsFrom}
 use Rattle.log.proofs.Begun.{leftAt, left-all, left-same, left-other, left-none}
 use Rattle.log.proofs.head.bytes_stand.Statement.{statement}
 use Rattle.log.proofs.head.bytes_stand.Tie as tie

@@ -6,7 +6,7 @@ use native.Mathlib.Numerals.{add-one}
 use borrow.Author.Tests.{lt-ltb, le-ltb}
 use borrow.Author.Needs.{needs}
 use Rattle.log.specs.Store.{home}
-use Rattle.log.specs.Within.{asPlace}
+use Rattle.log.specs.promises.Within.{asPlace}
 use Rattle.log.proofs.place.home_of.Statement.{statement}
 use Rattle.log.proofs.place.home_of.Tie as tie
 

@@ -37,7 +37,7 @@ use denote.Triple.Table.{entered, cited}
 use denote.Triple.Walked.{says, needs, Stays, stay-none, stay-none-slice, walkOf, goes-none, goes-none-slice, ends-at, walked, walk-meets}
 use denote.Exit.{yes}
 use Rattle.log.specs.Card.{entriesOffset}
-use Rattle.log.specs.Found.{InSegment, Finds}
+use Rattle.log.specs.promises.Found.{InSegment, Finds}
 use Rattle.log.specs.declared.reader.Found.{Found}
 use Rattle.log.specs.declared.reader.Reader.{Reader}
 use Rattle.log.proofs.Held.{CardT, ReaderT, OwnCard, card-val, number-vals, Numbers, Apart, of-parts, Inside, FindsAt, Fit, numbers, with-numbers, card-twice, returned}

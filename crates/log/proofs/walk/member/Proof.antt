@@ -4,10 +4,10 @@ use Prim.Native.Nat.{_+_}
 use native.Mathlib.Omega.{arith}
 use native.Mathlib.Nat.{add-zero}
 use Rattle.lists.specs.Change.{carriedBy}
-use Rattle.lists.specs.Tables.{ofKind}
+use Rattle.lists.specs.promises.Tables.{ofKind}
 use Rattle.log.specs.Entry.{asEntry, carried}
 use Rattle.log.specs.Card.{usedBy}
-use Rattle.log.specs.Location.{cardLocation}
+use Rattle.log.specs.promises.Location.{cardLocation}
 use Rattle.log.proofs.Entering.{enters-later, enters-never}
 use borrow.Author.Needs.{needs}
 use Rattle.log.proofs.walk.member.Statement.{statement}

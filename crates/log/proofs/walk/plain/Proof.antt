@@ -4,11 +4,11 @@ use Prim.Native.Nat.{_+_}
 use native.Mathlib.Omega.{arith}
 use native.Mathlib.Nat.{add-zero}
 use Rattle.lists.specs.Change.{carriedBy}
-use Rattle.lists.specs.Tables.{tablesIn, ofKind}
+use Rattle.lists.specs.promises.Tables.{tablesIn, ofKind}
 use Rattle.log.specs.Entry.{asEntry, carried}
 use Rattle.log.specs.Card.{usedBy}
-use Rattle.log.specs.Feed.{lent}
-use Rattle.log.specs.Location.{cardLocation}
+use Rattle.log.specs.promises.Feed.{memory}
+use Rattle.log.specs.promises.Location.{cardLocation}
 use Rattle.log.proofs.Entering.{enters-now, enters-commit}
 use borrow.Author.Needs.{needs}
 use Rattle.log.proofs.walk.plain.Statement.{statement}
@@ -91,7 +91,7 @@ unfolding ofKind carried carriedBy asEntry usedBy
 returns c =
     let s = c .before .before .before .before .before .before .args in
     let a = c .before .act in
-    enters-now (lent (s .nodes .now) (s .members .now)) (s .run) (s .e) _ (c .before .before .before .before .e .given .1) (cardLocation (s .g) (s .slots)) (s .at) (s .slots) (a .result) (tablesIn (a .last .0)) _ (s .slots) (c .go .ensures) (sym (add-zero (s .slots))) (λ z. omega arith)
+    enters-now (memory (s .nodes .now) (s .members .now)) (s .run) (s .e) _ (c .before .before .before .before .e .given .1) (cardLocation (s .g) (s .slots)) (s .at) (s .slots) (a .result) (tablesIn (a .last .0)) _ (s .slots) (c .go .ensures) (sym (add-zero (s .slots))) (λ z. omega arith)
     (a .ensures)
 
 returns-2 : tie.Need-returns-2
@@ -99,7 +99,7 @@ unfolding ofKind carried carriedBy asEntry usedBy
 returns-2 c =
     let s = c .before .before .before .before .before .before .args in
     let a = c .before .act2 in
-    enters-now (lent (s .nodes .now) (s .members .now)) (s .run) (s .e) _ (c .before .before .before .before .e2 .given .1) (cardLocation (s .g) (s .slots)) (s .at) (s .slots) (a .result) (tablesIn (a .last .0)) _ (s .slots) (c .go2 .ensures) (sym (add-zero (s .slots))) (λ z. omega arith)
+    enters-now (memory (s .nodes .now) (s .members .now)) (s .run) (s .e) _ (c .before .before .before .before .e2 .given .1) (cardLocation (s .g) (s .slots)) (s .at) (s .slots) (a .result) (tablesIn (a .last .0)) _ (s .slots) (c .go2 .ensures) (sym (add-zero (s .slots))) (λ z. omega arith)
     (a .ensures)
 
 returns-3 : tie.Need-returns-3
@@ -107,7 +107,7 @@ unfolding ofKind carried carriedBy asEntry usedBy
 returns-3 c =
     let s = c .before .before .before .before .before .before .args in
     let a = c .before .act3 in
-    enters-now (lent (s .nodes .now) (s .members .now)) (s .run) (s .e) _ (c .before .before .before .before .e3 .given .1) (cardLocation (s .g) (s .slots)) (s .at) (s .slots) (a .result) (tablesIn (a .last .0)) _ (s .slots) (c .go3 .ensures) (sym (add-zero (s .slots))) (λ z. omega arith)
+    enters-now (memory (s .nodes .now) (s .members .now)) (s .run) (s .e) _ (c .before .before .before .before .e3 .given .1) (cardLocation (s .g) (s .slots)) (s .at) (s .slots) (a .result) (tablesIn (a .last .0)) _ (s .slots) (c .go3 .ensures) (sym (add-zero (s .slots))) (λ z. omega arith)
     (a .ensures)
 
 returns-4 : tie.Need-returns-4
@@ -115,7 +115,7 @@ unfolding ofKind carried carriedBy asEntry usedBy
 returns-4 c =
     let s = c .before .before .before .before .before .before .before .args in
     let a = c .before .act4 in
-    enters-now (lent (s .nodes .now) (s .members .now)) (s .run) (s .e) _ (c .before .before .before .before .before .e4 .given .1) (cardLocation (s .g) (s .slots)) (s .at) (s .slots) (a .result) (tablesIn (a .last .0)) _ (s .slots + 1) (c .go4 .ensures) refl (λ z. omega arith)
+    enters-now (memory (s .nodes .now) (s .members .now)) (s .run) (s .e) _ (c .before .before .before .before .before .e4 .given .1) (cardLocation (s .g) (s .slots)) (s .at) (s .slots) (a .result) (tablesIn (a .last .0)) _ (s .slots + 1) (c .go4 .ensures) refl (λ z. omega arith)
     (rw (c .before .before .before .card-location .ensures) at (a .ensures))
 
 returns-5 : tie.Need-returns-5
@@ -123,7 +123,7 @@ unfolding ofKind carried carriedBy asEntry usedBy
 returns-5 c =
     let s = c .before .before .before .before .before .before .args in
     let a = c .before .act5 in
-    enters-now (lent (s .nodes .now) (s .members .now)) (s .run) (s .e) _ (c .before .before .before .before .e5 .given .1) (cardLocation (s .g) (s .slots)) (s .at) (s .slots) (a .result) (tablesIn (a .last .0)) _ (s .slots) (c .go5 .ensures) (sym (add-zero (s .slots))) (λ z. omega arith)
+    enters-now (memory (s .nodes .now) (s .members .now)) (s .run) (s .e) _ (c .before .before .before .before .e5 .given .1) (cardLocation (s .g) (s .slots)) (s .at) (s .slots) (a .result) (tablesIn (a .last .0)) _ (s .slots) (c .go5 .ensures) (sym (add-zero (s .slots))) (λ z. omega arith)
     (a .ensures)
 
 returns-6 : tie.Need-returns-6
@@ -131,13 +131,13 @@ unfolding ofKind carried carriedBy asEntry usedBy
 returns-6 c =
     let s = c .before .before .before .before .before .before .args in
     let a = c .before .act6 in
-    enters-now (lent (s .nodes .now) (s .members .now)) (s .run) (s .e) _ (c .before .before .before .before .e6 .given .1) (cardLocation (s .g) (s .slots)) (s .at) (s .slots) (a .result) (tablesIn (a .last .0)) _ (s .slots) (c .go6 .ensures) (sym (add-zero (s .slots))) (λ z. omega arith)
+    enters-now (memory (s .nodes .now) (s .members .now)) (s .run) (s .e) _ (c .before .before .before .before .e6 .given .1) (cardLocation (s .g) (s .slots)) (s .at) (s .slots) (a .result) (tablesIn (a .last .0)) _ (s .slots) (c .go6 .ensures) (sym (add-zero (s .slots))) (λ z. omega arith)
     (a .ensures)
 
 returns-7 : tie.Need-returns-7
 returns-7 c =
     let s = c .before .before .before .before .before .before .args in
-    enters-commit (lent (s .nodes .now) (s .members .now)) (s .run) (s .e) _ (cardLocation (s .g) (s .slots)) (s .at) (s .slots) (c .before .before .before .before .e7 .given .1) (c .before .commit .result) _ _ (c .go7 .ensures) (c .before .commit .ensures)
+    enters-commit (memory (s .nodes .now) (s .members .now)) (s .run) (s .e) _ (cardLocation (s .g) (s .slots)) (s .at) (s .slots) (c .before .before .before .before .e7 .given .1) (c .before .commit .result) _ _ (c .go7 .ensures) (c .before .commit .ensures)
 
 pub plain-spec : {M : Type 1} → statement M
 plain-spec =

@@ -1,7 +1,7 @@
 -- Found, then entered: what each way says of the segment's items from the cursor on. Assumes nothing.
 use mathlib.Core.Bool.{true, false}
-use Rattle.lists.specs.Tables.{tablesIn}
-use Rattle.log.specs.Feed.{lent}
+use Rattle.lists.specs.promises.Tables.{tablesIn}
+use Rattle.log.specs.promises.Feed.{memory}
 use Rattle.log.proofs.Entering.{steps-bad, steps-entered}
 use borrow.Author.Needs.{needs}
 use Rattle.log.proofs.walk.step_entry.Statement.{statement}
@@ -29,26 +29,26 @@ returns : tie.Need-returns
 returns c =
     let z = c .before .before .before .before .before .before .before in
     let s = z .args in
-    let m = (lent (s .nodes .now) (s .members .now)) in
+    let m = (memory (s .nodes .now) (s .members .now)) in
     let f = rw (c .before .before .before .e .given .1) at (c .before .before .before .before .before .entry-at .ensures) in
     let y = c .member in
-    steps-entered (s .card .now) (s .g) (s .cur) m (lent (s .nodes .now) (y .last .0)) (z .pre .holds) true _ _ f (y .result)
+    steps-entered (s .card .now) (s .g) (s .cur) m (memory (s .nodes .now) (y .last .0)) (z .pre .holds) true _ _ f (y .result)
     (y .ensures (tablesIn (s .nodes .now)))
 
 returns-2 : tie.Need-returns-2
 returns-2 c =
     let z = c .before .before .before .before .before .before .before .before in
     let s = z .args in
-    let m = (lent (s .nodes .now) (s .members .now)) in
+    let m = (memory (s .nodes .now) (s .members .now)) in
     let f = rw (c .before .before .before .before .e2 .given .1) at (c .before .before .before .before .before .before .entry-at .ensures) in
     let y = c .plain in
-    steps-entered (s .card .now) (s .g) (s .cur) m (lent (y .last .0) (s .members .now)) (z .pre .holds) false _ _ f (y .result)
+    steps-entered (s .card .now) (s .g) (s .cur) m (memory (y .last .0) (s .members .now)) (z .pre .holds) false _ _ f (y .result)
     (y .ensures)
 
 returns-3 : tie.Need-returns-3
 returns-3 c =
     let s = c .before .before .before .before .args in
-    let m = (lent (s .nodes .now) (s .members .now)) in
+    let m = (memory (s .nodes .now) (s .members .now)) in
     steps-bad (s .card .now) (s .g) (s .cur) m m (rw (c .enum-told .given .1) at (c .before .before .entry-at .ensures))
 
 pub step-entry-spec : {M : Type 1} → statement M

@@ -5,10 +5,10 @@ use mathlib.Core.List.{[]}
 use Prim.Native.Nat.{_-_, _*_, _≤_}
 use native.Mathlib.Omega.{arith}
 use lib.ListN.{length}
-use Rattle.lists.specs.Tables.{Tables, Shows}
+use Rattle.lists.specs.promises.Tables.{Tables, Shows}
 use Rattle.lists.proofs.Represents.{shows-emptied}
 use Rattle.log.specs.Card.{segmentsIn, count}
-use Rattle.log.specs.Feed.{lent}
+use Rattle.log.specs.promises.Feed.{memory}
 use Rattle.log.proofs.Walking.{Upto, card-small, upto-start, upto-end, upto-empty, upto-used, upto-broken, upto-more}
 use borrow.Author.Needs.{needs}
 use Rattle.log.proofs.walk.walk.Statement.{statement}
@@ -16,7 +16,7 @@ use Rattle.log.proofs.walk.walk.Tie as tie
 
 abbrev Inv-loop : tie.InvT-loop
 Inv-loop card nodes₀ members₀ n behind₀ run₀ g₀ nodes members behind run g =
-    (g ≤ n) × (n ≤ 64) × (length card ≡ 4096 * n) × (run ≤ 255 * g) × Upto card n g run behind (lent nodes members)
+    (g ≤ n) × (n ≤ 64) × (length card ≡ 4096 * n) × (run ≤ 255 * g) × Upto card n g run behind (memory nodes members)
 
 abbrev μ-loop : tie.MeasureT-loop
 μ-loop card nodes₀ members₀ n behind₀ run₀ g₀ nodes members behind run g = n - g
@@ -52,13 +52,13 @@ returns : tie.Need-returns Inv-loop μ-loop
 returns c =
     let s = c .before .before .before .before .before .before .before .before .before .before .before .args in
     let l = c .before .before .before .before .before .loop in
-    upto-used (s .card .now) (segmentsIn (s .card .now)) (l .g) (l .run) (l .behind) (lent (l .nodes) (l .members)) (l .inv .4) (c .before .before .before .before .loop-test .taken) (c .before .before .if1 .taken) (c .before .first-used .result) (c .before .first-used .ensures) (c .if2 .taken)
+    upto-used (s .card .now) (segmentsIn (s .card .now)) (l .g) (l .run) (l .behind) (memory (l .nodes) (l .members)) (l .inv .4) (c .before .before .before .before .loop-test .taken) (c .before .before .if1 .taken) (c .before .first-used .result) (c .before .first-used .ensures) (c .if2 .taken)
 
 returns-2 : tie.Need-returns-2 Inv-loop μ-loop
 returns-2 c =
     let s = c .before .before .before .before .before .before .before .before .before .before .before .args in
     let l = c .before .before .before .before .before .loop in
-    upto-empty (s .card .now) (segmentsIn (s .card .now)) (l .g) (l .run) (l .behind) (lent (l .nodes) (l .members)) (l .inv .4) (c .before .before .before .before .loop-test .taken) (c .before .before .if1 .taken) (omega arith) (c .before .first-used .result) (c .before .first-used .ensures)
+    upto-empty (s .card .now) (segmentsIn (s .card .now)) (l .g) (l .run) (l .behind) (memory (l .nodes) (l .members)) (l .inv .4) (c .before .before .before .before .loop-test .taken) (c .before .before .if1 .taken) (omega arith) (c .before .first-used .result) (c .before .first-used .ensures)
     (c .if2 .left)
 
 walk-segment-requires : tie.Need-walk-segment-requires Inv-loop μ-loop
@@ -78,7 +78,7 @@ returns-3 c =
     let s = c .before .before .before .before .before .before .before .before .before .before .before .before .before .before .before .args in
     let l = c .before .before .before .before .before .before .before .before .before .loop in
     let u = l .inv .4 in
-    upto-broken (s .card .now) (segmentsIn (s .card .now)) (l .g) (l .run) (l .behind) (lent (l .nodes) (l .members)) u (c .before .before .before .before .before .before .before .before .loop-test .taken) (c .before .before .before .before .before .before .if1 .left) _
+    upto-broken (s .card .now) (segmentsIn (s .card .now)) (l .g) (l .run) (l .behind) (memory (l .nodes) (l .members)) u (c .before .before .before .before .before .before .before .before .loop-test .taken) (c .before .before .before .before .before .before .if1 .left) _
     ((rw (c .before .i .given .1) at (c .before .before .before .walk-segment .ensures)) (u .reader) (u .kept))
 
 add-g : tie.Need-add-g Inv-loop μ-loop
@@ -98,14 +98,14 @@ loop-again c =
       l .inv .1,
       l .inv .2,
       omega (arith, e .short, l .inv .3),
-      upto-more (s .card .now) (segmentsIn (s .card .now)) (l .g) (l .run) (l .behind) (lent (l .nodes) (l .members)) u (c .before .before .before .before .before .before .before .before .loop-test .taken) (c .before .before .before .before .before .before .if1 .left) _ _ (lent (y .last .1 .0) (y .last .1 .1 .0)) (e .here) (e .through (u .reader) (u .kept)),
+      upto-more (s .card .now) (segmentsIn (s .card .now)) (l .g) (l .run) (l .behind) (memory (l .nodes) (l .members)) u (c .before .before .before .before .before .before .before .before .loop-test .taken) (c .before .before .before .before .before .before .if1 .left) _ _ (memory (y .last .1 .0) (y .last .1 .1 .0)) (e .here) (e .through (u .reader) (u .kept)),
     )
 
 returns-4 : tie.Need-returns-4 Inv-loop μ-loop
 returns-4 c =
     let s = c .before .before .before .before .before .before .before .args in
     let l = c .before .loop in
-    upto-end (s .card .now) (segmentsIn (s .card .now)) (l .g) (l .run) (l .behind) (lent (l .nodes) (l .members)) (l .inv .4) (c .loop-test .left) (omega arith)
+    upto-end (s .card .now) (segmentsIn (s .card .now)) (l .g) (l .run) (l .behind) (memory (l .nodes) (l .members)) (l .inv .4) (c .loop-test .left) (omega arith)
 
 pub walk-spec : {M : Type 1} → statement M
 walk-spec =

@@ -5,7 +5,7 @@ use native.Mathlib.Omega.{arith}
 use lib.ListN.{getD}
 use Rattle.log.specs.Reader.{Reader}
 use Rattle.log.specs.Card.{count}
-use Rattle.log.specs.Feed.{lent, Kept}
+use Rattle.log.specs.promises.Feed.{memory, Keeps}
 use Rattle.log.proofs.Walking.{Past, past-start, past-stuck, past-more, past-end}
 use borrow.Author.Needs.{needs}
 use Rattle.log.proofs.walk.walk_segment.Statement.{statement}
@@ -16,7 +16,7 @@ use Rattle.log.proofs.walk.walk_segment.Lts as lts
 abbrev Inv-loop : tie.InvT-loop
 Inv-loop card nodes₀ members₀ g run start n cur₀ i₀ nodes members cur i =
     (i ≤ n) × (n < 256) × (4096 * g + 3585 ≤ cur .at) × (cur .at ≤ 4096 * g + 4096) × (cur .slots ≤ i) × (cur .run ≤ run + i)
-    × ((r : Reader ℕ) → Kept (lent nodes₀ members₀) run r → Past card g n i cur r (lent nodes members))
+    × ((r : Reader ℕ) → Keeps (memory nodes₀ members₀) run r → Past card g n i cur r (memory nodes members))
 
 abbrev μ-loop : tie.MeasureT-loop
 μ-loop card nodes₀ members₀ g run start n cur₀ i₀ nodes members cur i = n - i
@@ -49,7 +49,7 @@ loop-holds c =
       omega arith,
       omega arith,
       omega arith,
-      λ r k. past-start (s .card .now) (s .g) (getD (s .card .now) (4096 * s .g + 3584) 0) (s .run) r (lent (s .nodes .now) (s .members .now)) refl k,
+      λ r k. past-start (s .card .now) (s .g) (getD (s .card .now) (4096 * s .g + 3584) 0) (s .run) r (memory (s .nodes .now) (s .members .now)) refl k,
     )
 
 step-entry-requires : tie.Need-step-entry-requires Inv-loop μ-loop
@@ -70,7 +70,7 @@ returns c =
     let l = c .before .before .before .before .before .before .loop in
     λ r k.
     let w = l .inv .6 r k in
-    past-stuck (s .card .now) (s .g) _ (l .i) (l .cur) r (lent (l .nodes) (l .members)) w (c .before .before .before .before .before .loop-test .taken) ((rw (c .enum-told .given .1) at (c .before .before .step-entry .ensures)) (w .reader) (w .kept))
+    past-stuck (s .card .now) (s .g) _ (l .i) (l .cur) r (memory (l .nodes) (l .members)) w (c .before .before .before .before .before .loop-test .taken) ((rw (c .enum-told .given .1) at (c .before .before .step-entry .ensures)) (w .reader) (w .kept))
 
 add-i : tie.Need-add-i Inv-loop μ-loop
 add-i c = omega arith
@@ -92,7 +92,7 @@ loop-again c =
       omega (arith, e .short),
       λ r k.
           let w = l .inv .6 r k in
-          past-more (s .card .now) (s .g) _ (l .i) (l .cur) r (lent (l .nodes) (l .members)) w _ (lent (y .last .1 .0) (y .last .1 .1 .0)) (c .before .before .before .before .before .before .loop-test .taken) (l .inv .2) (e .went (w .reader) (w .kept)),
+          past-more (s .card .now) (s .g) _ (l .i) (l .cur) r (memory (l .nodes) (l .members)) w _ (memory (y .last .1 .0) (y .last .1 .1 .0)) (c .before .before .before .before .before .before .loop-test .taken) (l .inv .2) (e .went (w .reader) (w .kept)),
     )
 
 sub-t12 : tie.Need-sub-t12 Inv-loop μ-loop
@@ -108,7 +108,7 @@ returns-2 c =
     record {
       here = refl;
       short = omega arith;
-      through = λ r k. past-end (s .card .now) (s .g) _ (l .i) (l .cur) r (lent (l .nodes) (l .members)) (l .inv .6 r k) (c .before .loop-test .left) z q;
+      through = λ r k. past-end (s .card .now) (s .g) _ (l .i) (l .cur) r (memory (l .nodes) (l .members)) (l .inv .6 r k) (c .before .loop-test .left) z q;
     }
 
 pub walk-segment-spec : {M : Type 1} → statement M

@@ -3,7 +3,7 @@ use mathlib.Core.Path.{refl, sym}
 use mathlib.Core.List.{[], _∷_}
 use native.Mathlib.Omega.{arith}
 use borrow.Author.Needs.{needs}
-use Rattle.text.specs.Written.{written, after}
+use Rattle.text.specs.Written.{written, afterText}
 use Rattle.text.proofs.Writing.{written-out}
 use Rattle.text.proofs.put.put_byte.Statement.{statement}
 use Rattle.text.proofs.put.put_byte.Tie as tie
@@ -18,20 +18,20 @@ same-length : tie.Need-same-length
 same-length c = search needs
 
 returns : tie.Need-returns
-unfolding written after
+unfolding written afterText
 returns c = record { bytes = refl; position = omega arith }
 
 add-result-2 : tie.Need-add-result-2
 add-result-2 c = search needs
 
 returns-2 : tie.Need-returns-2
-unfolding after
+unfolding afterText
 returns-2 c =
     let a = c .before .before .args in
     record { bytes = sym (written-out (a .out .now) (a .at) (a .b ∷ []) (omega arith)); position = omega arith }
 
 returns-3 : tie.Need-returns-3
-unfolding after
+unfolding afterText
 returns-3 c =
     let a = c .before .before .args in
     record { bytes = sym (written-out (a .out .now) (a .at) (a .b ∷ []) (omega arith)); position = omega arith }

@@ -8,11 +8,11 @@ use lib.Dec.{leb, eqb}
 use lib.ListN.{set}
 use Rattle.lists.specs.Basic.{isSome, orElse}
 use Rattle.lists.specs.State.{Row, State, taken, placed, onList, overlay}
-use Rattle.lists.specs.Tables.{Tables, Shows}
+use Rattle.lists.specs.promises.Tables.{Tables, Shows}
 use Rattle.log.specs.declared.entry.LogEntry.{LogEntry}
 use Rattle.log.specs.declared.entry.LogEntry.the-variants.{Take, PutFirst, PutAfter}
 use Rattle.log.specs.Entry.{isList}
-use Rattle.log.specs.Location.{blank}
+use Rattle.log.specs.promises.Location.{blank}
 use Rattle.disk.specs.declared.record.Record.{Record}
 use Rattle.disk.specs.declared.answer.NumberReply.{NumberReply}
 use Rattle.disk.specs.declared.answer.NumberReply.the-variants.{Number, Refused}
@@ -20,8 +20,8 @@ use Rattle.disk.specs.Record.{ringPlace, unitAt, holderOf, withQueue, withUnits
 use Rattle.disk.specs.Disk.{Disk}
 use Rattle.disk.specs.Questions.{freeFrom, firstNo}
 use Rattle.disk.specs.Answers.{number}
-use Rattle.inspect.specs.Located.{journalHere}
-use Rattle.calls.specs.Adds.{added, rooms}
+use Rattle.inspect.specs.promises.Located.{journalHere}
+use Rattle.calls.specs.promises.Adds.{added, rooms}
 
 -- of committed lists rs
 abbrev pub freeListIn : {D : Type 0} → Record → List (Row D) → Option ℕ
@@ -49,9 +49,9 @@ unfoldable pub putBlock : ℕ → ℕ → ℕ → ℕ → Record → Record
 putBlock s l p b r = withLastBlock (heldBy s b (added s (putEntry b l p) r)) b
 
 -- after questions qs
-abbrev pub Puts : List (ℕ × Bool) → ℕ → ℕ → ℕ → ℕ → Record → NumberReply → Record → Type 0
-Puts qs s l p b r (Refused x) r′ = (r′ ≡ r) × ((d : Disk) → d .rec ≡ r → firstNo (qs ++ rooms d s) ≡ number x)
-Puts qs s l p b r (Number n) r′ = (n ≡ b) × (r′ ≡ putBlock s l p b r) × ((d : Disk) → d .rec ≡ r → firstNo (qs ++ rooms d s) ≡ 0)
+abbrev pub Gives : List (ℕ × Bool) → ℕ → ℕ → ℕ → ℕ → Record → NumberReply → Record → Type 0
+Gives qs s l p b r (Refused x) r′ = (r′ ≡ r) × ((d : Disk) → d .rec ≡ r → firstNo (qs ++ rooms d s) ≡ number x)
+Gives qs s l p b r (Number n) r′ = (n ≡ b) × (r′ ≡ putBlock s l p b r) × ((d : Disk) → d .rec ≡ r → firstNo (qs ++ rooms d s) ≡ 0)
 
 -- 7, 9 and 10, where 0 is no block
 abbrev pub putQuestions : {D : Type 0} → ℕ → ℕ → ℕ → List (Row D) → List (ℕ × Bool)
@@ -76,4 +76,4 @@ pub record Shown (t : Tables) : Type 0 where
 abbrev pub PutsFree : Tables → ℕ → ℕ → ℕ → Record → NumberReply → Record → Type 0
 PutsFree t s l p r a r′ =
     (st : State ℕ) → Shows t (st .lists)
-    → (let b = orElse 0 (freeBlockIn r (st .lists)) in Puts (rangedPutQuestions l p b (viewHere r s st .lists)) s l p b r a r′)
+    → (let b = orElse 0 (freeBlockIn r (st .lists)) in Gives (rangedPutQuestions l p b (viewHere r s st .lists)) s l p b r a r′)

@@ -1,10 +1,9 @@
 -- Where a block's 256 bytes stand. A location is one number, so that a table holds it: 0 is the blank; then come the card's slots, 16 numbers for each
 -- segment (it is 16 times 256 bytes); then the places of the queue data; then those of the journal data.
 use mathlib.Core.Bool.{cond}
-use mathlib.Core.List.{List, _++_}
+use mathlib.Core.List.{List}
 use Prim.Native.Nat.{ℕ, zero, suc, _+_, _-_, _*_}
 use lib.Dec.{ltb}
-use lib.ListN.{length, drop, take}
 use Rattle.log.specs.Card.{Content, zeros, slot}
 
 abbrev pub blank : ℕ
@@ -24,7 +23,3 @@ journalLocation j = 1057 + j
 unfoldable pub contentAt : List ℕ → List ℕ → List ℕ → ℕ → Content
 contentAt c q j zero = zeros
 contentAt c q j (suc n) = cond (ltb n 1024) (slot c n) (cond (ltb n 1056) (slot q (n - 1024)) (slot j (n - 1056)))
-
--- bytes v put into a buffer from i on
-unfoldable pub splice : List ℕ → ℕ → List ℕ → List ℕ
-splice d i v = take i d ++ v ++ drop (i + length v) d

@@ -1,10 +1,10 @@
 -- The two bytes of the node. Assumes nothing.
 use mathlib.Core.Path.{_∙_}
 use native.Mathlib.Omega.{arith}
-use Rattle.lists.proofs.Bytes.{place-read}
+use Rattle.lists.proofs.Bytes.{location-read}
 use borrow.Author.Needs.{needs}
-use Rattle.lists.proofs.tables.place_of.Statement.{statement}
-use Rattle.lists.proofs.tables.place_of.Tie as tie
+use Rattle.lists.proofs.tables.location_of.Statement.{statement}
+use Rattle.lists.proofs.tables.location_of.Tie as tie
 
 mul-low : tie.Need-mul-low
 mul-low c = search needs
@@ -25,10 +25,12 @@ of-bytes-requires : tie.Need-of-bytes-requires
 of-bytes-requires c κs = search needs
 
 returns : tie.Need-returns
-returns c = let a = c .before .before .before .args in c .of-bytes .ensures ∙ place-read (a .nodes .now) (a .x) (omega (arith, c .before .before .before .fits .x))
+returns c =
+    let a = c .before .before .before .args in
+    record { answer = c .of-bytes .ensures ∙ location-read (a .nodes .now) (a .block) (omega (arith, c .before .before .before .fits .block)) }
 
-pub place-of-spec : {M : Type 1} → statement M
-place-of-spec =
+pub location-of-spec : {M : Type 1} → statement M
+location-of-spec =
     tie.close
     (tie.spec
     mul-low

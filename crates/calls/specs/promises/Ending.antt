@@ -8,11 +8,11 @@ use lib.ListN.{length, set}
 use Rattle.lists.specs.Basic.{isSome, all, from}
 use Rattle.lists.specs.Change.{mapChange}
 use Rattle.lists.specs.State.{State, applyAll}
-use Rattle.lists.specs.Tables.{Tables, Shows}
+use Rattle.lists.specs.promises.Tables.{Tables, Shows}
 use Rattle.log.specs.declared.entry.LogEntry.{LogEntry}
 use Rattle.log.specs.Card.{slot}
 use Rattle.log.specs.Entry.{member, raw, legal, asChange}
-use Rattle.log.specs.Location.{blank}
+use Rattle.log.specs.promises.Location.{blank}
 use Rattle.disk.specs.declared.record.Record.{Record}
 use Rattle.disk.specs.declared.answer.Reply.{Reply}
 use Rattle.disk.specs.declared.answer.Reply.the-variants.{Accepted, Refused}
@@ -22,8 +22,8 @@ use Rattle.disk.specs.Call.{end}
 use Rattle.disk.specs.Questions.{firstNo}
 use Rattle.disk.specs.Perform.{enqueue, enqueueAll, unitEntries, closing, refused}
 use Rattle.disk.specs.Answers.{number}
-use Rattle.inspect.specs.Located.{journalHere}
-use Rattle.inspect.specs.Clauses.{changeIn}
+use Rattle.inspect.specs.promises.Located.{journalHere}
+use Rattle.inspect.specs.promises.Clauses.{changeIn}
 
 -- "the unit closes, its journal goes, its held numbers are released"
 abbrev pub closed : ℕ → Record → Record

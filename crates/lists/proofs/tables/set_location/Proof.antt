@@ -2,11 +2,11 @@
 use mathlib.Core.Path.{_≡_, _∙_, ap}
 use Prim.Native.Nat.{ℕ, _+_, _*_, _/_, _%_}
 use native.Mathlib.Omega.{arith}
-use Rattle.lists.specs.Tables.{tablesIn, withPlace}
-use Rattle.lists.proofs.Bytes.{place-set}
+use Rattle.lists.specs.promises.Tables.{tablesIn, withLocation}
+use Rattle.lists.proofs.Bytes.{location-set}
 use borrow.Author.Needs.{needs}
-use Rattle.lists.proofs.tables.set_place.Statement.{statement}
-use Rattle.lists.proofs.tables.set_place.Tie as tie
+use Rattle.lists.proofs.tables.set_location.Statement.{statement}
+use Rattle.lists.proofs.tables.set_location.Tie as tie
 
 sized-requires : tie.Need-sized-requires
 sized-requires c κs = search needs
@@ -36,11 +36,11 @@ returns : tie.Need-returns
 returns c =
     let a = c .before .before .args in
     let e : a .location % 256 + 256 * (a .location / 256) ≡ a .location = omega arith in
-    place-set (a .nodes .now) (a .x) (a .location % 256) (a .location / 256) (omega (arith, c .before .before .fits .x)) (c .sized .ensures)
-    ∙ ap (λ (d : ℕ). withPlace (a .x) d (tablesIn (a .nodes .now))) e
+    location-set (a .nodes .now) (a .x) (a .location % 256) (a .location / 256) (omega (arith, c .before .before .fits .x)) (c .sized .ensures)
+    ∙ ap (λ (d : ℕ). withLocation (a .x) d (tablesIn (a .nodes .now))) e
 
-pub set-place-spec : {M : Type 1} → statement M
-set-place-spec =
+pub set-location-spec : {M : Type 1} → statement M
+set-location-spec =
     tie.close
     (tie.spec
     sized-requires

@@ -10,7 +10,7 @@ use Rattle.log.specs.Entry.{Entry}
 use Rattle.log.specs.Card.{Content, segmentsIn}
 use Rattle.log.specs.Store.{doStores, after, home, tail, entryStores}
 use Rattle.log.specs.Flush.{Flow, full, spent, flushFrom}
-use Rattle.log.specs.Within.{Within}
+use Rattle.log.specs.promises.Within.{Within}
 use Rattle.log.specs.Turns.{AllInTurn}
 use Rattle.disk.specs.declared.record.Record.{Record}
 use Rattle.disk.specs.declared.answer.FlushReply.{FlushReply}

@@ -6,13 +6,12 @@ use Prim.Native.Nat.{ℕ, _+_, _-_, _*_, _≤_, _<_}
 use lib.Dec.{eqb}
 use lib.ListN.{set}
 use Rattle.log.specs.declared.entry.LogEntry.{LogEntry}
-use Rattle.log.specs.Card.{slotBytes}
+use Rattle.log.specs.Card.{slotBytes, splice}
 use Rattle.disk.specs.declared.record.Record.{Record}
 use Rattle.disk.specs.declared.answer.Reply.{Reply}
 use Rattle.disk.specs.declared.answer.Reply.the-variants.{Accepted, Refused}
 use Rattle.disk.specs.Record.{ringPlace, unitAt, withQueue, withUnits, journaled}
 use Rattle.disk.specs.Disk.{Disk, journalPlace}
-use Rattle.log.specs.Location.{splice}
 use Rattle.disk.specs.Questions.{journalRoom, streamRoom, firstNo}
 use Rattle.disk.specs.Answers.{number}
 
@@ -38,8 +37,8 @@ AddsAfter qs s e r (Refused x) r′ = (r′ ≡ r) × ((d : Disk) → d .rec ≡
 AddsAfter qs s e r Accepted r′ = (r′ ≡ added s e r) × ((d : Disk) → d .rec ≡ r → firstNo (qs ++ rooms d s) ≡ 0)
 
 -- the place of the entry that stream s takes next exists
-abbrev pub Fits : ℕ → Record → Type 0
-Fits s r = (s ≤ 4) × (r .len ≤ 32) × (r .head < 32) × (1 ≤ s → unitAt r s .len < 15)
+abbrev pub HasPlace : ℕ → Record → Type 0
+HasPlace s r = (s ≤ 4) × (r .len ≤ 32) × (r .head < 32) × (1 ≤ s → unitAt r s .len < 15)
 
 -- 256 bytes x go to that place of the queue data q, or of the journal data j
 pub record Copies (s : ℕ) (r : Record) (x q j q′ j′ : List ℕ) : Type 0 where

@@ -4,7 +4,7 @@ use mathlib.Core.Bool.{Bool, true, false, cond}
 use mathlib.Core.List.{[], _∷_}
 use Prim.Native.Nat.{ℕ}
 use Rattle.lists.specs.Basic.{isSome, all, each, from}
-use Rattle.lists.specs.Tables.{Tables}
+use Rattle.lists.specs.promises.Tables.{Tables}
 use Rattle.log.specs.Entry.{raw, legal}
 use Rattle.log.specs.Store.{tail}
 use Rattle.log.specs.declared.place.Place.{Place}
@@ -12,7 +12,7 @@ use Rattle.disk.specs.Disk.{Disk, queued, committedReader, view}
 use Rattle.disk.specs.Sound.{lengthsRight, holderSound, headStanding, recordSound}
 use Rattle.disk.specs.Questions.{streamOpen, viewOpen, firstNo}
 use Rattle.disk.specs.Answers.{number}
-use Rattle.inspect.specs.Located.{Located}
+use Rattle.inspect.specs.promises.Located.{Located}
 use Rattle.inspect.specs.declared.examine.Examined.{Examined}
 use Rattle.inspect.specs.declared.examine.Examined.the-variants.{WrongLength, Unsound, Sound}
 use Rattle.inspect.specs.declared.look.Looked.{Looked}

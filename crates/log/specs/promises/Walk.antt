@@ -12,9 +12,9 @@ use Rattle.lists.specs.Basic.{bind}
 use Rattle.log.specs.Entry.{Entry, mapEntry, carried, entryLength, asEntry, legal}
 use Rattle.log.specs.Reader.{Reader, read}
 use Rattle.log.specs.Card.{part, count, usedBy, Item, good, bad, itemsOf, segmentItems, afterEmpty, sound, fault, walk, walkCard, segmentBytes}
-use Rattle.log.specs.Location.{blank, cardLocation}
-use Rattle.log.specs.Found.{entered}
-use Rattle.log.specs.Feed.{Lent, Kept, ReadTo}
+use Rattle.log.specs.promises.Location.{blank, cardLocation}
+use Rattle.log.specs.promises.Found.{entered}
+use Rattle.log.specs.promises.Feed.{Memory, Keeps, ReadTo}
 use Rattle.log.specs.Store.{opened, behindAll, tail}
 use Rattle.log.specs.declared.entry.LogEntry.{LogEntry}
 use Rattle.log.specs.declared.place.Place.{Place}
@@ -31,16 +31,16 @@ abbrev pub runAfter : Bool → ℕ → ℕ
 runAfter t run = cond t (run + 1) 0
 
 -- a parsed entry read, a write's data standing at location d
-abbrev pub Reads : Lent → ℕ → Bool → LogEntry → ℕ → Bool → Lent → Type 0
+abbrev pub Reads : Memory → ℕ → Bool → LogEntry → ℕ → Bool → Memory → Type 0
 Reads m run t e d b m′ =
-    (r : Reader ℕ) → Kept m run r → legal (asEntry false e) ≡ true → ReadTo (bind (entered t e) (λ x. read blank r (mapEntry (λ s. d) x))) b m′ (runAfter t run)
+    (r : Reader ℕ) → Keeps m run r → legal (asEntry false e) ≡ true → ReadTo (bind (entered t e) (λ x. read blank r (mapEntry (λ s. d) x))) b m′ (runAfter t run)
 
 abbrev pub stepIf : Bool → ℕ → ℕ → ℕ → Step
 stepIf true a k run = Next (record { at = a; slots = k; run = run })
 stepIf false a k run = Stuck
 
 -- an entry read, k slots being used before it; a is behind it
-abbrev pub Enters : Lent → ℕ → Bool → LogEntry → ℕ → ℕ → ℕ → Step → Lent → Type 0
+abbrev pub Enters : Memory → ℕ → Bool → LogEntry → ℕ → ℕ → ℕ → Step → Memory → Type 0
 Enters m run t e d a k Stuck m′ = Reads m run t e d false m′
 Enters m run t e d a k (Next next) m′ =
     (next ≡ record { at = a; slots = k + usedBy (carried (asEntry false e)); run = runAfter t run }) × Reads m run t e d true m′
@@ -65,44 +65,44 @@ abbrev pub itemsFrom : List ℕ → ℕ → Cursor → ℕ → ℕ → List (Ite
 itemsFrom c g cur n i = itemsOf cardLocation g n i (cur .slots) (part c (cur .at) (segmentBytes * g + segmentBytes))
 
 -- one entry of segment g passed by reader r
-pub record Went (c : List ℕ) (g : ℕ) (cur : Cursor) (r : Reader ℕ) (next : Cursor) (m : Lent) : Type 0 where
+pub record Went (c : List ℕ) (g : ℕ) (cur : Cursor) (r : Reader ℕ) (next : Cursor) (m : Memory) : Type 0 where
   pub entry : Entry ℕ
   pub items : (n i : ℕ) → itemsFrom c g cur (suc n) i ≡ good g i entry ∷ itemsFrom c g next n (suc i)
   pub at : next .at ≡ cur .at + entryLength entry
   pub slots : next .slots ≡ cur .slots + usedBy (carried entry)
   pub reader : Reader ℕ
   pub reads : read blank r entry ≡ some reader
-  pub kept : Kept m (next .run) reader
+  pub kept : Keeps m (next .run) reader
 
-pub record Stepped (c : List ℕ) (g : ℕ) (cur : Cursor) (m : Lent) (next : Cursor) (m′ : Lent) : Type 0 where
+pub record Stepped (c : List ℕ) (g : ℕ) (cur : Cursor) (m : Memory) (next : Cursor) (m′ : Memory) : Type 0 where
   pub onward : cur .at ≤ next .at
   pub until : next .at ≤ segmentBytes * g + segmentBytes
   pub few : next .slots ≤ cur .slots + 1
   pub short : next .run ≤ cur .run + 1
-  pub went : (r : Reader ℕ) → Kept m (cur .run) r → Went c g cur r next m′
+  pub went : (r : Reader ℕ) → Keeps m (cur .run) r → Went c g cur r next m′
 
-abbrev pub Steps : List ℕ → ℕ → Cursor → Lent → Step → Lent → Type 0
-Steps c g cur m Stuck m′ = (r : Reader ℕ) → Kept m (cur .run) r → (n i : ℕ) (is : List (Item ℕ)) → walk blank r (itemsFrom c g cur (suc n) i ++ is) ≡ fault g i
-Steps c g cur m (Next next) m′ = Stepped c g cur m next m′
+abbrev pub Advances : List ℕ → ℕ → Cursor → Memory → Step → Memory → Type 0
+Advances c g cur m Stuck m′ = (r : Reader ℕ) → Keeps m (cur .run) r → (n i : ℕ) (is : List (Item ℕ)) → walk blank r (itemsFrom c g cur (suc n) i ++ is) ≡ fault g i
+Advances c g cur m (Next next) m′ = Stepped c g cur m next m′
 
 -- the place in segment g that is entered from a place before
 abbrev pub seat : ℕ → Place → Place
 seat g p = cond (eqb (p .segment) g) p (opened g)
 
 -- segment g passed by reader r: the place behind it, and the reader there
-pub record Through (c : List ℕ) (g : ℕ) (r : Reader ℕ) (p : Place) (n : ℕ) (m : Lent) : Type 0 where
+pub record Through (c : List ℕ) (g : ℕ) (r : Reader ℕ) (p : Place) (n : ℕ) (m : Memory) : Type 0 where
   pub place : (p₀ : Place) → seat g p₀ ≡ opened g → (is : List (Item ℕ)) → behindAll p₀ (segmentItems cardLocation c g ++ is) ≡ behindAll p is
   pub reader : Reader ℕ
-  pub kept : Kept m n reader
+  pub kept : Keeps m n reader
   pub walked : (is : List (Item ℕ)) → walk blank r (segmentItems cardLocation c g ++ is) ≡ walk blank reader is
 
-pub record Passed (c : List ℕ) (g run : ℕ) (m : Lent) (p : Place) (n : ℕ) (m′ : Lent) : Type 0 where
+pub record Passed (c : List ℕ) (g run : ℕ) (m : Memory) (p : Place) (n : ℕ) (m′ : Memory) : Type 0 where
   pub here : p .segment ≡ g
   pub short : n ≤ run + 255
-  pub through : (r : Reader ℕ) → Kept m run r → Through c g r p n m′
+  pub through : (r : Reader ℕ) → Keeps m run r → Through c g r p n m′
 
-abbrev pub Passes : List ℕ → ℕ → ℕ → Lent → Segment → Lent → Type 0
-Passes c g run m (Broken i) m′ = (r : Reader ℕ) → Kept m run r → (is : List (Item ℕ)) → walk blank r (segmentItems cardLocation c g ++ is) ≡ fault g i
+abbrev pub Passes : List ℕ → ℕ → ℕ → Memory → Segment → Memory → Type 0
+Passes c g run m (Broken i) m′ = (r : Reader ℕ) → Keeps m run r → (is : List (Item ℕ)) → walk blank r (segmentItems cardLocation c g ++ is) ≡ fault g i
 Passes c g run m (Done p n) m′ = Passed c g run m p n m′
 
 -- behind an empty segment, from g up to n: the first used segment, or n
@@ -110,13 +110,13 @@ abbrev pub FirstUsed : List ℕ → ℕ → ℕ → ℕ → Type 0
 FirstUsed c g n u = afterEmpty {D = ℕ} c (n - g) g ≡ cond (ltb u n) (bad u 0 ∷ []) []
 
 -- the card whole: the reader at the end of its log, the length of its run, and the place behind the log
-pub record Sounds (c : List ℕ) (p : Place) (n : ℕ) (m : Lent) : Type 0 where
+pub record Sounds (c : List ℕ) (p : Place) (n : ℕ) (m : Memory) : Type 0 where
   pub place : p ≡ tail c
   pub short : n ≤ 64 * 255
   pub reader : Reader ℕ
-  pub kept : Kept m n reader
+  pub kept : Keeps m n reader
   pub walked : walkCard cardLocation blank c ≡ sound reader
 
-abbrev pub Walks : List ℕ → Walked → Lent → Type 0
+abbrev pub Walks : List ℕ → Walked → Memory → Type 0
 Walks c (Fault g i) m = walkCard cardLocation blank c ≡ fault g i
 Walks c (Sound p n) m = Sounds c p n m

@@ -9,17 +9,17 @@ use lib.ListN.{getD}
 use Rattle.lists.specs.Basic.{isSome, all, each, from}
 use Rattle.lists.specs.Change.{Change}
 use Rattle.lists.specs.State.{Row, State, placed, applyAll, overlay}
-use Rattle.lists.specs.Tables.{Tables, Shows}
+use Rattle.lists.specs.promises.Tables.{Tables, Shows}
 use Rattle.log.specs.Entry.{Entry, member, raw, legal, isBlock, isList, asChange}
 use Rattle.log.specs.Reader.{Reader, replay}
-use Rattle.log.specs.Location.{blank}
-use Rattle.log.specs.Feed.{Lent, Kept}
+use Rattle.log.specs.promises.Location.{blank}
+use Rattle.log.specs.promises.Feed.{Memory, Keeps}
 use Rattle.disk.specs.declared.record.Unit.{Unit}
 use Rattle.disk.specs.declared.record.Record.{Record}
 use Rattle.disk.specs.Record.{noJournaled, unitAt, holderOf, queuePlaces, journalPlaces, unitCount}
 use Rattle.disk.specs.Disk.{disk, queued}
 use Rattle.disk.specs.Sound.{putBy, headStanding}
-use Rattle.inspect.specs.Located.{queueHere, journalHere}
+use Rattle.inspect.specs.promises.Located.{queueHere, journalHere}
 
 -- "counts and numbers in range"
 unfoldable pub numbersRight : Record → Bool
@@ -65,8 +65,8 @@ ReplayTo es x false t = lawful es && isSome (replay blank x es) ≡ false
 ReplayTo es x true t = (lawful es ≡ true) × (y : Reader ℕ) × (replay blank x es ≡ some y) × Shows t (y .state .lists)
 
 -- the queue, from whichever reader the lent tables keep
-abbrev pub Replays : Lent → ℕ → Record → Bool → Tables → Type 0
-Replays m run r b t = (x : Reader ℕ) → Kept m run x → ReplayTo (queueHere r) x b t
+abbrev pub Replays : Memory → ℕ → Record → Bool → Tables → Type 0
+Replays m run r b t = (x : Reader ℕ) → Keeps m run x → ReplayTo (queueHere r) x b t
 
 -- the lists of the state that a replay led to, if it did
 abbrev pub rowsOf : Option (Reader ℕ) → List (Row ℕ)
@@ -74,19 +74,19 @@ rowsOf none = []
 rowsOf (some x) = x .state .lists
 
 -- question 3 behind the log, of card c and queue data q; reader x stands at the log's end
-unfoldable pub settled : List ℕ → List ℕ → Record → Reader ℕ → Bool
-settled c q r x =
+unfoldable pub settledRight : List ℕ → List ℕ → Record → Reader ℕ → Bool
+settledRight c q r x =
     let o = replay blank x (queueHere r) in
     each (lawful (queueHere r) ∷ isSome o ∷ holdersRight r (rowsOf o) ∷ headStanding c (r .done) (queued (disk c q [] r)) ∷ [])
 
 -- the answer b to it, whichever reader the lent tables keep
-abbrev pub Settled : List ℕ → List ℕ → Lent → ℕ → Record → Bool → Type 0
-Settled c q m run r b = (x : Reader ℕ) → Kept m run x → b ≡ settled c q r x
+abbrev pub Settled : List ℕ → List ℕ → Memory → ℕ → Record → Bool → Type 0
+Settled c q m run r b = (x : Reader ℕ) → Keeps m run x → b ≡ settledRight c q r x
 
 -- and if it is yes, the tables show the committed state
-pub record Settles (c q : List ℕ) (m : Lent) (run : ℕ) (r : Record) (b : Bool) (t : Tables) : Type 0 where
+pub record Settles (c q : List ℕ) (m : Memory) (run : ℕ) (r : Record) (b : Bool) (t : Tables) : Type 0 where
   pub answer : Settled c q m run r b
-  pub shows : (x y : Reader ℕ) → Kept m run x → b ≡ true → replay blank x (queueHere r) ≡ some y → Shows t (y .state .lists)
+  pub shows : (x y : Reader ℕ) → Keeps m run x → b ≡ true → replay blank x (queueHere r) ≡ some y → Shows t (y .state .lists)
 
 -- and where unit u's journal is laid over a state: whether every change applies, and what the tables show then
 pub record Overlays (t : Tables) (x : Unit) (u : ℕ) (b : Bool) (t′ : Tables) : Type 0 where

@@ -8,11 +8,11 @@ use Prim.Native.Nat.{ℕ, _+_, _*_, _/_, _%_, _≤_, _<_}
 use lib.ListN.{length, getD, set}
 use Rattle.lists.specs.Change.{Change, takeList}
 use Rattle.lists.specs.State.{State, apply}
-use Rattle.lists.specs.Tables.{Tables, tablesIn, Shows, Ranged, Represents, ofKind}
+use Rattle.lists.specs.promises.Tables.{Tables, tablesIn, Shows, Ranged, Represents, ofKind}
 use Rattle.log.specs.Entry.{commit, mapEntry, raw, legal, asEntry}
 use Rattle.log.specs.Reader.{Reader, read}
 use Rattle.log.specs.declared.entry.LogEntry.{LogEntry}
-use Rattle.log.specs.Location.{blank}
+use Rattle.log.specs.promises.Location.{blank}
 use Rattle.log.specs.declared.entry.LogEntry.the-variants.{Take, PutFirst, PutAfter, Write, DeleteBlock, DeleteList, Commit}
 use Rattle.log.specs.declared.feed.Fields.{Fields}
 use Rattle.log.specs.declared.feed.Fed.{Fed}
@@ -20,12 +20,12 @@ use Rattle.log.specs.declared.feed.Fed.the-variants.{Run, Refused}
 
 -- The tables of the state; the last members of the run, up to 16, each in six bytes: its kind, block, list and predecessor, and its location's low and
 -- high byte.
-pub record Lent : Type 0 where
+pub record Memory : Type 0 where
   pub tables : Tables
   pub members : List ℕ
 
-abbrev pub lent : List ℕ → List ℕ → Lent
-lent ns ms = record { tables = tablesIn ns; members = ms }
+abbrev pub memory : List ℕ → List ℕ → Memory
+memory ns ms = record { tables = tablesIn ns; members = ms }
 
 -- member j of the run stands at 8 (j % 16)
 abbrev pub recalled : List ℕ → ℕ → Option (Change ℕ)
@@ -49,23 +49,23 @@ pub record Recalls (ms : List ℕ) (run : ℕ) (cs : List (Change ℕ)) : Type 0
   pub each : (j : ℕ) → j < run → run ≤ j + 16 → Recalled ms j (getD cs j (takeList 0))
 
 -- the tables show the reader's state and recall its run, which has so many members
-pub record Kept (m : Lent) (run : ℕ) (r : Reader ℕ) : Type 0 where
+pub record Keeps (m : Memory) (run : ℕ) (r : Reader ℕ) : Type 0 where
   pub shows : Shows (m .tables) (r .state .lists)
   pub recalls : Recalls (m .members) run (r .run)
 
 -- an entry read: refused, or the tables keep the reader after it
-abbrev pub ReadTo : Option (Reader ℕ) → Bool → Lent → ℕ → Type 0
+abbrev pub ReadTo : Option (Reader ℕ) → Bool → Memory → ℕ → Type 0
 ReadTo o false m run = o ≡ none
-ReadTo o true m run = (q : Reader ℕ) × (o ≡ some q) × Kept m run q
+ReadTo o true m run = (q : Reader ℕ) × (o ≡ some q) × Keeps m run q
 
 -- The promises, of every reader kept.
 
 -- member j of the run acts
-abbrev pub ActsMember : Lent → ℕ → Bool → Tables → Type 0
+abbrev pub ActsMember : Memory → ℕ → Bool → Tables → Type 0
 ActsMember m j b u = (c : Change ℕ) (s : State ℕ) → Recalled (m .members) j c → Shows (m .tables) (s .lists) → Represents (apply blank c s) b u
 
-abbrev pub Commits : Lent → ℕ → ℕ → Bool → Lent → Type 0
-Commits m run n b m′ = (r : Reader ℕ) → Kept m run r → n ≤ 15 → ReadTo (read blank r (commit n)) b m′ 0
+abbrev pub Commits : Memory → ℕ → ℕ → Bool → Memory → Type 0
+Commits m run n b m′ = (r : Reader ℕ) → Keeps m run r → n ≤ 15 → ReadTo (read blank r (commit n)) b m′ 0
 
 -- an entry by its fields
 abbrev pub fieldsOf : LogEntry → Fields
@@ -77,9 +77,9 @@ fieldsOf (DeleteBlock b) = record { kind = 5; block = b; list = 0; predecessor =
 fieldsOf (DeleteList l) = record { kind = 6; block = 0; list = l; predecessor = 0; count = 0 }
 fieldsOf (Commit n) = record { kind = 0; block = 0; list = 0; predecessor = 0; count = n }
 
-abbrev pub FedTo : Option (Reader ℕ) → Fed → Lent → Type 0
+abbrev pub FedTo : Option (Reader ℕ) → Fed → Memory → Type 0
 FedTo o Refused m = o ≡ none
-FedTo o (Run n) m = (q : Reader ℕ) × (o ≡ some q) × Kept m n q
+FedTo o (Run n) m = (q : Reader ℕ) × (o ≡ some q) × Keeps m n q
 
 -- what ends the run, or is refused
 abbrev pub fedIf : Bool → Fed
@@ -91,6 +91,6 @@ RunUpTo n Refused = Unit {0}
 RunUpTo n (Run k) = k ≤ n
 
 -- a legal entry, a write's data standing at location d
-pub record Feeds (m : Lent) (run : ℕ) (t : Bool) (e : LogEntry) (d : ℕ) (f : Fed) (m′ : Lent) : Type 0 where
+pub record Feeds (m : Memory) (run : ℕ) (t : Bool) (e : LogEntry) (d : ℕ) (f : Fed) (m′ : Memory) : Type 0 where
   pub short : RunUpTo (run + 1) f
-  pub reads : (r : Reader ℕ) → Kept m run r → legal (raw 0 (asEntry t e)) ≡ true → FedTo (read blank r (mapEntry (λ s. d) (asEntry t e))) f m′
+  pub reads : (r : Reader ℕ) → Keeps m run r → legal (raw 0 (asEntry t e)) ≡ true → FedTo (read blank r (mapEntry (λ s. d) (asEntry t e))) f m′

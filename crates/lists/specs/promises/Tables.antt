@@ -21,20 +21,20 @@ pub record Tables : Type 0 where
   pub next : List ℕ
   pub prev : List ℕ
   pub owner : List ℕ
-  pub place : List ℕ
+  pub location : List ℕ
 
 abbrev pub tables : List ℕ → List ℕ → List ℕ → List ℕ → Tables
-tables a b c d = record { next = a; prev = b; owner = c; place = d }
+tables a b c d = record { next = a; prev = b; owner = c; location = d }
 
--- In 1,280 bytes, node by node: 4n is the next of node n, 4n + 1 its prev, 4n + 2 its owner, 4n + 3 its place's low byte, and 1024 + n the high one.
+-- In 1,280 bytes, node by node: 4n is the next of node n, 4n + 1 its prev, 4n + 2 its owner, 4n + 3 its location's low byte, and 1024 + n the high one.
 unfoldable pub column : ℕ → List ℕ → List ℕ
 column f bs = from (λ n. getD bs (4 * n + f) 0) 0 256
 
-unfoldable pub placesIn : List ℕ → List ℕ
-placesIn bs = from (λ n. getD bs (4 * n + 3) 0 + 256 * getD bs (1024 + n) 0) 0 256
+unfoldable pub locationsIn : List ℕ → List ℕ
+locationsIn bs = from (λ n. getD bs (4 * n + 3) 0 + 256 * getD bs (1024 + n) 0) 0 256
 
 unfoldable pub tablesIn : List ℕ → Tables
-tablesIn bs = tables (column 0 bs) (column 1 bs) (column 2 bs) (placesIn bs)
+tablesIn bs = tables (column 0 bs) (column 1 bs) (column 2 bs) (locationsIn bs)
 
 abbrev pub nextOf : Tables → ℕ → ℕ
 nextOf t n = getD (t .next) n 0
@@ -45,8 +45,8 @@ prevOf t n = getD (t .prev) n 0
 abbrev pub ownerOf : Tables → ℕ → ℕ
 ownerOf t n = getD (t .owner) n 0
 
-abbrev pub placeOf : Tables → ℕ → ℕ
-placeOf t n = getD (t .place) n 0
+abbrev pub locationOf : Tables → ℕ → ℕ
+locationOf t n = getD (t .location) n 0
 
 -- 64 + l for each list; a node of the tables for every other number
 abbrev pub listNode : ℕ → ℕ
@@ -56,16 +56,16 @@ listNode l = 64 + l % 64
 
 -- one number in one of the tables
 abbrev pub withNext : ℕ → ℕ → Tables → Tables
-withNext n y t = tables (set (t .next) n y) (t .prev) (t .owner) (t .place)
+withNext n y t = tables (set (t .next) n y) (t .prev) (t .owner) (t .location)
 
 abbrev pub withPrev : ℕ → ℕ → Tables → Tables
-withPrev n x t = tables (t .next) (set (t .prev) n x) (t .owner) (t .place)
+withPrev n x t = tables (t .next) (set (t .prev) n x) (t .owner) (t .location)
 
 abbrev pub withOwner : ℕ → ℕ → Tables → Tables
-withOwner n l t = tables (t .next) (t .prev) (set (t .owner) n l) (t .place)
+withOwner n l t = tables (t .next) (t .prev) (set (t .owner) n l) (t .location)
 
-abbrev pub withPlace : ℕ → ℕ → Tables → Tables
-withPlace n d t = tables (t .next) (t .prev) (t .owner) (set (t .place) n d)
+abbrev pub withLocation : ℕ → ℕ → Tables → Tables
+withLocation n d t = tables (t .next) (t .prev) (t .owner) (set (t .location) n d)
 
 -- node y follows node x
 abbrev pub linkNodes : ℕ → ℕ → Tables → Tables
@@ -76,12 +76,12 @@ unfoldable pub insertNode : ℕ → ℕ → ℕ → Tables → Tables
 insertNode x n l t = withOwner n l (linkNodes n (nextOf t x) (linkNodes x n t))
 
 -- the nodes between x and y go, o being the owners then
-unfoldable pub cutBetween : ℕ → ℕ → List ℕ → Tables → Tables
-cutBetween x y o t = tables (set (t .next) x y) (set (t .prev) y x) o (t .place)
+unfoldable pub cutNodes : ℕ → ℕ → List ℕ → Tables → Tables
+cutNodes x y o t = tables (set (t .next) x y) (set (t .prev) y x) o (t .location)
 
 -- the content of block b stands at location d
-unfoldable pub placeAt : ℕ → ℕ → Tables → Tables
-placeAt b d t = withPlace b d t
+unfoldable pub locate : ℕ → ℕ → Tables → Tables
+locate b d t = withLocation b d t
 
 -- how often l stands in a list
 unfoldable pub times : ℕ → List ℕ → ℕ
@@ -98,47 +98,47 @@ freeUpTo zero nx l n o = record { behind = n; owners = o }
 freeUpTo (suc k) nx l n o = elim (eqb (getD o n 0) l) [ true ↦ freeUpTo k nx l (getD nx n 0) (set o n 0) | false ↦ record { behind = n; owners = o } ]
 
 -- as many as there are of list l
-unfoldable pub freeFrom : List ℕ → ℕ → ℕ → List ℕ → Freed
-freeFrom nx l n o = freeUpTo (times l o) nx l n o
+unfoldable pub freeNodes : List ℕ → ℕ → ℕ → List ℕ → Freed
+freeNodes nx l n o = freeUpTo (times l o) nx l n o
 
 -- a function that frees them: the node behind them is its answer, and no other table changes
 pub record Frees (l n : ℕ) (t : Tables) (r : ℕ) (u : Tables) : Type 0 where
-  pub answer : r ≡ freeFrom (t .next) l n (t .owner) .behind
-  pub left : u ≡ tables (t .next) (t .prev) (freeFrom (t .next) l n (t .owner) .owners) (t .place)
+  pub answer : r ≡ freeNodes (t .next) l n (t .owner) .behind
+  pub left : u ≡ tables (t .next) (t .prev) (freeNodes (t .next) l n (t .owner) .owners) (t .location)
 
 -- the tables without the list whose node is n
 unfoldable pub cutList : ℕ → Tables → Tables
-cutList n t = let f = freeFrom (t .next) (ownerOf t n) n (t .owner) in cutBetween (prevOf t n) (f .behind) (f .owners) t
+cutList n t = let f = freeNodes (t .next) (ownerOf t n) n (t .owner) in cutNodes (prevOf t n) (f .behind) (f .owners) t
 
 -- is block b free, and x a node of list l?
 unfoldable pub putFits : ℕ → ℕ → ℕ → Tables → Bool
 putFits b l x t = eqb (ownerOf t b) 0 && eqb (ownerOf t x) l
 
 unfoldable pub putDone : ℕ → ℕ → ℕ → Tables → Tables
-putDone b l x t = placeAt b 0 (insertNode x b l t)
+putDone b l x t = locate b 0 (insertNode x b l t)
 
 -- does the change apply?
-unfoldable pub fits : Change ℕ → Tables → Bool
-fits (takeList l) t = eqb (ownerOf t (listNode l)) 0
-fits (putFirst b l) t = putFits b l (listNode l) t
-fits (putAfter b l p) t = putFits b l p t
-fits (write b d) t = not (eqb (ownerOf t b) 0)
-fits (delBlock b) t = not (eqb (ownerOf t b) 0)
-fits (delList l) t = not (eqb (ownerOf t (listNode l)) 0)
+unfoldable pub suits : Change ℕ → Tables → Bool
+suits (takeList l) t = eqb (ownerOf t (listNode l)) 0
+suits (putFirst b l) t = putFits b l (listNode l) t
+suits (putAfter b l p) t = putFits b l p t
+suits (write b d) t = not (eqb (ownerOf t b) 0)
+suits (delBlock b) t = not (eqb (ownerOf t b) 0)
+suits (delList l) t = not (eqb (ownerOf t (listNode l)) 0)
 
 -- the tables after it
 unfoldable pub done : Change ℕ → Tables → Tables
 done (takeList l) t = insertNode (prevOf t 255) (listNode l) l t
 done (putFirst b l) t = putDone b l (listNode l) t
 done (putAfter b l p) t = putDone b l p t
-done (write b d) t = placeAt b d t
-done (delBlock b) t = cutBetween (prevOf t b) (nextOf t b) (set (t .owner) b 0) t
+done (write b d) t = locate b d t
+done (delBlock b) t = cutNodes (prevOf t b) (nextOf t b) (set (t .owner) b 0) t
 done (delList l) t = cutList (listNode l) t
 
 -- What a function answers and leaves that is to make a change: whether it applies, and the tables after it, or as they were if it does not.
 pub record Did (c : Change ℕ) (t : Tables) (r : Bool) (u : Tables) : Type 0 where
-  pub answer : r ≡ fits c t
-  pub left : u ≡ cond (fits c t) (done c t) t
+  pub answer : r ≡ suits c t
+  pub left : u ≡ cond (suits c t) (done c t) t
 
 -- the change of a kind, with its block, list, predecessor and location, of which it takes what it needs; the module `kind` names the six
 unfoldable pub ofKind : ℕ → ℕ → ℕ → ℕ → ℕ → Option (Change ℕ)
@@ -188,7 +188,7 @@ IsBlock b = (1 ≤ b) × (b ≤ 64)
 abbrev pub IsList : ℕ → Type 0
 IsList l = (1 ≤ l) × (l ≤ 16)
 
--- a block of list l, and a list, as the owners o and the places p have them
+-- a block of list l, and a list, as the owners o and the locations p have them
 pub record HasBlock (o p : List ℕ) (l : ℕ) (x : Block ℕ) : Type 0 where
   pub range : IsBlock (x .num)
   pub owned : getD o (x .num) 0 ≡ l
@@ -210,13 +210,13 @@ pub record Sized (t : Tables) : Type 0 where
   pub next : length (t .next) ≡ 256
   pub prev : length (t .prev) ≡ 256
   pub owner : length (t .owner) ≡ 256
-  pub place : length (t .place) ≡ 256
+  pub location : length (t .location) ≡ 256
 
 pub record Shows (t : Tables) (rs : List (Row ℕ)) : Type 0 where
   pub sized : Sized t
   pub apart : Apart (0 ∷ chain rs)
   pub linked : Linked (t .next) (t .prev) 0 (chain rs)
-  pub has : HasLists (t .owner) (t .place) rs
+  pub has : HasLists (t .owner) (t .location) rs
   pub free : (n : ℕ) → Away n (nodes rs) → ownerOf t n ≡ 0
 
 -- numbers in range: only of such changes the tables speak as the state does
@@ -234,8 +234,8 @@ Represents none r u = r ≡ false
 Represents (some s) r u = (r ≡ true) × Shows u (s .lists)
 
 -- the tables of the state with no list: every node is free, and the end follows the start
-unfoldable pub emptied : Tables
-emptied = linkNodes 0 255 (tables (replicate 256 0) (replicate 256 0) (replicate 256 0) (replicate 256 0))
+unfoldable pub cleared : Tables
+cleared = linkNodes 0 255 (tables (replicate 256 0) (replicate 256 0) (replicate 256 0) (replicate 256 0))
 
 -- Looking up.
 
@@ -268,7 +268,7 @@ pub record SaysOn (t : Tables) (l b : ℕ) (r : Bool) : Type 0 where
   pub answer : r ≡ eqb (ownerOf t b) l
 
 pub record SaysLocation (t : Tables) (b r : ℕ) : Type 0 where
-  pub answer : r ≡ placeOf t b
+  pub answer : r ≡ locationOf t b
 
 pub record SaysBlockAfter (t : Tables) (l p r : ℕ) : Type 0 where
   pub answer : r ≡ blockOr0 (nextOf t (behindNode l p))

@@ -6,10 +6,10 @@ use lib.ListN.{getD}
 use Rattle.lists.specs.Basic.{from}
 use Rattle.lists.specs.Change.{Change, mapChange}
 use Rattle.lists.specs.State.{State, mapState}
-use Rattle.lists.specs.Tables.{Tables, Shows}
+use Rattle.lists.specs.promises.Tables.{Tables, Shows}
 use Rattle.log.specs.Entry.{Entry, mapEntry, asEntry, asChange}
 use Rattle.log.specs.Card.{Content}
-use Rattle.log.specs.Location.{contentAt, queueLocation, journalLocation}
+use Rattle.log.specs.promises.Location.{contentAt, queueLocation, journalLocation}
 use Rattle.disk.specs.declared.record.Unit.{Unit}
 use Rattle.disk.specs.declared.record.Record.{Record}
 use Rattle.disk.specs.Record.{noQueued, noJournaled, ringPlace}
