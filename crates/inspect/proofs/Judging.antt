@@ -27,6 +27,10 @@ pub and-yes : (b : Bool) → b && true ≡ b
 and-yes true = refl
 and-yes false = refl
 
+pub and-behind : (a b c : Bool) → a && b && c ≡ a && (b && c)
+and-behind true b c = refl
+and-behind false b c = refl
+
 pub and-no : (b : Bool) → b && false ≡ false
 and-no true = refl
 and-no false = refl

@@ -1,6 +1,8 @@
 -- The three tests are the definition's. Assumes nothing.
+use mathlib.Core.Path.{sym}
 use Rattle.disk.specs.Sound.{lengthsRight}
 use borrow.Author.Needs.{needs}
+use Rattle.inspect.proofs.Judging.{and-behind}
 use Rattle.inspect.proofs.lengths.lengths_right.Statement.{statement}
 use Rattle.inspect.proofs.lengths.lengths_right.Tie as tie
 
@@ -15,7 +17,7 @@ both-requires c κs = search needs
 
 returns : tie.Need-returns
 unfolding lengthsRight
-returns c = λ rec. rw (c .both .ensures, c .before .data-right .ensures, c .before .before .is-card .ensures)
+returns c = λ rec. rw (c .both .ensures, c .before .data-right .ensures, c .before .before .is-card .ensures) (sym (and-behind _ _ _))
 
 pub lengths-right-spec : {M : Type 1} → statement M
 lengths-right-spec = tie.close (tie.spec is-card-requires data-right-requires both-requires returns)
