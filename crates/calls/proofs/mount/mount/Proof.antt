@@ -44,15 +44,15 @@ mount-accepted d r h m = perform-accepted mount d (rw (h, m))
 -- the three lengths, of which the card's is asked last
 lengths-data : (d : Disk) → DataRight d ≡ false → lengthsRight d ≡ false
 unfolding lengthsRight
-lengths-data d h = and-behind (cardLength (d .card)) _ _ ∙ ap (λ (b : Bool). cardLength (d .card) && b) h ∙ and-false (cardLength (d .card))
+lengths-data d h = and-behind (cardLength (d .card)) (eqb (length (d .queueData)) 8192) (eqb (length (d .journalData)) 15360) ∙ ap (λ (b : Bool). cardLength (d .card) && b) h ∙ and-false (cardLength (d .card))
 
 lengths-card : (d : Disk) → cardLength (d .card) ≡ false → lengthsRight d ≡ false
 unfolding lengthsRight
-lengths-card d h = and-behind (cardLength (d .card)) _ _ ∙ rw h
+lengths-card d h = and-behind (cardLength (d .card)) (eqb (length (d .queueData)) 8192) (eqb (length (d .journalData)) 15360) ∙ rw h
 
 lengths-all : (d : Disk) → DataRight d ≡ true → cardLength (d .card) ≡ true → lengthsRight d ≡ true
 unfolding lengthsRight
-lengths-all d h k = and-behind (cardLength (d .card)) _ _ ∙ rw k h
+lengths-all d h k = and-behind (cardLength (d .card)) (eqb (length (d .queueData)) 8192) (eqb (length (d .journalData)) 15360) ∙ rw k h
 
 data-right-requires : tie.Need-data-right-requires
 data-right-requires c κs = search needs
