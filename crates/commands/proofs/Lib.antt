@@ -7,4 +7,3 @@ pub mod Lending
 pub mod Ranges
 pub mod Running
 pub mod Showing
-pub mod Tags

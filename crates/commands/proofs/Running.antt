@@ -1,6 +1,5 @@
 -- What each command leaves, as the buffers and the state in code have it.
 use mathlib.Core.Path.{_≡_, refl, sym, ap, subst, _∙_}
-use mathlib.Core.Option.{Option}
 use mathlib.Core.List.{List, [], _∷_, _++_}
 use Prim.Native.Nat.{ℕ, _%_, _≤_, _<_, min}
 use native.Mathlib.Omega.{arith}
@@ -8,8 +7,9 @@ use borrow.Author.Tests.{lt-ltb, le-ltb}
 use lib.ListN.{length, take, drop, set, replicate, length-take, length-replicate, length-set}
 use lib.Seq.{take-at, take-set-lt, drop-set-lt}
 use Rattle.disk.specs.declared.record.Record.{Record}
-use Rattle.disk.specs.Disk.{disk}
+use Rattle.disk.specs.Disk.{Disk, disk}
 use Rattle.disk.specs.Call.{Call}
+use Rattle.disk.specs.Perform.{perform}
 use Rattle.crash.specs.Event.{giveBack, leaves}
 use Rattle.text.specs.Written.{Puts}
 use Rattle.text.proofs.Lines.{take-least}
@@ -17,7 +17,7 @@ use Rattle.script.specs.Spelling.{bytes}
 use Rattle.commands.specs.declared.state.State.{State}
 use Rattle.commands.specs.declared.state.Ran.{Ran}
 use Rattle.commands.specs.Shell.{Printed, shellOf, lentDisk, afterCall}
-use Rattle.commands.specs.Called.{leftBy, performed, Calls}
+use Rattle.commands.specs.Called.{called, Calls}
 use Rattle.commands.specs.Cut.{unsoundRecord, lost, cutBetween}
 use Rattle.commands.specs.Ran.{longestCard, ok, unknown, inserted, poked, Fits, Runs}
 use Rattle.commands.proofs.Lending.{replaced-behind, replaced-length, lent-disk, card-back, card-behind, fits-back, buffer-back}
@@ -49,14 +49,14 @@ module _ (c q j : List ℕ) (s : State) (f : Fits c s) (u v w : List ℕ) (r : R
   lent-whole : disk (take cardLent c) (take queueLent q) (take journalLent j) (s .rec) ≡ lentDisk (shellOf c q j s)
   lent-whole = rw (take-least (min (s .card) (s .size)) c, take-least (s .queue) q, take-least (s .journal) j) (sym (lent-disk c q j s))
 
-  pub lent-runs : {out out′ : List ℕ} {at : ℕ} (x : Option Call) (a : Ran) → length u ≡ length (take cardLent c) → a .state ≡ after
+  pub lent-runs : {out out′ : List ℕ} {at : ℕ} (x : Call) (a : Ran) → length u ≡ length (take cardLent c) → a .state ≡ after
       → Calls x (disk (take cardLent c) (take queueLent q) (take journalLent j) (s .rec)) (disk u v w r) out at out′ (a .at)
-      → Runs (performed x (shellOf c q j s)) c out at (u ++ drop cardLent c) (v ++ drop queueLent q) (w ++ drop journalLent j) out′ a
-  unfolding performed afterCall giveBack
+      → Runs (called x (shellOf c q j s)) c out at (u ++ drop cardLent c) (v ++ drop queueLent q) (w ++ drop journalLent j) out′ a
+  unfolding called afterCall giveBack
   lent-runs x a e k t =
       let g = fits-back c s f cardLent refl u e in
-      let back : disk u v w r ≡ leftBy x (lentDisk (shellOf c q j s)) = t .left ∙ ap (leftBy x) lent-whole in
-      runs (performed x (shellOf c q j s)) after a k
+      let back : disk u v w r ≡ perform x (lentDisk (shellOf c q j s)) .disk = t .left ∙ ap (λ (d : Disk). perform x d .disk) lent-whole in
+      runs (called x (shellOf c q j s)) after a k
       (record { longest = g .longest; whole = g .whole })
       (card-behind c s f cardLent refl u e)
       (rw (card-back c s f cardLent refl u e, buffer-back (s .queue) q v, buffer-back (s .journal) j w) (ap (afterCall (shellOf c q j s)) back))

@@ -4,4 +4,3 @@ pub mod Called
 pub mod Cut
 pub mod Shown
 pub mod Ran
-pub mod promises

@@ -6,20 +6,26 @@ use Prim.Native.Nat.{ℕ, _%_, _≤_, min}
 use lib.Dec.{ltb}
 use lib.ListN.{length, drop, replicate, set}
 use Rattle.disk.specs.Disk.{Disk, disk}
-use Rattle.disk.specs.Call.{newList, newBlock, writeBlock, deleteBlock, deleteList, readBlock, blockAfter, inventory, format, mount, conflictCount, onStream, inView, begin, end, flush}
 use Rattle.crash.specs.Event.{leaves}
 use Rattle.text.specs.Adler.{adler}
 use Rattle.text.specs.Written.{Puts}
 use Rattle.listing.specs.Listing.{listing}
 use Rattle.script.specs.declared.command.Command.{Command}
 use Rattle.script.specs.declared.command.Command.the-variants as C
-use Rattle.script.specs.Arguments.{textOf}
+use Rattle.script.specs.declared.command.Tool.{Tool}
+use Rattle.script.specs.declared.command.Tool.the-variants as T
+use Rattle.script.specs.declared.command.Cut.{Cut}
+use Rattle.script.specs.declared.command.Cut.the-variants as X
+use Rattle.script.specs.declared.command.Lend.{Lend}
+use Rattle.script.specs.declared.command.Lend.the-variants as L
+use Rattle.script.specs.declared.command.Print.{Print}
+use Rattle.script.specs.declared.command.Print.the-variants as P
 use Rattle.script.specs.Spelling.{bytes}
 use Rattle.script.specs.Lines.{numberLine}
 use Rattle.commands.specs.declared.state.State.{State}
 use Rattle.commands.specs.declared.state.Ran.{Ran}
 use Rattle.commands.specs.Shell.{Shell, Printed, printed, shellOf, withDisk, lentDisk}
-use Rattle.commands.specs.Called.{dataLent, bytesLent, called}
+use Rattle.commands.specs.Called.{callOf, called}
 use Rattle.commands.specs.Cut.{lost, cutBetween, cutFlush, cutFormat}
 use Rattle.commands.specs.Shown.{shown}
 
@@ -32,6 +38,10 @@ ok s = printed s (bytes "ok" ++ 10 ∷ [])
 
 abbrev pub unknown : Shell → Printed
 unknown s = printed s (bytes "?" ++ 10 ∷ [])
+
+-- so many bytes of card, queue data and journal data are lent
+abbrev pub lentOf : Shell → ℕ → ℕ → ℕ → Shell
+lentOf s c q j = record { disk = s .disk; lentCard = c; lentQueue = q; lentJournal = j }
 
 abbrev pub allLent : Disk → Shell
 allLent d = record { disk = d; lentCard = length (d .card); lentQueue = 8192; lentJournal = 15360 }
@@ -50,38 +60,35 @@ poked a b s =
     ]
 
 -- "from now on only the first N bytes are lent (N above what there is: all of it)"
-unfoldable pub lending : ℕ → ℕ → ℕ → Shell → Printed
-lending c q j s = ok (record { disk = s .disk; lentCard = c; lentQueue = q; lentJournal = j })
+unfoldable pub lending : Lend → Shell → Shell
+lending (L.Card n) s = lentOf s (min n (length (s .disk .card))) (s .lentQueue) (s .lentJournal)
+lending (L.Queue n) s = lentOf s (s .lentCard) (min n 8192) (s .lentJournal)
+lending (L.Journal n) s = lentOf s (s .lentCard) (s .lentQueue) (min n 15360)
+lending L.All s = allLent (s .disk)
+
+unfoldable pub cutting : Cut → Shell → Printed
+cutting X.Between s = cutBetween s
+cutting (X.Flush n k) s = cutFlush n k s
+cutting (X.Format k) s = cutFormat k s
+
+unfoldable pub printing : Print → Shell → List ℕ
+printing P.Sum s = numberLine (adler (s .disk .card))
+printing P.Listing s = listing (s .disk .card)
+printing (P.Show v) s = shown v (lentDisk s)
+
+-- the shell's own commands
+unfoldable pub worked : Tool → Shell → Printed
+worked (T.Card n b) s = ok (inserted n b s)
+worked (T.Poke a b) s = poked a b s
+worked (T.Cut x) s = cutting x s
+worked (T.Lend l) s = ok (lending l s)
+worked (T.Print p) s = printed s (printing p s)
 
 unfoldable pub ran : List ℕ → Command → Shell → Printed
 ran line C.Nothing s = printed s []
 ran line C.Unknown s = unknown s
-ran line (C.Card n b) s = ok (inserted n b s)
-ran line C.Format s = called format s
-ran line C.Mount s = called mount s
-ran line (C.Begin u) s = called (begin u) s
-ran line (C.End u) s = called (end u) s
-ran line (C.NewList t) s = called (onStream t newList) s
-ran line (C.NewBlock t l p) s = called (onStream t (newBlock l p)) s
-ran line (C.Write t b n w) s = called (onStream t (writeBlock b (dataLent (textOf line w) n))) s
-ran line (C.Read v b n) s = called (inView v (readBlock b (bytesLent n))) s
-ran line (C.DeleteBlock t b) s = called (onStream t (deleteBlock b)) s
-ran line (C.DeleteList t l) s = called (onStream t (deleteList l)) s
-ran line (C.Flush n) s = called (flush n) s
-ran line (C.Next v l p) s = called (inView v (blockAfter l p)) s
-ran line C.Conflicts s = called conflictCount s
-ran line (C.Inventory v n) s = called (inView v (inventory (bytesLent n))) s
-ran line C.Cut s = cutBetween s
-ran line (C.CutFlush n k) s = cutFlush n k s
-ran line (C.CutFormat k) s = cutFormat k s
-ran line (C.Poke a b) s = poked a b s
-ran line (C.LendCard n) s = lending (min n (length (s .disk .card))) (s .lentQueue) (s .lentJournal) s
-ran line (C.LendQueue n) s = lending (s .lentCard) (min n 8192) (s .lentJournal) s
-ran line (C.LendJournal n) s = lending (s .lentCard) (s .lentQueue) (min n 15360) s
-ran line C.LendAll s = ok (allLent (s .disk))
-ran line C.Sum s = printed s (numberLine (adler (s .disk .card)))
-ran line C.Listing s = printed s (listing (s .disk .card))
-ran line (C.Show v) s = printed s (shown v (lentDisk s))
+ran line (C.Call q) s = called (callOf line q) s
+ran line (C.Tool t) s = worked t s
 
 -- the card's buffer holds the longest card, and the card itself
 pub record Fits (c : List ℕ) (s : State) : Type 0 where

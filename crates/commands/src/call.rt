@@ -5,7 +5,8 @@ use calls::replied::MountReplied;
 use calls::replied::NumberReplied;
 use calls::replied::Replied;
 use disk::record::Record;
-use script::command::Command;
+use script::command::Edit;
+use script::command::Request;
 use script::replies::put_answer;
 use script::replies::put_flushed;
 use script::replies::put_mounted;
@@ -15,19 +16,16 @@ use text::line::part;
 use text::put::put_bytes;
 use text::word::Word;
 ghost use mathlib.Core.Path.{_≡_};
-ghost use mathlib.Core.List.{List, [], _++_};
-ghost use mathlib.Core.Option.{some};
-ghost use Prim.Native.Nat.{ℕ};
+ghost use mathlib.Core.List.{[], _++_};
 ghost use lib.ListN.{take, replicate};
 ghost use Rattle.disk.specs.Disk.{disk};
 ghost use Rattle.disk.specs.Call.{writeBlock, onStream};
-ghost use Rattle.disk.specs.Answers.{replyAnswer};
+ghost use Rattle.disk.specs.Answers.{replyAnswer, mountAnswer, numberAnswer, flushAnswer};
 ghost use Rattle.calls.specs.Performs.{Performs};
 ghost use Rattle.script.specs.Arguments.{textOf};
 ghost use Rattle.script.specs.Lines.{answerLine, numberedLine, mountLine, flushLine};
 ghost use Rattle.text.specs.Written.{Puts};
-ghost use Rattle.commands.specs.Called.{callOf, dataLent, Calls};
-ghost use Rattle.commands.specs.promises.Tags.{stores, Beyond};
+ghost use Rattle.commands.specs.Called.{editOf, callOf, dataLent, Calls};
 
 // The record that a call leaves, and the position behind its line.
 pub struct Called {
@@ -36,7 +34,7 @@ pub struct Called {
 }
 
 pub fn call(
-    c: Command,
+    q: Request,
     line: &[u8],
     card: &mut [u8],
     queue: &mut [u8],
@@ -45,17 +43,75 @@ pub fn call(
     out: &mut [u8],
     at: usize,
 ) -> Called
-    ensures { λ r. ⌜ Calls (callOf (now (line .entry)) c) (disk (now (card .entry)) (now (queue .entry)) (now (journal .entry)) rec) (disk (now (card .exit)) (now (queue .exit)) (now (journal .exit)) (r .rec)) (now (out .entry)) at (now (out .exit)) (r .at) ⌝ }
+    ensures { λ r. ⌜ Calls (callOf (now (line .entry)) q) (disk (now (card .entry)) (now (queue .entry)) (now (journal .entry)) rec) (disk (now (card .exit)) (now (queue .exit)) (now (journal .exit)) (r .rec)) (now (out .entry)) at (now (out .exit)) (r .at) ⌝ }
 {
-    match c {
-        Command::Format => answered(calls::format::format(card, queue, journal, rec), out, at),
-        Command::End { unit } => answered(
+    match q {
+        Request::Format => answered(calls::format::format(card, queue, journal, rec), out, at),
+        Request::Mount => mounted(calls::mount::mount(card, queue, journal, rec), out, at),
+        Request::Begin { unit } => answered(
+            calls::begin::begin(card, queue, journal, rec, unit as usize),
+            out,
+            at,
+        ),
+        Request::End { unit } => answered(
             calls::end::end(card, queue, journal, rec, unit as usize),
             out,
             at,
         ),
-        Command::Write {
-            stream,
+        Request::Flush { allowance } => flushed(
+            calls::flush::flush(card, queue, journal, rec, allowance as usize),
+            out,
+            at,
+        ),
+        Request::Conflicts => {
+            let reply = calls::conflicts::conflicts(card, queue, journal, rec);
+            let next = put_numbered(out, at, reply);
+            Called { rec, at: next }
+        }
+        Request::Edit { stream, edit: e } => {
+            edit(stream as usize, e, line, card, queue, journal, rec, out, at)
+        }
+        Request::Look { view, look: l } => {
+            let next = look(view as usize, l, card, queue, journal, rec, out, at);
+            Called { rec, at: next }
+        }
+    }
+}
+
+// An edit on a stream stores nothing on the card.
+fn edit(
+    stream: usize,
+    e: Edit,
+    line: &[u8],
+    card: &[u8],
+    queue: &mut [u8],
+    journal: &mut [u8],
+    rec: Record,
+    out: &mut [u8],
+    at: usize,
+) -> Called
+    ensures { λ r. ⌜ Calls (onStream stream (editOf (now (line .entry)) e)) (disk (now (card .entry)) (now (queue .entry)) (now (journal .entry)) rec) (disk (now (card .entry)) (now (queue .exit)) (now (journal .exit)) (r .rec)) (now (out .entry)) at (now (out .exit)) (r .at) ⌝ }
+{
+    match e {
+        Edit::NewList => numbered(
+            calls::new_list::new_list(card, queue, journal, rec, stream),
+            out,
+            at,
+        ),
+        Edit::NewBlock { list, predecessor } => numbered(
+            calls::new_block::new_block(
+                card,
+                queue,
+                journal,
+                rec,
+                stream,
+                list as usize,
+                predecessor as usize,
+            ),
+            out,
+            at,
+        ),
+        Edit::Write {
             block,
             lent,
             digits,
@@ -66,7 +122,7 @@ pub fn call(
                 queue,
                 journal,
                 rec,
-                stream as usize,
+                stream,
                 block as usize,
                 lent as usize,
                 digits,
@@ -74,84 +130,16 @@ pub fn call(
                 at,
             )
         }
-        Command::Flush { allowance } => flushed(
-            calls::flush::flush(card, queue, journal, rec, allowance as usize),
+        Edit::DeleteBlock { block } => answered(
+            calls::delete_block::delete_block(card, queue, journal, rec, stream, block as usize),
             out,
             at,
         ),
-        _ => change(c, card, queue, journal, rec, out, at),
-    }
-}
-
-// The calls that store in no buffer that is lent.
-fn change(
-    c: Command,
-    card: &[u8],
-    queue: &[u8],
-    journal: &[u8],
-    rec: Record,
-    out: &mut [u8],
-    at: usize,
-) -> Called
-    requires { ⌜ Beyond stores c ⌝ }
-    ensures { λ r. ⌜ ((line : List ℕ) → Calls (callOf line c) (disk (now (card .entry)) (now (queue .entry)) (now (journal .entry)) rec) (disk (now (card .entry)) (now (queue .entry)) (now (journal .entry)) (r .rec)) (now (out .entry)) at (now (out .exit)) (r .at)) ⌝ }
-{
-    match c {
-        Command::Mount => mounted(calls::mount::mount(card, queue, journal, rec), out, at),
-        Command::Begin { unit } => answered(
-            calls::begin::begin(card, queue, journal, rec, unit as usize),
+        Edit::DeleteList { list } => answered(
+            calls::delete_list::delete_list(card, queue, journal, rec, stream, list as usize),
             out,
             at,
         ),
-        Command::NewList { stream } => numbered(
-            calls::new_list::new_list(card, queue, journal, rec, stream as usize),
-            out,
-            at,
-        ),
-        Command::NewBlock {
-            stream,
-            list,
-            predecessor,
-        } => {
-            numbered(
-                calls::new_block::new_block(
-                    card,
-                    queue,
-                    journal,
-                    rec,
-                    stream as usize,
-                    list as usize,
-                    predecessor as usize,
-                ),
-                out,
-                at,
-            )
-        }
-        Command::DeleteBlock { stream, block } => answered(
-            calls::delete_block::delete_block(
-                card,
-                queue,
-                journal,
-                rec,
-                stream as usize,
-                block as usize,
-            ),
-            out,
-            at,
-        ),
-        Command::DeleteList { stream, list } => answered(
-            calls::delete_list::delete_list(
-                card,
-                queue,
-                journal,
-                rec,
-                stream as usize,
-                list as usize,
-            ),
-            out,
-            at,
-        ),
-        _ => look(c, card, queue, journal, rec, out, at),
     }
 }
 
@@ -168,7 +156,7 @@ fn write(
     out: &mut [u8],
     at: usize,
 ) -> Called
-    ensures { λ r. ⌜ Calls (some (onStream stream (writeBlock block (dataLent (textOf (now (line .entry)) digits) lent)))) (disk (now (card .entry)) (now (queue .entry)) (now (journal .entry)) rec) (disk (now (card .entry)) (now (queue .exit)) (now (journal .exit)) (r .rec)) (now (out .entry)) at (now (out .exit)) (r .at) ⌝ }
+    ensures { λ r. ⌜ Calls (onStream stream (writeBlock block (dataLent (textOf (now (line .entry)) digits) lent))) (disk (now (card .entry)) (now (queue .entry)) (now (journal .entry)) rec) (disk (now (card .entry)) (now (queue .exit)) (now (journal .exit)) (r .rec)) (now (out .entry)) at (now (out .exit)) (r .at) ⌝ }
 {
     let mut bytes = [0u8; 256];
     hex(part(line, digits.start, digits.end), &mut bytes);
@@ -203,7 +191,7 @@ fn write_part(
 }
 
 fn answered(done: Replied, out: &mut [u8], at: usize) -> Called
-    ensures { λ r. ⌜ (r .rec ≡ done .rec) × Puts (now (out .entry)) at (answerLine (done .reply)) (now (out .exit)) (r .at) ⌝ }
+    ensures { λ r. ⌜ (r .rec ≡ done .rec) × Puts (now (out .entry)) at (answerLine (replyAnswer (done .reply))) (now (out .exit)) (r .at) ⌝ }
 {
     let rec = done.rec;
     let reply = done.reply;
@@ -212,7 +200,7 @@ fn answered(done: Replied, out: &mut [u8], at: usize) -> Called
 }
 
 fn mounted(done: MountReplied, out: &mut [u8], at: usize) -> Called
-    ensures { λ r. ⌜ (r .rec ≡ done .rec) × Puts (now (out .entry)) at (mountLine (done .reply)) (now (out .exit)) (r .at) ⌝ }
+    ensures { λ r. ⌜ (r .rec ≡ done .rec) × Puts (now (out .entry)) at (mountLine (mountAnswer (done .reply))) (now (out .exit)) (r .at) ⌝ }
 {
     let rec = done.rec;
     let reply = done.reply;
@@ -221,7 +209,7 @@ fn mounted(done: MountReplied, out: &mut [u8], at: usize) -> Called
 }
 
 fn numbered(done: NumberReplied, out: &mut [u8], at: usize) -> Called
-    ensures { λ r. ⌜ (r .rec ≡ done .rec) × Puts (now (out .entry)) at (numberedLine (done .reply)) (now (out .exit)) (r .at) ⌝ }
+    ensures { λ r. ⌜ (r .rec ≡ done .rec) × Puts (now (out .entry)) at (numberedLine (numberAnswer (done .reply))) (now (out .exit)) (r .at) ⌝ }
 {
     let rec = done.rec;
     let number = done.reply;
@@ -230,7 +218,7 @@ fn numbered(done: NumberReplied, out: &mut [u8], at: usize) -> Called
 }
 
 fn flushed(done: FlushReplied, out: &mut [u8], at: usize) -> Called
-    ensures { λ r. ⌜ (r .rec ≡ done .rec) × Puts (now (out .entry)) at (flushLine (done .reply)) (now (out .exit)) (r .at) ⌝ }
+    ensures { λ r. ⌜ (r .rec ≡ done .rec) × Puts (now (out .entry)) at (flushLine (flushAnswer (done .reply))) (now (out .exit)) (r .at) ⌝ }
 {
     let rec = done.rec;
     let reply = done.reply;

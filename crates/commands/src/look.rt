@@ -1,91 +1,62 @@
-// The calls that change nothing; read and the inventory, on so many bytes as are lent to them.
-use crate::call::Called;
+// The look-ups in a view; read and the inventory, on so many bytes as are lent to them.
 use crate::state::within;
 use disk::answer::NumberReply;
 use disk::answer::Reply;
 use disk::record::Record;
-use script::command::Command;
+use script::command::Look;
 use script::replies::put_inventory;
 use script::replies::put_numbered;
 use script::replies::put_read;
 use text::line::part;
-ghost use mathlib.Core.List.{List};
-ghost use mathlib.Core.Option.{some};
-ghost use Prim.Native.Nat.{ℕ};
 ghost use lib.ListN.{take};
 ghost use Rattle.disk.specs.Disk.{disk};
 ghost use Rattle.disk.specs.Call as call;
 ghost use Rattle.disk.specs.Answers.{replyAnswer, numberAnswer};
 ghost use Rattle.calls.specs.Performs.{Performs};
-ghost use Rattle.commands.specs.Called.{callOf, bytesLent, Calls};
-ghost use Rattle.commands.specs.promises.Tags.{stores, changes, Beyond};
+ghost use Rattle.commands.specs.Called.{lookOf, bytesLent, Calls};
 
 // The most bytes that are lent as a destination.
 const PART: usize = 300;
 
 pub fn look(
-    c: Command,
+    view: usize,
+    l: Look,
     card: &[u8],
     queue: &[u8],
     journal: &[u8],
     rec: Record,
     out: &mut [u8],
     at: usize,
-) -> Called
-    requires { ⌜ Beyond stores c × Beyond changes c ⌝ }
-    ensures { λ r. ⌜ ((line : List ℕ) → Calls (callOf line c) (disk (now (card .entry)) (now (queue .entry)) (now (journal .entry)) rec) (disk (now (card .entry)) (now (queue .entry)) (now (journal .entry)) (r .rec)) (now (out .entry)) at (now (out .exit)) (r .at)) ⌝ }
+) -> usize
+    ensures { λ r. ⌜ Calls (call.inView view (lookOf l)) (disk (now (card .entry)) (now (queue .entry)) (now (journal .entry)) rec) (disk (now (card .entry)) (now (queue .entry)) (now (journal .entry)) rec) (now (out .entry)) at (now (out .exit)) r ⌝ }
 {
-    match c {
-        Command::Read { view, block, lent } => {
-            let next = read(
-                card,
-                queue,
-                journal,
-                rec,
-                view as usize,
-                block as usize,
-                lent as usize,
-                out,
-                at,
-            );
-            Called { rec, at: next }
-        }
-        Command::Next {
+    match l {
+        Look::Read { block, lent } => read(
+            card,
+            queue,
+            journal,
+            rec,
             view,
-            list,
-            predecessor,
-        } => {
+            block as usize,
+            lent as usize,
+            out,
+            at,
+        ),
+        Look::Next { list, predecessor } => {
             let reply = calls::next::next(
                 card,
                 queue,
                 journal,
                 rec,
-                view as usize,
+                view,
                 list as usize,
                 predecessor as usize,
             );
-            let next = put_numbered(out, at, reply);
-            Called { rec, at: next }
+            put_numbered(out, at, reply)
         }
-        Command::Conflicts => {
-            let reply = calls::conflicts::conflicts(card, queue, journal, rec);
-            let next = put_numbered(out, at, reply);
-            Called { rec, at: next }
+        Look::Inventory { lent } => {
+            inventory(card, queue, journal, rec, view, lent as usize, out, at)
         }
-        Command::Inventory { view, lent } => {
-            let next = inventory(
-                card,
-                queue,
-                journal,
-                rec,
-                view as usize,
-                lent as usize,
-                out,
-                at,
-            );
-            Called { rec, at: next }
-        }
-        _ => Called { rec, at },
     }
 }
 
@@ -100,7 +71,7 @@ fn read(
     out: &mut [u8],
     at: usize,
 ) -> usize
-    ensures { λ r. ⌜ Calls (some (call.inView view (call.readBlock block (bytesLent lent)))) (disk (now (card .entry)) (now (queue .entry)) (now (journal .entry)) rec) (disk (now (card .entry)) (now (queue .entry)) (now (journal .entry)) rec) (now (out .entry)) at (now (out .exit)) r ⌝ }
+    ensures { λ r. ⌜ Calls (call.inView view (call.readBlock block (bytesLent lent))) (disk (now (card .entry)) (now (queue .entry)) (now (journal .entry)) rec) (disk (now (card .entry)) (now (queue .entry)) (now (journal .entry)) rec) (now (out .entry)) at (now (out .exit)) r ⌝ }
 {
     let mut content = [0u8; PART];
     let reply = read_part(card, queue, journal, rec, view, block, lent, &mut content);
@@ -134,7 +105,7 @@ fn inventory(
     out: &mut [u8],
     at: usize,
 ) -> usize
-    ensures { λ r. ⌜ Calls (some (call.inView view (call.inventory (bytesLent lent)))) (disk (now (card .entry)) (now (queue .entry)) (now (journal .entry)) rec) (disk (now (card .entry)) (now (queue .entry)) (now (journal .entry)) rec) (now (out .entry)) at (now (out .exit)) r ⌝ }
+    ensures { λ r. ⌜ Calls (call.inView view (call.inventory (bytesLent lent))) (disk (now (card .entry)) (now (queue .entry)) (now (journal .entry)) rec) (disk (now (card .entry)) (now (queue .entry)) (now (journal .entry)) rec) (now (out .entry)) at (now (out .exit)) r ⌝ }
 {
     let mut lists = [0u8; PART];
     let reply = inventory_part(card, queue, journal, rec, view, lent, &mut lists);

@@ -15,6 +15,11 @@ use crate::state::with_card;
 use crate::state::with_record;
 use crate::state::within;
 use script::command::Command;
+use script::command::Cut;
+use script::command::Lend;
+use script::command::Print;
+use script::command::Request;
+use script::command::Tool;
 use script::lines::put_number;
 use script::parse::command;
 use text::adler::adler32;
@@ -28,11 +33,10 @@ ghost use lib.ListN.{drop, replicate};
 ghost use Rattle.text.specs.Written.{Puts};
 ghost use Rattle.script.specs.Commands.{commandOf};
 ghost use Rattle.commands.specs.Shell.{shellOf, lentDisk};
-ghost use Rattle.commands.specs.Called.{callOf, performed};
+ghost use Rattle.commands.specs.Called.{callOf, called};
 ghost use Rattle.commands.specs.Cut.{cutBetween};
 ghost use Rattle.commands.specs.Shown.{shown};
-ghost use Rattle.commands.specs.Ran.{ok, inserted, poked, longestCard, ran, Fits, Runs};
-ghost use Rattle.commands.specs.promises.Tags.{cards, lends, Beyond};
+ghost use Rattle.commands.specs.Ran.{ok, inserted, poked, lending, cutting, printing, worked, longestCard, ran, Fits, Runs};
 
 pub fn run(
     line: &[u8],
@@ -65,11 +69,53 @@ fn run_command(
     match c {
         Command::Nothing => Ran { state, at },
         Command::Unknown => said(state, out, at, b"?\n"),
-        Command::Card { length, byte } => {
+        Command::Call(q) => lent(q, line, card, queue, journal, state, out, at),
+        Command::Tool(t) => work(t, card, queue, journal, state, out, at),
+    }
+}
+
+// The shell's own commands.
+fn work(
+    tool: Tool,
+    card: &mut [u8],
+    queue: &mut [u8],
+    journal: &mut [u8],
+    state: State,
+    out: &mut [u8],
+    at: usize,
+) -> Ran
+    requires { ⌜ Fits (now card) state ⌝ }
+    ensures { λ r. ⌜ Runs (worked tool (shellOf (now (card .entry)) (now (queue .entry)) (now (journal .entry)) state)) (now (card .entry)) (now (out .entry)) at (now (card .exit)) (now (queue .exit)) (now (journal .exit)) (now (out .exit)) r ⌝ }
+{
+    match tool {
+        Tool::Card { length, byte } => {
             put_in(card, queue, journal, length as usize, byte, out, at)
         }
-        Command::Cut => cut_between(queue, journal, state, out, at),
-        Command::CutFlush { allowance, stores } => cut_flush(
+        Tool::Poke { at: place, byte } => poke(card, state, place as usize, byte, out, at),
+        Tool::Cut(x) => cut_power(x, card, queue, journal, state, out, at),
+        Tool::Lend(l) => said(lend(l, state), out, at, b"ok\n"),
+        Tool::Print(p) => {
+            let next = print(p, card, queue, journal, state, out, at);
+            Ran { state, at: next }
+        }
+    }
+}
+
+fn cut_power(
+    x: Cut,
+    card: &mut [u8],
+    queue: &mut [u8],
+    journal: &mut [u8],
+    state: State,
+    out: &mut [u8],
+    at: usize,
+) -> Ran
+    requires { ⌜ Fits (now card) state ⌝ }
+    ensures { λ r. ⌜ Runs (cutting x (shellOf (now (card .entry)) (now (queue .entry)) (now (journal .entry)) state)) (now (card .entry)) (now (out .entry)) at (now (card .exit)) (now (queue .exit)) (now (journal .exit)) (now (out .exit)) r ⌝ }
+{
+    match x {
+        Cut::Between => cut_between(queue, journal, state, out, at),
+        Cut::Flush { allowance, stores } => cut_flush(
             card,
             queue,
             journal,
@@ -79,87 +125,63 @@ fn run_command(
             out,
             at,
         ),
-        Command::CutFormat { stores } => {
+        Cut::Format { stores } => {
             cut_format(card, queue, journal, state, stores as usize, out, at)
         }
-        Command::Poke { at: place, byte } => poke(card, state, place as usize, byte, out, at),
-        _ => run_lend(c, line, card, queue, journal, state, out, at),
     }
 }
 
 // How much is lent from now on.
-fn run_lend(
-    c: Command,
-    line: &[u8],
-    card: &mut [u8],
-    queue: &mut [u8],
-    journal: &mut [u8],
-    state: State,
-    out: &mut [u8],
-    at: usize,
-) -> Ran
-    requires { ⌜ Fits (now card) state × Beyond cards c ⌝ }
-    ensures { λ r. ⌜ Runs (ran (now (line .entry)) c (shellOf (now (card .entry)) (now (queue .entry)) (now (journal .entry)) state)) (now (card .entry)) (now (out .entry)) at (now (card .exit)) (now (queue .exit)) (now (journal .exit)) (now (out .exit)) r ⌝ }
+fn lend(l: Lend, state: State) -> State
+    ensures { λ r. ⌜ (r .size ≡ state .size) × ((card queue journal : List ℕ) → Fits card state → shellOf card queue journal r ≡ lending l (shellOf card queue journal state)) ⌝ }
 {
-    match c {
-        Command::LendCard { most } => {
+    match l {
+        Lend::Card { most } => {
             let mut next = state;
             next.card = least(most as usize, state.size);
-            said(next, out, at, b"ok\n")
+            next
         }
-        Command::LendQueue { most } => {
+        Lend::Queue { most } => {
             let mut next = state;
             next.queue = least(most as usize, QUEUE_DATA);
-            said(next, out, at, b"ok\n")
+            next
         }
-        Command::LendJournal { most } => {
+        Lend::Journal { most } => {
             let mut next = state;
             next.journal = least(most as usize, JOURNAL_DATA);
-            said(next, out, at, b"ok\n")
+            next
         }
-        Command::LendAll => {
+        Lend::All => {
             let rec = state.rec;
-            said(with_card(rec, state.size), out, at, b"ok\n")
+            with_card(rec, state.size)
         }
-        _ => run_print(c, line, card, queue, journal, state, out, at),
     }
 }
 
-// What only prints; all else are calls.
-fn run_print(
-    c: Command,
-    line: &[u8],
-    card: &mut [u8],
-    queue: &mut [u8],
-    journal: &mut [u8],
+fn print(
+    p: Print,
+    card: &[u8],
+    queue: &[u8],
+    journal: &[u8],
     state: State,
     out: &mut [u8],
     at: usize,
-) -> Ran
-    requires { ⌜ Fits (now card) state × Beyond cards c × Beyond lends c ⌝ }
-    ensures { λ r. ⌜ Runs (ran (now (line .entry)) c (shellOf (now (card .entry)) (now (queue .entry)) (now (journal .entry)) state)) (now (card .entry)) (now (out .entry)) at (now (card .exit)) (now (queue .exit)) (now (journal .exit)) (now (out .exit)) r ⌝ }
+) -> usize
+    ensures { λ r. ⌜ Puts (now (out .entry)) at (printing p (shellOf (now (card .entry)) (now (queue .entry)) (now (journal .entry)) state)) (now (out .exit)) r ⌝ }
 {
-    match c {
-        Command::Sum => {
+    match p {
+        Print::Sum => {
             let sum = adler32(part(card, 0, state.size));
-            let next = put_number(out, at, sum as u64);
-            Ran { state, at: next }
+            put_number(out, at, sum as u64)
         }
-        Command::Listing => {
-            let next = listing::listing(part(card, 0, state.size), out, at);
-            Ran { state, at: next }
-        }
-        Command::Show { view } => {
-            let next = show_lent(card, queue, journal, state, view as usize, out, at);
-            Ran { state, at: next }
-        }
-        _ => lent(c, line, card, queue, journal, state, out, at),
+        Print::Listing => listing::listing(part(card, 0, state.size), out, at),
+        Print::Show { view } => show_lent(card, queue, journal, state, view as usize, out, at),
     }
 }
 
 // A call sees only what is lent.
 fn lent(
-    c: Command,
+    q: Request,
     line: &[u8],
     card: &mut [u8],
     queue: &mut [u8],
@@ -169,18 +191,18 @@ fn lent(
     at: usize,
 ) -> Ran
     requires { ⌜ Fits (now card) state ⌝ }
-    ensures { λ r. ⌜ Runs (performed (callOf (now (line .entry)) c) (shellOf (now (card .entry)) (now (queue .entry)) (now (journal .entry)) state)) (now (card .entry)) (now (out .entry)) at (now (card .exit)) (now (queue .exit)) (now (journal .exit)) (now (out .exit)) r ⌝ }
+    ensures { λ r. ⌜ Runs (called (callOf (now (line .entry)) q) (shellOf (now (card .entry)) (now (queue .entry)) (now (journal .entry)) state)) (now (card .entry)) (now (out .entry)) at (now (card .exit)) (now (queue .exit)) (now (journal .exit)) (now (out .exit)) r ⌝ }
 {
     let n = within(least(state.card, state.size), card);
-    let q = within(state.queue, queue);
-    let j = within(state.journal, journal);
+    let m = within(state.queue, queue);
+    let k = within(state.journal, journal);
     let rec = state.rec;
     let called = call(
-        c,
+        q,
         line,
         &mut card[..n],
-        &mut queue[..q],
-        &mut journal[..j],
+        &mut queue[..m],
+        &mut journal[..k],
         rec,
         out,
         at,

@@ -15,6 +15,15 @@ use Rattle.script.specs.declared.arguments.Two as T
 use Rattle.script.specs.declared.arguments.Three as H
 use Rattle.script.specs.declared.command.Command.{Command}
 use Rattle.script.specs.declared.command.Command.the-variants as C
+use Rattle.script.specs.declared.command.Request.the-variants as Q
+use Rattle.script.specs.declared.command.Edit.{Edit}
+use Rattle.script.specs.declared.command.Edit.the-variants as E
+use Rattle.script.specs.declared.command.Look.{Look}
+use Rattle.script.specs.declared.command.Look.the-variants as K
+use Rattle.script.specs.declared.command.Tool.the-variants as S
+use Rattle.script.specs.declared.command.Cut.the-variants as X
+use Rattle.script.specs.declared.command.Lend.the-variants as L
+use Rattle.script.specs.declared.command.Print.the-variants as P
 use Rattle.script.specs.Arguments.{textOf, numberAt, endedAt, pair, triple, oneFrom, twoFrom, threeFrom, partFrom}
 use Rattle.script.specs.Spelling.{bytes}
 
@@ -31,15 +40,22 @@ abbrev pub ofThree : (ℕ → ℕ → ℕ → Command) → H.Three → Command
 ofThree f (H.the-variants.Values a b c) = f a b c
 ofThree f H.the-variants.Bad = C.Unknown
 
+-- "Changes come on stream 0 (simple; queued) or 1 to 4", look-ups in a view
+abbrev pub onStream : ℕ → Edit → Command
+onStream s e = C.Call (Q.Edit s e)
+
+abbrev pub inView : ℕ → Look → Command
+inView v k = C.Call (Q.Look v k)
+
 abbrev pub ofWrite : Word → H.Three → Command
-ofWrite digits n = ofThree (λ s b k. C.Write s b k digits) n
+ofWrite digits n = ofThree (λ s b k. onStream s (E.Write b k digits)) n
 
 -- "LEN bytes (0 to 266,240) of value BYTE"
 abbrev pub cardOf : T.Two → Command
-cardOf n = ofTwo (λ k b. cond (leb k 266240 && leb b 255) (C.Card k b) C.Unknown) n
+cardOf n = ofTwo (λ k b. cond (leb k 266240 && leb b 255) (C.Tool (S.Card k b)) C.Unknown) n
 
 abbrev pub pokeOf : T.Two → Command
-pokeOf n = ofTwo (λ a b. cond (leb b 255) (C.Poke a b) C.Unknown) n
+pokeOf n = ofTwo (λ a b. cond (leb b 255) (C.Tool (S.Poke a b)) C.Unknown) n
 
 -- a command without further words
 unfoldable pub alone : List ℕ → ℕ → Command → Command
@@ -58,13 +74,13 @@ unfoldable pub readFrom : List ℕ → ℕ → Command
 readFrom line from =
     let v = wordFrom line from in
     let b = wordFrom line (v .end) in
-    ofThree C.Read (triple (numberAt line v) (pair (numberAt line b) (partFrom line (b .end) 256)))
+    ofThree (λ v b k. inView v (K.Read b k)) (triple (numberAt line v) (pair (numberAt line b) (partFrom line (b .end) 256)))
 
 -- `V`, `V N`
 unfoldable pub inventoryFrom : List ℕ → ℕ → Command
 inventoryFrom line from =
     let v = wordFrom line from in
-    ofTwo C.Inventory (pair (numberAt line v) (partFrom line (v .end) 16))
+    ofTwo (λ v k. inView v (K.Inventory k)) (pair (numberAt line v) (partFrom line (v .end) 16))
 
 -- a row of the table: a name, and what the words behind it make
 pub record Row : Type 0 where
@@ -83,8 +99,8 @@ pick word (r ∷ rs) other = elim (same word (bytes (r .name))) [ true ↦ r .co
 -- `flush N K`, `format K`
 unfoldable pub cutRows : List ℕ → ℕ → List Row
 cutRows line at =
-    "flush" ⇒ ofTwo C.CutFlush (twoFrom line at)
-    ∷ "format" ⇒ ofOne C.CutFormat (oneFrom line at)
+    "flush" ⇒ ofTwo (λ n k. C.Tool (S.Cut (X.Flush n k))) (twoFrom line at)
+    ∷ "format" ⇒ ofOne (λ k. C.Tool (S.Cut (X.Format k))) (oneFrom line at)
     ∷ []
 
 unfoldable pub cutNamed : List ℕ → ℕ → ℕ → Command
@@ -92,15 +108,15 @@ cutNamed line start at = pick (slice start at line) (cutRows line at) C.Unknown
 
 -- nothing more, or one of these
 unfoldable pub cutFrom : List ℕ → ℕ → Command
-cutFrom line from = let w = wordFrom line from in cond (endedAt line from) C.Cut (cutNamed line (w .start) (w .end))
+cutFrom line from = let w = wordFrom line from in cond (endedAt line from) (C.Tool (S.Cut X.Between)) (cutNamed line (w .start) (w .end))
 
 -- `card N`, `queue N`, `journal N`, `all`
 unfoldable pub lendRows : List ℕ → ℕ → List Row
 lendRows line at =
-    "card" ⇒ ofOne C.LendCard (oneFrom line at)
-    ∷ "queue" ⇒ ofOne C.LendQueue (oneFrom line at)
-    ∷ "journal" ⇒ ofOne C.LendJournal (oneFrom line at)
-    ∷ "all" ⇒ alone line at C.LendAll
+    "card" ⇒ ofOne (λ n. C.Tool (S.Lend (L.Card n))) (oneFrom line at)
+    ∷ "queue" ⇒ ofOne (λ n. C.Tool (S.Lend (L.Queue n))) (oneFrom line at)
+    ∷ "journal" ⇒ ofOne (λ n. C.Tool (S.Lend (L.Journal n))) (oneFrom line at)
+    ∷ "all" ⇒ alone line at (C.Tool (S.Lend L.All))
     ∷ []
 
 unfoldable pub lendNamed : List ℕ → ℕ → ℕ → Command
@@ -112,23 +128,23 @@ lendFrom line from = let w = wordFrom line from in lendNamed line (w .start) (w 
 unfoldable pub firstRows : List ℕ → ℕ → List Row
 firstRows line at =
     "card" ⇒ cardOf (twoFrom line at)
-    ∷ "format" ⇒ alone line at C.Format
-    ∷ "mount" ⇒ alone line at C.Mount
-    ∷ "begin" ⇒ ofOne C.Begin (oneFrom line at)
-    ∷ "end" ⇒ ofOne C.End (oneFrom line at)
-    ∷ "newlist" ⇒ ofOne C.NewList (oneFrom line at)
-    ∷ "newblock" ⇒ ofThree C.NewBlock (threeFrom line at)
+    ∷ "format" ⇒ alone line at (C.Call Q.Format)
+    ∷ "mount" ⇒ alone line at (C.Call Q.Mount)
+    ∷ "begin" ⇒ ofOne (λ u. C.Call (Q.Begin u)) (oneFrom line at)
+    ∷ "end" ⇒ ofOne (λ u. C.Call (Q.End u)) (oneFrom line at)
+    ∷ "newlist" ⇒ ofOne (λ s. onStream s E.NewList) (oneFrom line at)
+    ∷ "newblock" ⇒ ofThree (λ s l p. onStream s (E.NewBlock l p)) (threeFrom line at)
     ∷ []
 
 unfoldable pub middleRows : List ℕ → ℕ → List Row
 middleRows line at =
     "write" ⇒ writeFrom line at
     ∷ "read" ⇒ readFrom line at
-    ∷ "delblock" ⇒ ofTwo C.DeleteBlock (twoFrom line at)
-    ∷ "dellist" ⇒ ofTwo C.DeleteList (twoFrom line at)
-    ∷ "flush" ⇒ ofOne C.Flush (oneFrom line at)
-    ∷ "next" ⇒ ofThree C.Next (threeFrom line at)
-    ∷ "conflicts" ⇒ alone line at C.Conflicts
+    ∷ "delblock" ⇒ ofTwo (λ s b. onStream s (E.DeleteBlock b)) (twoFrom line at)
+    ∷ "dellist" ⇒ ofTwo (λ s l. onStream s (E.DeleteList l)) (twoFrom line at)
+    ∷ "flush" ⇒ ofOne (λ n. C.Call (Q.Flush n)) (oneFrom line at)
+    ∷ "next" ⇒ ofThree (λ v l p. inView v (K.Next l p)) (threeFrom line at)
+    ∷ "conflicts" ⇒ alone line at (C.Call Q.Conflicts)
     ∷ []
 
 unfoldable pub lastRows : List ℕ → ℕ → List Row
@@ -137,9 +153,9 @@ lastRows line at =
     ∷ "cut" ⇒ cutFrom line at
     ∷ "poke" ⇒ pokeOf (twoFrom line at)
     ∷ "lend" ⇒ lendFrom line at
-    ∷ "sum" ⇒ alone line at C.Sum
-    ∷ "list" ⇒ alone line at C.Listing
-    ∷ "show" ⇒ ofOne C.Show (oneFrom line at)
+    ∷ "sum" ⇒ alone line at (C.Tool (S.Print P.Sum))
+    ∷ "list" ⇒ alone line at (C.Tool (S.Print P.Listing))
+    ∷ "show" ⇒ ofOne (λ v. C.Tool (S.Print (P.Show v))) (oneFrom line at)
     ∷ []
 
 -- a line whose name stands between two positions

@@ -1,15 +1,13 @@
 -- The lines that the commands print. "Every output line ends in byte 10 and has no trailing blank."
+use mathlib.Core.Bool.{cond}
 use mathlib.Core.List.{List, [], _∷_, _++_}
 use Prim.Native.Nat.{ℕ}
+use lib.Dec.{eqb}
 use lib.Seq.{slice}
 use Rattle.text.specs.Decimal.{decimal}
 use Rattle.text.specs.Hex.{hexText}
 use Rattle.listing.specs.Listing.{numbers}
-use Rattle.disk.specs.Answers.{number, replyAnswer, mountAnswer, numberAnswer, flushAnswer}
-use Rattle.disk.specs.declared.answer.Reply as R
-use Rattle.disk.specs.declared.answer.MountReply as M
-use Rattle.disk.specs.declared.answer.NumberReply as N
-use Rattle.disk.specs.declared.answer.FlushReply as F
+use Rattle.disk.specs.Perform.{Answer}
 use Rattle.script.specs.Spelling.{bytes}
 
 -- a blank and a number
@@ -26,46 +24,41 @@ pairLine a b = decimal a ++ spaced b ++ 10 ∷ []
 unfoldable pub tripleLine : ℕ → ℕ → ℕ → List ℕ
 tripleLine a b c = decimal a ++ spaced b ++ spaced c ++ 10 ∷ []
 
--- `A`: "A is the answer's number, 0 if accepted"
-unfoldable pub answerLine : R.Reply → List ℕ
-answerLine r = numberLine (replyAnswer r .code)
+-- A call's answer a. `A`: "A is the answer's number, 0 if accepted"
+abbrev pub answerLine : Answer → List ℕ
+answerLine a = numberLine (a .code)
 
 -- `A L`, `A B`, `A N`
-unfoldable pub numberedLine : N.NumberReply → List ℕ
-numberedLine r = let a = numberAnswer r in pairLine (a .code) (a .value)
+abbrev pub numberedLine : Answer → List ℕ
+numberedLine a = pairLine (a .code) (a .value)
 
 -- `A SEGMENT ENTRY`
-unfoldable pub mountLine : M.MountReply → List ℕ
-mountLine r = let a = mountAnswer r in tripleLine (a .code) (a .value) (a .second)
+abbrev pub mountLine : Answer → List ℕ
+mountLine a = tripleLine (a .code) (a .value) (a .second)
 
 -- `A STORES ENDING`: "ENDING is `drained`, `full`, `spent`, or `-` if refused"
-unfoldable pub endingWord : F.FlushReply → List ℕ
-endingWord (F.the-variants.Drained n) = bytes "drained"
-endingWord (F.the-variants.Full n) = bytes "full"
-endingWord (F.the-variants.Spent n) = bytes "spent"
-endingWord (F.the-variants.Refused x) = bytes "-"
+unfoldable pub endingName : ℕ → List ℕ
+endingName e = cond (eqb e 0) (bytes "drained") (cond (eqb e 1) (bytes "full") (bytes "spent"))
 
 unfoldable pub endedLine : ℕ → ℕ → List ℕ → List ℕ
 endedLine a stores ending = decimal a ++ spaced stores ++ 32 ∷ [] ++ ending ++ 10 ∷ []
 
-unfoldable pub flushLine : F.FlushReply → List ℕ
-flushLine r = let a = flushAnswer r in endedLine (a .code) (a .value) (endingWord r)
+unfoldable pub flushLine : Answer → List ℕ
+flushLine a = endedLine (a .code) (a .value) (cond (eqb (a .code) 0) (endingName (a .second)) (bytes "-"))
 
 -- `A HEX`, refused: `A`
 unfoldable pub contentLine : List ℕ → List ℕ
 contentLine content = bytes "0 " ++ hexText content ++ 10 ∷ []
 
-unfoldable pub readLine : R.Reply → List ℕ → List ℕ
-readLine R.the-variants.Accepted content = contentLine content
-readLine (R.the-variants.Refused x) content = numberLine (number x)
+unfoldable pub readLine : Answer → List ℕ → List ℕ
+readLine a content = cond (eqb (a .code) 0) (contentLine content) (answerLine a)
 
 -- `A COUNT L L ..`: "COUNT lists in the order given"
 unfoldable pub countedLine : ℕ → List ℕ → List ℕ
 countedLine n lists = bytes "0" ++ spaced n ++ numbers lists ++ 10 ∷ []
 
-unfoldable pub inventoryLine : N.NumberReply → List ℕ → List ℕ
-inventoryLine (N.the-variants.Number n) lists = countedLine n (slice 0 n lists)
-inventoryLine (N.the-variants.Refused x) lists = pairLine (number x) 0
+unfoldable pub inventoryLine : Answer → List ℕ → List ℕ
+inventoryLine a lists = cond (eqb (a .code) 0) (countedLine (a .value) (slice 0 (a .value) lists)) (numberedLine a)
 
 -- `cut STORES`
 unfoldable pub cutLine : ℕ → List ℕ

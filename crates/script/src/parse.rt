@@ -7,6 +7,11 @@ use crate::arguments::three_numbers;
 use crate::arguments::triple;
 use crate::arguments::two_numbers;
 use crate::command::Command;
+use crate::command::Cut;
+use crate::command::Lend;
+use crate::command::Print;
+use crate::command::Request;
+use crate::command::Tool;
 use crate::numbered;
 use lists::limits;
 use text::decimal::number;
@@ -58,10 +63,10 @@ fn first_rows(line: &[u8], start: usize, end: usize) -> Command
         return numbered::card(two_numbers(line, end));
     }
     if is_word(line, start, end, b"format") {
-        return alone(line, end, Command::Format);
+        return alone(line, end, Command::Call(Request::Format));
     }
     if is_word(line, start, end, b"mount") {
-        return alone(line, end, Command::Mount);
+        return alone(line, end, Command::Call(Request::Mount));
     }
     if is_word(line, start, end, b"begin") {
         return numbered::begin(one_number(line, end));
@@ -100,7 +105,7 @@ fn middle_rows(line: &[u8], start: usize, end: usize) -> Command
         return numbered::next(three_numbers(line, end));
     }
     if is_word(line, start, end, b"conflicts") {
-        return alone(line, end, Command::Conflicts);
+        return alone(line, end, Command::Call(Request::Conflicts));
     }
     last_rows(line, start, end)
 }
@@ -121,10 +126,10 @@ fn last_rows(line: &[u8], start: usize, end: usize) -> Command
         return lend(line, end);
     }
     if is_word(line, start, end, b"sum") {
-        return alone(line, end, Command::Sum);
+        return alone(line, end, Command::Tool(Tool::Print(Print::Sum)));
     }
     if is_word(line, start, end, b"list") {
-        return alone(line, end, Command::Listing);
+        return alone(line, end, Command::Tool(Tool::Print(Print::Listing)));
     }
     if is_word(line, start, end, b"show") {
         return numbered::show(one_number(line, end));
@@ -182,7 +187,7 @@ fn cut(line: &[u8], from: usize) -> Command
     ensures { λ r. ⌜ r ≡ cutFrom (now (line .entry)) from ⌝ }
 {
     if is_end(line, from) {
-        return Command::Cut;
+        return Command::Tool(Tool::Cut(Cut::Between));
     }
     let w = word(line, from);
     cut_rows(line, w.start, w.end)
@@ -220,7 +225,7 @@ fn lend_rows(line: &[u8], start: usize, end: usize) -> Command
         return numbered::lend_journal(one_number(line, end));
     }
     if is_word(line, start, end, b"all") {
-        return alone(line, end, Command::LendAll);
+        return alone(line, end, Command::Tool(Tool::Lend(Lend::All)));
     }
     Command::Unknown
 }

@@ -16,12 +16,12 @@ use text::put::put_byte;
 use text::put::put_bytes;
 ghost use mathlib.Core.Path.{_≡_};
 ghost use Rattle.text.specs.Written.{Puts};
-ghost use Rattle.disk.specs.Answers.{number};
+ghost use Rattle.disk.specs.Answers.{number, replyAnswer, numberAnswer, mountAnswer, flushAnswer};
 ghost use Rattle.script.specs.Lines.{answerLine, numberedLine, mountLine, flushLine, endedLine, readLine, contentLine, inventoryLine, countedLine};
 
 // `A`
 pub fn put_answer(out: &mut [u8], at: usize, reply: Reply) -> usize
-    ensures { λ r. ⌜ Puts (now (out .entry)) at (answerLine reply) (now (out .exit)) r ⌝ }
+    ensures { λ r. ⌜ Puts (now (out .entry)) at (answerLine (replyAnswer reply)) (now (out .exit)) r ⌝ }
 {
     match reply {
         Reply::Accepted => put_number(out, at, 0),
@@ -31,7 +31,7 @@ pub fn put_answer(out: &mut [u8], at: usize, reply: Reply) -> usize
 
 // `A N`
 pub fn put_numbered(out: &mut [u8], at: usize, reply: NumberReply) -> usize
-    ensures { λ r. ⌜ Puts (now (out .entry)) at (numberedLine reply) (now (out .exit)) r ⌝ }
+    ensures { λ r. ⌜ Puts (now (out .entry)) at (numberedLine (numberAnswer reply)) (now (out .exit)) r ⌝ }
 {
     match reply {
         NumberReply::Number(n) => put_pair(out, at, 0, n as u64),
@@ -41,7 +41,7 @@ pub fn put_numbered(out: &mut [u8], at: usize, reply: NumberReply) -> usize
 
 // `A SEGMENT ENTRY`
 pub fn put_mounted(out: &mut [u8], at: usize, reply: MountReply) -> usize
-    ensures { λ r. ⌜ Puts (now (out .entry)) at (mountLine reply) (now (out .exit)) r ⌝ }
+    ensures { λ r. ⌜ Puts (now (out .entry)) at (mountLine (mountAnswer reply)) (now (out .exit)) r ⌝ }
 {
     match reply {
         MountReply::Accepted => put_triple(out, at, 0, 0, 0),
@@ -54,7 +54,7 @@ pub fn put_mounted(out: &mut [u8], at: usize, reply: MountReply) -> usize
 
 // `A STORES ENDING`
 pub fn put_flushed(out: &mut [u8], at: usize, reply: FlushReply) -> usize
-    ensures { λ r. ⌜ Puts (now (out .entry)) at (flushLine reply) (now (out .exit)) r ⌝ }
+    ensures { λ r. ⌜ Puts (now (out .entry)) at (flushLine (flushAnswer reply)) (now (out .exit)) r ⌝ }
 {
     match reply {
         FlushReply::Drained(n) => put_ended(out, at, 0, n as u64, b"drained"),
@@ -76,7 +76,7 @@ fn put_ended(out: &mut [u8], at: usize, a: u64, stores: u64, ending: &[u8]) -> u
 
 // `A HEX`, refused: `A`
 pub fn put_read(out: &mut [u8], at: usize, reply: Reply, content: &[u8]) -> usize
-    ensures { λ r. ⌜ Puts (now (out .entry)) at (readLine reply (now (content .entry))) (now (out .exit)) r ⌝ }
+    ensures { λ r. ⌜ Puts (now (out .entry)) at (readLine (replyAnswer reply) (now (content .entry))) (now (out .exit)) r ⌝ }
 {
     match reply {
         Reply::Accepted => put_content(out, at, content),
@@ -94,7 +94,7 @@ fn put_content(out: &mut [u8], at: usize, content: &[u8]) -> usize
 
 // `A COUNT L L ..`: so many of the lists stand in the lent bytes.
 pub fn put_inventory(out: &mut [u8], at: usize, reply: NumberReply, lists: &[u8]) -> usize
-    ensures { λ r. ⌜ Puts (now (out .entry)) at (inventoryLine reply (now (lists .entry))) (now (out .exit)) r ⌝ }
+    ensures { λ r. ⌜ Puts (now (out .entry)) at (inventoryLine (numberAnswer reply) (now (lists .entry))) (now (out .exit)) r ⌝ }
 {
     match reply {
         NumberReply::Number(n) => put_counted(out, at, n as u64, part(lists, 0, n)),

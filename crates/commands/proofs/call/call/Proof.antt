@@ -1,11 +1,10 @@
--- Each arm is one call and its line. Assumes nothing.
+-- Each arm is one call and its line, or those of an edit or a look-up. Assumes nothing.
 use mathlib.Core.Path.{refl}
 use Rattle.disk.specs.Disk.{disk}
-use Rattle.disk.specs.Call.{format, end, flush}
-use Rattle.script.specs.Lines as L
+use Rattle.disk.specs.Call.{format, mount, begin, end, flush, conflictCount}
 use Rattle.commands.specs.Replies.{lineOf}
 use Rattle.commands.specs.Called.{callOf}
-use Rattle.commands.proofs.Calling.{flush-line, calls}
+use Rattle.commands.proofs.Calling.{calls}
 use borrow.Author.Needs.{needs}
 use Rattle.commands.proofs.call.call.Statement.{statement}
 use Rattle.commands.proofs.call.call.Tie as tie
@@ -19,23 +18,35 @@ format-requires c κs = search needs
 answered-requires : tie.Need-answered-requires
 answered-requires c κs = search needs
 
-enum-known-c : tie.Need-enum-known-c
-enum-known-c c = search needs
+enum-told-2 : tie.Need-enum-told-2
+enum-told-2 c = search needs
 
-end-requires : tie.Need-end-requires
-end-requires c κs = search needs
+mount-requires : tie.Need-mount-requires
+mount-requires c κs = search needs
+
+mounted-requires : tie.Need-mounted-requires
+mounted-requires c κs = search needs
+
+enum-known-q : tie.Need-enum-known-q
+enum-known-q c = search needs
+
+begin-requires : tie.Need-begin-requires
+begin-requires c κs = search needs
 
 answered-requires-2 : tie.Need-answered-requires-2
 answered-requires-2 c κs = search needs
 
-enum-known-c-2 : tie.Need-enum-known-c-2
-enum-known-c-2 c = search needs
+enum-known-q-2 : tie.Need-enum-known-q-2
+enum-known-q-2 c = search needs
 
-write-requires : tie.Need-write-requires
-write-requires c κs = search needs
+end-requires : tie.Need-end-requires
+end-requires c κs = search needs
 
-enum-known-c-3 : tie.Need-enum-known-c-3
-enum-known-c-3 c = search needs
+answered-requires-3 : tie.Need-answered-requires-3
+answered-requires-3 c κs = search needs
+
+enum-known-q-3 : tie.Need-enum-known-q-3
+enum-known-q-3 c = search needs
 
 flush-requires : tie.Need-flush-requires
 flush-requires c κs = search needs
@@ -43,8 +54,26 @@ flush-requires c κs = search needs
 flushed-requires : tie.Need-flushed-requires
 flushed-requires c κs = search needs
 
-change-requires : tie.Need-change-requires
-change-requires c κs = search needs
+enum-told-3 : tie.Need-enum-told-3
+enum-told-3 c = search needs
+
+conflicts-requires : tie.Need-conflicts-requires
+conflicts-requires c κs = search needs
+
+put-numbered-requires : tie.Need-put-numbered-requires
+put-numbered-requires c κs = search needs
+
+enum-known-q-4 : tie.Need-enum-known-q-4
+enum-known-q-4 c = search needs
+
+edit-requires : tie.Need-edit-requires
+edit-requires c κs = search needs
+
+enum-known-q-5 : tie.Need-enum-known-q-5
+enum-known-q-5 c = search needs
+
+look-requires : tie.Need-look-requires
+look-requires c κs = search needs
 
 same-length : tie.Need-same-length
 same-length c = search needs
@@ -59,10 +88,10 @@ same-length-4 : tie.Need-same-length-4
 same-length-4 c = search needs
 
 returns : tie.Need-returns
-unfolding callOf lineOf L.answerLine
+unfolding callOf lineOf
 returns c =
     let a = c .before .before .before .before .before .before .before .before .before .before .before .before .before .before .before .before .before .args in
-    rw (c .before .before .before .before .before .before .before .before .before .before .enum-told .given .1) (calls format (disk (a .card .now) (a .queue .now) (a .journal .now) (a .rec)) (c .before .before .before .before .before .before .format .ensures) refl (c .before .before .answered .ensures))
+    rw (c .before .before .before .before .before .before .before .before .before .before .enum-told .given .1) (calls format (disk (a .card .now) (a .queue .now) (a .journal .now) (a .rec)) (c .before .before .before .before .before .before .format .ensures) (c .before .before .answered .ensures))
 
 same-length-5 : tie.Need-same-length-5
 same-length-5 c = search needs
@@ -77,10 +106,10 @@ same-length-8 : tie.Need-same-length-8
 same-length-8 c = search needs
 
 returns-2 : tie.Need-returns-2
-unfolding callOf lineOf L.answerLine
+unfolding callOf lineOf
 returns-2 c =
-    let a = c .before .before .before .before .before .before .before .before .before .before .before .before .before .before .before .before .before .before .args in
-    rw (c .before .before .before .before .before .before .before .before .before .before .before .c .given .1) (calls (end _) (disk (a .card .now) (a .queue .now) (a .journal .now) (a .rec)) (c .before .before .before .before .before .before .end .ensures) refl (c .before .before .answered2 .ensures))
+    let a = c .before .before .before .before .before .before .before .before .before .before .before .before .before .before .before .args in
+    rw (c .before .before .before .before .before .before .before .before .enum-told2 .given .1) (calls mount (disk (a .card .now) (a .queue .now) (a .journal .now) (a .rec)) (c .before .before .before .before .mount .ensures) (c .before .before .mounted .ensures))
 
 same-length-9 : tie.Need-same-length-9
 same-length-9 c = search needs
@@ -95,8 +124,10 @@ same-length-12 : tie.Need-same-length-12
 same-length-12 c = search needs
 
 returns-3 : tie.Need-returns-3
-unfolding callOf
-returns-3 c = rw (c .before .before .before .before .before .before .before .before .before .before .before .before .c2 .given .1) (c .before .before .before .before .before .before .write .ensures)
+unfolding callOf lineOf
+returns-3 c =
+    let a = c .before .before .before .before .before .before .before .before .before .before .before .before .before .before .before .before .args in
+    rw (c .before .before .before .before .before .before .before .before .before .q .given .1) (calls (begin _) (disk (a .card .now) (a .queue .now) (a .journal .now) (a .rec)) (c .before .before .before .before .begin .ensures) (c .before .before .answered2 .ensures))
 
 same-length-13 : tie.Need-same-length-13
 same-length-13 c = search needs
@@ -114,7 +145,7 @@ returns-4 : tie.Need-returns-4
 unfolding callOf lineOf
 returns-4 c =
     let a = c .before .before .before .before .before .before .before .before .before .before .before .before .before .before .before .before .before .before .args in
-    rw (c .before .before .before .before .before .before .before .before .before .before .before .c3 .given .1) (calls (flush _) (disk (a .card .now) (a .queue .now) (a .journal .now) (a .rec)) (c .before .before .before .before .before .before .flush .ensures) (flush-line _) (c .before .before .flushed .ensures))
+    rw (c .before .before .before .before .before .before .before .before .before .before .before .q2 .given .1) (calls (end _) (disk (a .card .now) (a .queue .now) (a .journal .now) (a .rec)) (c .before .before .before .before .before .before .end .ensures) (c .before .before .answered3 .ensures))
 
 same-length-17 : tie.Need-same-length-17
 same-length-17 c = search needs
@@ -129,7 +160,60 @@ same-length-20 : tie.Need-same-length-20
 same-length-20 c = search needs
 
 returns-5 : tie.Need-returns-5
-returns-5 c = c .before .before .change .ensures (c .before .before .before .before .before .before .before .before .before .before .before .before .before .args .line .now)
+unfolding callOf lineOf
+returns-5 c =
+    let a = c .before .before .before .before .before .before .before .before .before .before .before .before .before .before .before .before .before .before .args in
+    rw (c .before .before .before .before .before .before .before .before .before .before .before .q3 .given .1) (calls (flush _) (disk (a .card .now) (a .queue .now) (a .journal .now) (a .rec)) (c .before .before .before .before .before .before .flush .ensures) (c .before .before .flushed .ensures))
+
+same-length-21 : tie.Need-same-length-21
+same-length-21 c = search needs
+
+same-length-22 : tie.Need-same-length-22
+same-length-22 c = search needs
+
+same-length-23 : tie.Need-same-length-23
+same-length-23 c = search needs
+
+same-length-24 : tie.Need-same-length-24
+same-length-24 c = search needs
+
+returns-6 : tie.Need-returns-6
+unfolding callOf lineOf
+returns-6 c =
+    let a = c .before .before .before .before .before .before .before .before .before .before .before .before .before .before .before .args in
+    rw (c .before .before .before .before .before .before .before .before .enum-told3 .given .1) (calls conflictCount (disk (a .card .now) (a .queue .now) (a .journal .now) (a .rec)) (c .before .before .before .before .conflicts .ensures) (refl, c .before .before .put-numbered .ensures))
+
+same-length-25 : tie.Need-same-length-25
+same-length-25 c = search needs
+
+same-length-26 : tie.Need-same-length-26
+same-length-26 c = search needs
+
+same-length-27 : tie.Need-same-length-27
+same-length-27 c = search needs
+
+same-length-28 : tie.Need-same-length-28
+same-length-28 c = search needs
+
+returns-7 : tie.Need-returns-7
+unfolding callOf
+returns-7 c = rw (c .before .before .before .before .before .before .before .before .before .before .before .before .q4 .given .1) (c .before .before .before .before .before .before .edit .ensures)
+
+same-length-29 : tie.Need-same-length-29
+same-length-29 c = search needs
+
+same-length-30 : tie.Need-same-length-30
+same-length-30 c = search needs
+
+same-length-31 : tie.Need-same-length-31
+same-length-31 c = search needs
+
+same-length-32 : tie.Need-same-length-32
+same-length-32 c = search needs
+
+returns-8 : tie.Need-returns-8
+unfolding callOf
+returns-8 c = rw (c .before .before .before .before .before .before .before .before .q5 .given .1) (c .before .before .look .ensures)
 
 pub call-spec : {M : Type 1} → statement M
 call-spec =
@@ -138,15 +222,25 @@ call-spec =
     enum-told
     format-requires
     answered-requires
-    enum-known-c
-    end-requires
+    enum-told-2
+    mount-requires
+    mounted-requires
+    enum-known-q
+    begin-requires
     answered-requires-2
-    enum-known-c-2
-    write-requires
-    enum-known-c-3
+    enum-known-q-2
+    end-requires
+    answered-requires-3
+    enum-known-q-3
     flush-requires
     flushed-requires
-    change-requires
+    enum-told-3
+    conflicts-requires
+    put-numbered-requires
+    enum-known-q-4
+    edit-requires
+    enum-known-q-5
+    look-requires
     same-length
     same-length-2
     same-length-3
@@ -171,4 +265,19 @@ call-spec =
     same-length-18
     same-length-19
     same-length-20
-    returns-5)
+    returns-5
+    same-length-21
+    same-length-22
+    same-length-23
+    same-length-24
+    returns-6
+    same-length-25
+    same-length-26
+    same-length-27
+    same-length-28
+    returns-7
+    same-length-29
+    same-length-30
+    same-length-31
+    same-length-32
+    returns-8)

@@ -1,9 +1,7 @@
 -- The digits' bytes are written, and the answer put. Assumes nothing.
-use mathlib.Core.Path.{refl}
 use Rattle.disk.specs.Disk.{disk}
 use Rattle.disk.specs.Call.{writeBlock, onStream}
 use Rattle.script.specs.Arguments.{textOf}
-use Rattle.script.specs.Lines as L
 use Rattle.commands.specs.Replies.{lineOf, editLine}
 use Rattle.commands.specs.Called.{dataLent}
 use Rattle.commands.proofs.Calling.{calls}
@@ -36,10 +34,10 @@ same-length-3 : tie.Need-same-length-3
 same-length-3 c = search needs
 
 returns : tie.Need-returns
-unfolding dataLent lineOf editLine L.answerLine
+unfolding dataLent lineOf editLine
 returns c =
     let a = c .before .before .before .before .before .before .before .before .before .before .before .before .before .before .before .before .before .before .before .before .before .args in
-    calls (onStream (a .stream) (writeBlock (a .block) (dataLent (textOf (a .line .now) (a .digits)) (a .lent)))) (disk (a .card .now) (a .queue .now) (a .journal .now) (a .rec)) (rw (c .before .before .before .before .before .before .before .before .before .before .before .before .before .hex .ensures, c .before .before .before .before .before .before .before .before .before .before .before .before .before .before .before .part .ensures) at (c .before .before .before .before .before .before .before .before .write-part .ensures)) refl (c .before .before .answered .ensures)
+    calls (onStream (a .stream) (writeBlock (a .block) (dataLent (textOf (a .line .now) (a .digits)) (a .lent)))) (disk (a .card .now) (a .queue .now) (a .journal .now) (a .rec)) (rw (c .before .before .before .before .before .before .before .before .before .before .before .before .before .hex .ensures, c .before .before .before .before .before .before .before .before .before .before .before .before .before .before .before .part .ensures) at (c .before .before .before .before .before .before .before .before .write-part .ensures)) (c .before .before .answered .ensures)
 
 pub write-spec : {M : Type 1} → statement M
 write-spec =

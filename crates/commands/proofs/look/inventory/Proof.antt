@@ -4,7 +4,7 @@ use Rattle.disk.specs.Disk.{disk}
 use Rattle.disk.specs.Call.{inventory, inView}
 use Rattle.commands.specs.Replies.{lineOf, lookLine}
 use Rattle.commands.specs.Called.{bytesLent}
-use Rattle.commands.proofs.Calling.{inventory-line, calls}
+use Rattle.commands.proofs.Calling.{calls}
 use borrow.Author.Needs.{needs}
 use Rattle.commands.proofs.look.inventory.Statement.{statement}
 use Rattle.commands.proofs.look.inventory.Tie as tie
@@ -31,7 +31,7 @@ returns : tie.Need-returns
 unfolding bytesLent lineOf lookLine
 returns c =
     let a = c .before .before .before .before .before .before .before .before .before .before .before .before .before .args in
-    calls (inView (a .view) (inventory (bytesLent (a .lent)))) (disk (a .card .now) (a .queue .now) (a .journal .now) (a .rec)) (c .before .before .before .before .before .before .before .inventory-part .ensures) (inventory-line _ _) (refl, rw (c .before .before .before .part .ensures) at (c .before .before .put-inventory .ensures))
+    calls (inView (a .view) (inventory (bytesLent (a .lent)))) (disk (a .card .now) (a .queue .now) (a .journal .now) (a .rec)) (c .before .before .before .before .before .before .before .inventory-part .ensures) (refl, rw (c .before .before .before .part .ensures) at (c .before .before .put-inventory .ensures))
 
 pub inventory-spec : {M : Type 1} → statement M
 inventory-spec =

@@ -1,25 +1,22 @@
--- Each arm is one call and its line. Assumes nothing.
+-- Each arm is one look-up and its line. Assumes nothing.
 use mathlib.Core.Path.{refl}
 use Rattle.disk.specs.Disk.{disk}
-use Rattle.disk.specs.Call.{blockAfter, conflictCount, inView}
-use Rattle.text.proofs.Writing.{puts-none}
-use Rattle.script.specs.Lines as L
+use Rattle.disk.specs.Call.{blockAfter, inView}
 use Rattle.commands.specs.Replies.{lineOf, lookLine}
-use Rattle.commands.specs.Called.{callOf, leftBy, saidBy}
+use Rattle.commands.specs.Called.{lookOf}
 use Rattle.commands.proofs.Calling.{calls}
-use Rattle.commands.proofs.Tags.{no-call}
 use borrow.Author.Needs.{needs}
 use Rattle.commands.proofs.look.look.Statement.{statement}
 use Rattle.commands.proofs.look.look.Tie as tie
 
-enum-known-c : tie.Need-enum-known-c
-enum-known-c c = search needs
+enum-known-l : tie.Need-enum-known-l
+enum-known-l c = search needs
 
 read-requires : tie.Need-read-requires
 read-requires c κs = search needs
 
-enum-known-c-2 : tie.Need-enum-known-c-2
-enum-known-c-2 c = search needs
+enum-known-l-2 : tie.Need-enum-known-l-2
+enum-known-l-2 c = search needs
 
 next-requires : tie.Need-next-requires
 next-requires c κs = search needs
@@ -27,17 +24,8 @@ next-requires c κs = search needs
 put-numbered-requires : tie.Need-put-numbered-requires
 put-numbered-requires c κs = search needs
 
-enum-told : tie.Need-enum-told
-enum-told c = search needs
-
-conflicts-requires : tie.Need-conflicts-requires
-conflicts-requires c κs = search needs
-
-put-numbered-requires-2 : tie.Need-put-numbered-requires-2
-put-numbered-requires-2 c κs = search needs
-
-enum-known-c-3 : tie.Need-enum-known-c-3
-enum-known-c-3 c = search needs
+enum-known-l-3 : tie.Need-enum-known-l-3
+enum-known-l-3 c = search needs
 
 inventory-requires : tie.Need-inventory-requires
 inventory-requires c κs = search needs
@@ -46,61 +34,39 @@ same-length : tie.Need-same-length
 same-length c = search needs
 
 returns : tie.Need-returns
-unfolding callOf
-returns c line = rw (c .before .before .before .before .before .c .given .1) (c .before .before .read .ensures)
+unfolding lookOf
+returns c = rw (c .before .before .before .before .before .l .given .1) (c .before .before .read .ensures)
 
 same-length-2 : tie.Need-same-length-2
 same-length-2 c = search needs
 
 returns-2 : tie.Need-returns-2
-unfolding callOf lineOf lookLine L.numberedLine
-returns-2 c line =
+unfolding lookOf lineOf lookLine
+returns-2 c =
     let a = c .before .before .before .before .before .before .before .before .before .before .before .before .args in
-    rw (c .before .before .before .before .before .before .c2 .given .1) (calls (inView _ (blockAfter _ _)) (disk (a .card .now) (a .queue .now) (a .journal .now) (a .rec)) (c .before .before .before .before .next .ensures) refl (refl, c .before .before .put-numbered .ensures))
+    rw (c .before .before .before .before .before .before .l2 .given .1) (calls (inView _ (blockAfter _ _)) (disk (a .card .now) (a .queue .now) (a .journal .now) (a .rec)) (c .before .before .before .before .next .ensures) (refl, c .before .before .put-numbered .ensures))
 
 same-length-3 : tie.Need-same-length-3
 same-length-3 c = search needs
 
 returns-3 : tie.Need-returns-3
-unfolding callOf lineOf L.numberedLine
-returns-3 c line =
-    let a = c .before .before .before .before .before .before .before .before .before .before .before .args in
-    rw (c .before .before .before .before .before .enum-told .given .1) (calls conflictCount (disk (a .card .now) (a .queue .now) (a .journal .now) (a .rec)) (c .before .before .before .before .conflicts .ensures) refl (refl, c .before .before .put-numbered2 .ensures))
-
-same-length-4 : tie.Need-same-length-4
-same-length-4 c = search needs
-
-returns-4 : tie.Need-returns-4
-unfolding callOf
-returns-4 c line = rw (c .before .before .before .before .before .c3 .given .1) (c .before .before .inventory .ensures)
-
-returns-5 : tie.Need-returns-5
-unfolding leftBy saidBy
-returns-5 c line =
-    let a = c .before .before .before .before .before .args in
-    let p = c .before .before .before .before .before .pre in
-    rw (no-call line (a .c) (p .0) (p .1) (c .match .keys5)) (record { left = refl; text = puts-none (a .out .now) (a .at) })
+unfolding lookOf
+returns-3 c = rw (c .before .before .before .before .before .l3 .given .1) (c .before .before .inventory .ensures)
 
 pub look-spec : {M : Type 1} → statement M
 look-spec =
     tie.close
     (tie.spec
-    enum-known-c
+    enum-known-l
     read-requires
-    enum-known-c-2
+    enum-known-l-2
     next-requires
     put-numbered-requires
-    enum-told
-    conflicts-requires
-    put-numbered-requires-2
-    enum-known-c-3
+    enum-known-l-3
     inventory-requires
     same-length
     returns
     same-length-2
     returns-2
     same-length-3
-    returns-3
-    same-length-4
-    returns-4
-    returns-5)
+    returns-3)

@@ -4,7 +4,7 @@ use Rattle.disk.specs.Disk.{disk}
 use Rattle.disk.specs.Call.{readBlock, inView}
 use Rattle.commands.specs.Replies.{lineOf, lookLine}
 use Rattle.commands.specs.Called.{bytesLent}
-use Rattle.commands.proofs.Calling.{read-line, calls}
+use Rattle.commands.proofs.Calling.{calls}
 use borrow.Author.Needs.{needs}
 use Rattle.commands.proofs.look.read.Statement.{statement}
 use Rattle.commands.proofs.look.read.Tie as tie
@@ -31,7 +31,7 @@ returns : tie.Need-returns
 unfolding bytesLent lineOf lookLine
 returns c =
     let a = c .before .before .before .before .before .before .before .before .before .before .before .before .before .args in
-    calls (inView (a .view) (readBlock (a .block) (bytesLent (a .lent)))) (disk (a .card .now) (a .queue .now) (a .journal .now) (a .rec)) (c .before .before .before .before .before .before .before .read-part .ensures) (read-line _ _) (refl, rw (c .before .before .before .part .ensures) at (c .before .before .put-read .ensures))
+    calls (inView (a .view) (readBlock (a .block) (bytesLent (a .lent)))) (disk (a .card .now) (a .queue .now) (a .journal .now) (a .rec)) (c .before .before .before .before .before .before .before .read-part .ensures) (refl, rw (c .before .before .before .part .ensures) at (c .before .before .put-read .ensures))
 
 pub read-spec : {M : Type 1} → statement M
 read-spec =

@@ -65,7 +65,7 @@ returns c =
     let q = c .before .before .before .before .before .before .before .before .before .before .before .before .before .before .before .before .before .before .within2 .ensures in
     let j = c .before .before .before .before .before .before .before .before .before .before .before .before .before .before .before .before .within3 .ensures in
     rw (n, q, j)
-    (lent-runs (a .card .now) (a .queue .now) (a .journal .now) s (c .before .before .before .before .before .before .before .before .before .before .before .before .before .before .before .before .before .before .before .before .before .before .before .before .before .before .before .before .pre) _ _ _ _ (callOf (a .line .now) (a .c)) _ (rw n at (c .before .before .before .before .before .before .before .before .before .card .given .0)) (c .with-record .ensures) (rw (n, q, j) at (c .before .before .before .before .before .before .before .before .before .before .call .ensures)))
+    (lent-runs (a .card .now) (a .queue .now) (a .journal .now) s (c .before .before .before .before .before .before .before .before .before .before .before .before .before .before .before .before .before .before .before .before .before .before .before .before .before .before .before .before .pre) _ _ _ _ (callOf (a .line .now) (a .q)) _ (rw n at (c .before .before .before .before .before .before .before .before .before .card .given .0)) (c .with-record .ensures) (rw (n, q, j) at (c .before .before .before .before .before .before .before .before .before .before .call .ensures)))
 
 pub lent-spec : {M : Type 1} → statement M
 lent-spec =

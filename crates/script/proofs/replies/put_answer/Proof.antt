@@ -1,6 +1,5 @@
 -- By the cases of the reply. Assumes nothing.
 use Rattle.disk.specs.Answers.{replyAnswer}
-use Rattle.script.specs.Lines.{answerLine}
 use borrow.Author.Needs.{needs}
 use Rattle.script.proofs.replies.put_answer.Statement.{statement}
 use Rattle.script.proofs.replies.put_answer.Tie as tie
@@ -24,14 +23,14 @@ same-length : tie.Need-same-length
 same-length c = search needs
 
 returns : tie.Need-returns
-unfolding answerLine replyAnswer
+unfolding replyAnswer
 returns c = rw (c .before .before .before .before .enum-told .given .1) (c .before .before .put-number .ensures)
 
 same-length-2 : tie.Need-same-length-2
 same-length-2 c = search needs
 
 returns-2 : tie.Need-returns-2
-unfolding answerLine replyAnswer
+unfolding replyAnswer
 returns-2 c = rw (c .before .before .before .before .before .before .reply .given .1, ← (c .before .before .before .number-of .ensures)) (c .before .before .put-number2 .ensures)
 
 pub put-answer-spec : {M : Type 1} → statement M

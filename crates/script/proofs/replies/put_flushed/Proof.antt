@@ -1,7 +1,9 @@
 -- By the cases of the reply. Assumes nothing.
+use Rattle.disk.specs.Perform.{endingNumber}
 use Rattle.disk.specs.Answers.{flushAnswer}
-use Rattle.script.specs.Lines.{flushLine, endingWord}
+use Rattle.script.specs.Lines.{flushLine, endingName}
 use Rattle.script.specs.Spelling.{bytes}
+use Rattle.script.proofs.Refused.{refused-code}
 use borrow.Author.Needs.{needs}
 use Rattle.script.proofs.replies.put_flushed.Statement.{statement}
 use Rattle.script.proofs.replies.put_flushed.Tie as tie
@@ -49,29 +51,29 @@ same-length : tie.Need-same-length
 same-length c = search needs
 
 returns : tie.Need-returns
-unfolding flushLine flushAnswer endingWord bytes
+unfolding flushLine flushAnswer endingName endingNumber bytes
 returns c = rw (c .before .before .before .before .before .before .reply .given .1) (c .before .before .put-ended .ensures)
 
 same-length-2 : tie.Need-same-length-2
 same-length-2 c = search needs
 
 returns-2 : tie.Need-returns-2
-unfolding flushLine flushAnswer endingWord bytes
+unfolding flushLine flushAnswer endingName endingNumber bytes
 returns-2 c = rw (c .before .before .before .before .before .before .reply2 .given .1) (c .before .before .put-ended2 .ensures)
 
 same-length-3 : tie.Need-same-length-3
 same-length-3 c = search needs
 
 returns-3 : tie.Need-returns-3
-unfolding flushLine flushAnswer endingWord bytes
+unfolding flushLine flushAnswer endingName endingNumber bytes
 returns-3 c = rw (c .before .before .before .before .before .before .reply3 .given .1) (c .before .before .put-ended3 .ensures)
 
 same-length-4 : tie.Need-same-length-4
 same-length-4 c = search needs
 
 returns-4 : tie.Need-returns-4
-unfolding flushLine flushAnswer endingWord bytes
-returns-4 c = rw (c .before .before .before .before .before .before .before .reply4 .given .1, ← (c .before .before .before .before .number-of .ensures)) (c .before .before .put-ended4 .ensures)
+unfolding flushLine flushAnswer endingName endingNumber bytes
+returns-4 c = rw (c .before .before .before .before .before .before .before .reply4 .given .1, refused-code _, ← (c .before .before .before .before .number-of .ensures)) (c .before .before .put-ended4 .ensures)
 
 pub put-flushed-spec : {M : Type 1} → statement M
 put-flushed-spec =

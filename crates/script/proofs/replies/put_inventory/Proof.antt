@@ -1,5 +1,7 @@
 -- By the cases of the reply. Assumes nothing.
+use Rattle.disk.specs.Answers.{numberAnswer}
 use Rattle.script.specs.Lines.{inventoryLine}
+use Rattle.script.proofs.Refused.{refused-code}
 use borrow.Author.Needs.{needs}
 use Rattle.script.proofs.replies.put_inventory.Statement.{statement}
 use Rattle.script.proofs.replies.put_inventory.Tie as tie
@@ -26,15 +28,15 @@ same-length : tie.Need-same-length
 same-length c = search needs
 
 returns : tie.Need-returns
-unfolding inventoryLine
+unfolding inventoryLine numberAnswer
 returns c = rw (c .before .before .before .before .before .before .reply .given .1, ← (c .before .before .before .part .ensures)) (c .before .before .put-counted .ensures)
 
 same-length-2 : tie.Need-same-length-2
 same-length-2 c = search needs
 
 returns-2 : tie.Need-returns-2
-unfolding inventoryLine
-returns-2 c = rw (c .before .before .before .before .before .before .reply2 .given .1, ← (c .before .before .before .number-of .ensures)) (c .before .before .put-pair .ensures)
+unfolding inventoryLine numberAnswer
+returns-2 c = rw (c .before .before .before .before .before .before .reply2 .given .1, refused-code _, ← (c .before .before .before .number-of .ensures)) (c .before .before .put-pair .ensures)
 
 pub put-inventory-spec : {M : Type 1} → statement M
 put-inventory-spec =

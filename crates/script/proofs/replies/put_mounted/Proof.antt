@@ -1,6 +1,5 @@
 -- By the cases of the reply. Assumes nothing.
 use Rattle.disk.specs.Answers.{mountAnswer}
-use Rattle.script.specs.Lines.{mountLine}
 use borrow.Author.Needs.{needs}
 use Rattle.script.proofs.replies.put_mounted.Statement.{statement}
 use Rattle.script.proofs.replies.put_mounted.Tie as tie
@@ -30,21 +29,21 @@ same-length : tie.Need-same-length
 same-length c = search needs
 
 returns : tie.Need-returns
-unfolding mountLine mountAnswer
+unfolding mountAnswer
 returns c = rw (c .before .before .before .before .enum-told .given .1) (c .before .before .put-triple .ensures)
 
 same-length-2 : tie.Need-same-length-2
 same-length-2 c = search needs
 
 returns-2 : tie.Need-returns-2
-unfolding mountLine mountAnswer
+unfolding mountAnswer
 returns-2 c = rw (c .before .before .before .before .before .reply .given .1) (c .before .before .put-triple2 .ensures)
 
 same-length-3 : tie.Need-same-length-3
 same-length-3 c = search needs
 
 returns-3 : tie.Need-returns-3
-unfolding mountLine mountAnswer
+unfolding mountAnswer
 returns-3 c = rw (c .before .before .before .before .before .before .reply2 .given .1, ← (c .before .before .before .number-of .ensures)) (c .before .before .put-triple3 .ensures)
 
 pub put-mounted-spec : {M : Type 1} → statement M

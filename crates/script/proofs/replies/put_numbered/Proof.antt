@@ -1,6 +1,5 @@
 -- By the cases of the reply. Assumes nothing.
 use Rattle.disk.specs.Answers.{numberAnswer}
-use Rattle.script.specs.Lines.{numberedLine}
 use borrow.Author.Needs.{needs}
 use Rattle.script.proofs.replies.put_numbered.Statement.{statement}
 use Rattle.script.proofs.replies.put_numbered.Tie as tie
@@ -24,14 +23,14 @@ same-length : tie.Need-same-length
 same-length c = search needs
 
 returns : tie.Need-returns
-unfolding numberedLine numberAnswer
+unfolding numberAnswer
 returns c = rw (c .before .before .before .before .before .reply .given .1) (c .before .before .put-pair .ensures)
 
 same-length-2 : tie.Need-same-length-2
 same-length-2 c = search needs
 
 returns-2 : tie.Need-returns-2
-unfolding numberedLine numberAnswer
+unfolding numberAnswer
 returns-2 c = rw (c .before .before .before .before .before .before .reply2 .given .1, ← (c .before .before .before .number-of .ensures)) (c .before .before .put-pair2 .ensures)
 
 pub put-numbered-spec : {M : Type 1} → statement M

@@ -1,5 +1,7 @@
 -- By the cases of the reply. Assumes nothing.
+use Rattle.disk.specs.Answers.{replyAnswer}
 use Rattle.script.specs.Lines.{readLine}
+use Rattle.script.proofs.Refused.{refused-code}
 use borrow.Author.Needs.{needs}
 use Rattle.script.proofs.replies.put_read.Statement.{statement}
 use Rattle.script.proofs.replies.put_read.Tie as tie
@@ -23,15 +25,15 @@ same-length : tie.Need-same-length
 same-length c = search needs
 
 returns : tie.Need-returns
-unfolding readLine
+unfolding readLine replyAnswer
 returns c = rw (c .before .before .before .before .enum-told .given .1) (c .before .before .put-content .ensures)
 
 same-length-2 : tie.Need-same-length-2
 same-length-2 c = search needs
 
 returns-2 : tie.Need-returns-2
-unfolding readLine
-returns-2 c = rw (c .before .before .before .before .before .before .reply .given .1, ← (c .before .before .before .number-of .ensures)) (c .before .before .put-number .ensures)
+unfolding readLine replyAnswer
+returns-2 c = rw (c .before .before .before .before .before .before .reply .given .1, refused-code _, ← (c .before .before .before .number-of .ensures)) (c .before .before .put-number .ensures)
 
 pub put-read-spec : {M : Type 1} → statement M
 put-read-spec =
