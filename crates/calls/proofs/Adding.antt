@@ -7,23 +7,23 @@ use mathlib.Core.List.{List, [], _∷_, _++_}
 use Prim.Native.Nat.{ℕ, zero, suc, _+_, _≤_, _<_}
 use native.Mathlib.Omega.{arith}
 use lib.Dec.{leb, eqb·suc-zero}
-use Rattle.lists.specs.Change.{Change, delBlock, delList, carriedBy}
+use Rattle.lists.specs.Change.{Change, delBlock, delList, mapChange, carriedBy}
 use Rattle.lists.specs.State.{Row, taken, placed}
 use Rattle.lists.specs.promises.Tables.{Tables, OfShown}
 use Rattle.lists.proofs.Basic.{eqb-false, le-true, lt-true, gt-false, ge-false}
 use Rattle.log.specs.declared.entry.LogEntry.{LogEntry}
 use Rattle.log.specs.declared.entry.LogEntry.the-variants.{DeleteBlock, DeleteList}
 use Rattle.log.specs.Card.{Content}
-use Rattle.log.specs.Entry.{carried, hasMember, isBlock, isList, logChange}
-use Rattle.disk.specs.declared.record.Record.{Record}
+use Rattle.log.specs.Entry.{plain, mapEntry, raw, carried, hasMember, isBlock, isList, asEntry}
+use Rattle.log.specs.Cell.{cellOf}
+use Rattle.disk.specs.Record.{Record, unitAt}
 use Rattle.disk.specs.declared.answer.Refusal.{Refusal}
 use Rattle.disk.specs.declared.answer.Reply.{Reply}
 use Rattle.disk.specs.declared.answer.Reply.the-variants.{Accepted, Refused}
-use Rattle.disk.specs.Record.{unitAt}
 use Rattle.disk.specs.Disk.{Disk, withRecord, unitOf, view}
 use Rattle.disk.specs.Questions.{journalRoom, queueRoom, streamRoom, editQuestions, questions, ask, firstNo, refusal}
 use Rattle.disk.specs.Call.{deleteBlock, deleteList, Call, onStream, destination}
-use Rattle.disk.specs.Perform.{reply, accepted, change, noted, streamFor, made, numberGiven, changeFor, enqueue, journalAdd, queuedEntry, spliceSome}
+use Rattle.disk.specs.Perform.{reply, accepted, change, noted, streamFor, made, numberGiven, changeFor, enqueue, journalAdd, spliceSome}
 use Rattle.disk.specs.Answers.{number, replyAnswer}
 use Rattle.calls.specs.Performs.{Performs}
 use Rattle.inspect.specs.promises.Inspect.{Sees}
@@ -55,11 +55,15 @@ module _ (d : Disk) (r : Record) (s : ℕ) (e : d .rec ≡ r) where
   unfolding journalRoom streamRoom unitOf
   journal-takes z l = rw (eqb-false s 0 z, e) (lt-true (unitAt r s .len) 15 l, refl)
 
+-- entry e says change c
+abbrev pub Says : LogEntry → Change Content → Type 0
+Says e c = cellOf (plain c) ≡ cellOf (asEntry false e)
+
 -- the disk with a change that carries no data
-pub change-added : (s : ℕ) (c : Change Content) (d : Disk) → carriedBy c ≡ none → change s c d ≡ withRecord d (added s (logChange c) (d .rec))
-unfolding change enqueue journalAdd queuedEntry carried added unitOf spliceSome
-change-added zero c d h = rw h
-change-added (suc u) c d h = rw (h, eqb·suc-zero u)
+pub change-added : (s : ℕ) (c : Change Content) (e : LogEntry) (d : Disk) → carriedBy c ≡ none → Says e c → change s c d ≡ withRecord d (added s e (d .rec))
+unfolding change enqueue journalAdd carried added unitOf spliceSome
+change-added zero c e d h w = rw (h, w)
+change-added (suc u) c e d h w = rw (h, w, eqb·suc-zero u)
 
 -- behind two questions more, as most of the calls that add a change ask them
 module _ (n m : ℕ) (p q : Bool) (s : ℕ) (e : LogEntry) (r : Record) where
@@ -97,24 +101,24 @@ module _ (k : Call) (d : Disk) (s : ℕ) (e : LogEntry) (n : ℕ) (p q : Bool) (
       go Accepted y = (y .0, asked ∙ y .1 d refl)
 
 -- a change that carries no data
-pub decides-performs : (k : Call) (d : Disk) (s : ℕ) (c : Change Content) (a : Reply) (r : Record) → Usual k → destination k ≡ [] → carriedBy c ≡ none
-    → accepted k d ≡ reply (change s c d) 0 0 [] → Decides k d s (logChange c) a r → Performs k d (withRecord d r) (replyAnswer a) []
+pub decides-performs : (k : Call) (d : Disk) (s : ℕ) (c : Change Content) (e : LogEntry) (a : Reply) (r : Record) → Usual k → destination k ≡ [] → carriedBy c ≡ none → Says e c
+    → accepted k d ≡ reply (change s c d) 0 0 [] → Decides k d s e a r → Performs k d (withRecord d r) (replyAnswer a) []
 unfolding replyAnswer
-decides-performs k d s c (Refused x) r u t n y h = rw (h .0, ← t) (usual-performs-refused k d x u (h .1))
-decides-performs k d s c Accepted r u t n y h = performs-accepted k d _ (h .1) (y ∙ rw (change-added s c d n, h .0))
+decides-performs k d s c e (Refused x) r u t n w y h = rw (h .0, ← t) (usual-performs-refused k d x u (h .1))
+decides-performs k d s c e Accepted r u t n w y h = performs-accepted k d _ (h .1) (y ∙ rw (change-added s c e d n w, h .0))
 
 pub deletes-block : (d : Disk) (s b : ℕ) (t : Tables) (a : Reply) (r : Record) → Sees false d s t
     → OfShown t (λ rs. AddsAfter ((5, isBlock b) ∷ (8, placed b rs) ∷ []) s (DeleteBlock b) (d .rec) a r)
     → Performs (onStream s (deleteBlock b)) d (withRecord d r) (replyAnswer a) []
-unfolding refusal questions editQuestions destination accepted made noted streamFor hasMember numberGiven changeFor carriedBy logChange
+unfolding refusal questions editQuestions destination accepted made noted streamFor hasMember numberGiven changeFor carriedBy cellOf raw mapEntry mapChange asEntry
 deletes-block d s b t a r z f =
-    decides-performs (onStream s (deleteBlock b)) d s (delBlock b) a r tt refl refl refl
+    decides-performs (onStream s (deleteBlock b)) d s (delBlock b) (DeleteBlock b) a r tt refl refl refl refl
     (seen-decides (onStream s (deleteBlock b)) d s (DeleteBlock b) 8 (isBlock b) (placed b (view d s .lists)) (placed b) t a r refl z (placed-here d t (view d s) (z .located) b) f)
 
 pub deletes-list : (d : Disk) (s l : ℕ) (t : Tables) (a : Reply) (r : Record) → Sees false d s t
     → OfShown t (λ rs. AddsAfter ((5, isList l) ∷ (7, taken l rs) ∷ []) s (DeleteList l) (d .rec) a r)
     → Performs (onStream s (deleteList l)) d (withRecord d r) (replyAnswer a) []
-unfolding refusal questions editQuestions destination accepted made noted streamFor hasMember numberGiven changeFor carriedBy logChange
+unfolding refusal questions editQuestions destination accepted made noted streamFor hasMember numberGiven changeFor carriedBy cellOf raw mapEntry mapChange asEntry
 deletes-list d s l t a r z f =
-    decides-performs (onStream s (deleteList l)) d s (delList l) a r tt refl refl refl
+    decides-performs (onStream s (deleteList l)) d s (delList l) (DeleteList l) a r tt refl refl refl refl
     (seen-decides (onStream s (deleteList l)) d s (DeleteList l) 7 (isList l) (taken l (view d s .lists)) (taken l) t a r refl z (taken-here d t (view d s) (z .located) l) f)

@@ -5,6 +5,7 @@ use mathlib.Core.Bool.{Bool, true, false, not}
 use mathlib.Core.List.{List, [], _∷_, _++_}
 use Prim.Native.Nat.{ℕ, _≤_, _<_}
 use Rattle.lists.specs.promises.Tables.{Tables}
+use Rattle.disk.specs.Record.{isOpen}
 use Rattle.disk.specs.declared.answer.Refusal.{Refusal}
 use Rattle.disk.specs.declared.answer.Refusal.the-variants.{StreamClosed, UnitOpen}
 use Rattle.disk.specs.Disk.{Disk, unitOf}
@@ -41,14 +42,14 @@ conflicts-given d s = performs-accepted conflictCount d _ (checked-yes [] s) ref
 -- Begin.
 module _ (d : Disk) (u : ℕ) (s : Checked d) where
   abbrev last : List (ℕ × Bool)
-  last = (6, not (unitOf d u .opened)) ∷ []
+  last = (6, not (isOpen (unitOf d u))) ∷ []
 
   pub begin-outside : (u < 1) ⊎ (4 < u) → Performs (begin u) d d (refusedAnswer StreamClosed) []
   unfolding refusal questions destination number
   begin-outside r = usual-performs-refused (begin u) d StreamClosed tt (checked-yes _ s ∙ ask-no 4 _ last (outside 4 u r))
 
   module _ (l : 1 ≤ u) (m : u ≤ 4) (o : Bool) (e : o ≡ openUnit (d .rec) u) where
-    opened-is : unitOf d u .opened ≡ o
+    opened-is : isOpen (unitOf d u) ≡ o
     unfolding openUnit unitOf
     opened-is = sym (e ∙ rw (in-range 4 u l m))
 
@@ -58,8 +59,8 @@ module _ (d : Disk) (u : ℕ) (s : Checked d) where
 
     pub begin-twice : o ≡ true → Performs (begin u) d d (refusedAnswer UnitOpen) []
     unfolding destination number
-    begin-twice t = usual-performs-refused (begin u) d UnitOpen tt (asked ∙ ask-no 6 (not (unitOf d u .opened)) [] (rw (opened-is, t)))
+    begin-twice t = usual-performs-refused (begin u) d UnitOpen tt (asked ∙ ask-no 6 (not (isOpen (unitOf d u))) [] (rw (opened-is, t)))
 
     pub begin-opens : o ≡ false → Performs (begin u) d (opening u d) (acceptedAnswer 0 0) []
     unfolding accepted firstNo
-    begin-opens t = performs-accepted (begin u) d _ (asked ∙ ask-yes 6 (not (unitOf d u .opened)) [] (rw (opened-is, t))) refl
+    begin-opens t = performs-accepted (begin u) d _ (asked ∙ ask-yes 6 (not (isOpen (unitOf d u))) [] (rw (opened-is, t))) refl

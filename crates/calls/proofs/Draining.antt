@@ -1,15 +1,18 @@
 -- A flush, entry by entry: where it stands when some entries have left the queue (`Going`), and what it leaves at each ending.
 use mathlib.Core.Path.{_≡_, refl, sym, ap, _∙_, subst}
-use mathlib.Core.Bool.{true}
+use mathlib.Core.Bool.{Bool, true}
 use mathlib.Core.Option.{Option, none, some}
 use mathlib.Core.List.{List, [], _∷_}
 use Prim.Native.Nat.{ℕ, _+_, _-_, _*_, _/_, _%_, _≤_, _<_}
 use native.Mathlib.Omega.{arith}
-use lib.ListN.{length, take, drop, getD}
+use native.Mathlib.Decide.{decLt}
+use lib.ListN.{length, take, drop, getD, length-take, length-drop}
 use Rattle.lists.specs.Basic.{from}
 use Rattle.lists.proofs.Basic.{from-length, from-step, from-none}
+use Rattle.log.specs.declared.entry.LogEntry.{LogEntry}
 use Rattle.log.specs.declared.place.Place.{Place}
 use Rattle.log.specs.Entry.{Entry}
+use Rattle.log.specs.Cell.{memberIn, entryIn}
 use Rattle.log.specs.Card.{Content, slot, segmentsIn}
 use Rattle.log.specs.Store.{home, tail, entryStores}
 use Rattle.log.specs.Flush.{Flushed, Ending, drained, full, spent, nextStore, flushFrom}
@@ -21,9 +24,8 @@ use Rattle.log.proofs.Flows.{endOf, tail-end, end-add, head-at, Flows}
 use Rattle.log.proofs.Segment.{carries-walk, carries-segments}
 use Rattle.log.proofs.Sequence.{ReadyHead}
 use Rattle.log.proofs.LogStores.{going}
-use Rattle.disk.specs.declared.record.Record.{Record}
+use Rattle.disk.specs.Record.{Record, noCell, ringPlace, withFlow}
 use Rattle.disk.specs.declared.answer.FlushReply as reply
-use Rattle.disk.specs.Record.{noQueued, ringPlace, withFlow}
 use Rattle.disk.specs.Disk.{Disk, disk, queuedAt, queued}
 use Rattle.disk.specs.Sound.{lengthsRight, recordSound}
 use Rattle.disk.specs.Call.{flush}
@@ -35,7 +37,9 @@ use Rattle.disk.proofs.Draining.{open-log}
 use Rattle.disk.proofs.Sequence.{flow-ready}
 use Rattle.inspect.proofs.Behind.{tail-within}
 use Rattle.calls.specs.promises.Flushing.{flow, HeadReady, HeadDrained, Heads, Flushable, Flushes}
+use Rattle.calls.specs.declared.drain.Headed.{Headed}
 use Rattle.calls.specs.declared.drain.Headed.the-variants as headed
+use Rattle.calls.proofs.Storing.{few-stores}
 use Rattle.calls.proofs.Turns.{all-in-turn, flows-last}
 
 -- the data of the queue's place i, as it is lent
@@ -44,7 +48,22 @@ dataAt q i = take (256 * i + 256 - 256 * i) (drop (256 * i) q)
 
 -- the queue's entry i, as the code meets it
 abbrev pub entryHere : List ℕ → Record → ℕ → Entry Content
-entryHere q r i = let x = getD (r .queue) (ringPlace r i) noQueued in going (dataAt q (ringPlace r i)) (x .member) (x .entry)
+entryHere q r i = let x = getD (r .queue) (ringPlace r i) noCell in going (dataAt q (ringPlace r i)) (memberIn x) (entryIn x)
+
+-- it is a place's data, and its stores are few
+pub data-size : (q : List ℕ) (i : ℕ) → length q ≡ 8192 → i < 32 → length (dataAt q i) ≡ 256
+data-size q i h l = simp (length-take, length-drop) (omega (arith, h))
+
+pub few-here : (q : List ℕ) (r : Record) (i : ℕ) (p : Place) → length q ≡ 8192 → length (entryStores p (entryHere q r i)) ≤ 261
+few-here q r i p h = few-stores (dataAt q (ringPlace r i)) (data-size q (ringPlace r i) h (omega arith)) _ _ p
+
+-- the same by its parts
+pub entry-met : (q : List ℕ) (r : Record) (first i : ℕ) (m : Bool) (e : LogEntry) → first ≡ r .head
+    → (let x = getD (r .queue) ((first + i) % 32) noCell in m ≡ memberIn x → e ≡ entryIn x → going (dataAt q ((first + i) % 32)) m e ≡ entryHere q r i)
+entry-met q r first i m e f a b = rw (a, b, f)
+
+pub heads-met : (c : List ℕ) (p : Place) (x y : Entry Content) (k a : ℕ) (h : Headed) (c′ : List ℕ) → x ≡ y → Heads c p x k a h c′ → Heads c p y k a h c′
+heads-met c p x y k a h c′ e = subst (λ (z : Entry Content). Heads c p z k a h c′) e
 
 module _ (c q : List ℕ) (r : Record) where
   -- the queue when i entries have left it
@@ -58,6 +77,10 @@ module _ (c q : List ℕ) (r : Record) where
   rest-step : (i : ℕ) → i < r .len → rest i ≡ entryHere q r i ∷ rest (i + 1)
   unfolding rest
   rest-step i l = from-step (queuedAt (disk c q [] r)) i (r .len) l ∙ rw (entry-here i)
+
+  rest-none : r .len ≤ 0 → rest 0 ≡ []
+  unfolding rest
+  rest-none l = from-none (queuedAt (disk c q [] r)) 0 (r .len) l
 
   rest-length : (i : ℕ) → length (rest i) ≡ r .len - i
   unfolding rest
@@ -83,13 +106,14 @@ module _ (c q : List ℕ) (r : Record) where
       pub within : Within p′
       pub inside : p′ .segment < segmentsIn c
       pub begun : gone < r .len → k < length (entryStores p′ (entryHere q r gone))
+      pub small : k < 65536
       pub segs : List (List (Entry Content))
       pub flows : Flows c′ segs (rest gone) k
       pub place : p′ ≡ endOf segs
       pub onward : flushFrom (segmentsIn c) left (a - left) (flow c′ p′ (rest gone) k) ≡ whole
 
     pub going-start : Flushable c q r p → Going c p (r .done) a 0
-    unfolding whole
+    unfolding whole flowOf
     going-start f =
         let i : a - a ≡ 0 = omega arith in
         let k = right (disk c q (f .journalData) r) (f .lengths) (f .sound) in
@@ -101,11 +125,19 @@ module _ (c q : List ℕ) (r : Record) where
           within = f .within;
           inside = f .inside;
           begun = λ l. rw (entry-here 0) at (f .begun l);
+          small = go (decLt 0 (r .len));
           segs = o .segs;
           flows = subst (λ (es : List (Entry Content)). Flows c (o .segs) es (r .done)) (queue-whole (f .journalData)) (o .flows);
           place = f .place ∙ tail-end c (o .segs) (o .flows .carries);
           onward = rw i;
         }
+      where
+        go : Dec (0 < r .len) → r .done < 65536
+        go (yes l) = omega (arith, rw (entry-here 0) at (f .begun l), few-here q r 0 p (f .queueData))
+        go (no n) =
+            let d = disk c q (f .journalData) r in
+            let z = rw (queue-whole (f .journalData), rest-none (omega arith)) at (flow-ready d (right d (f .lengths) (f .sound))) in
+            omega arith
 
     module _ (c′ : List ℕ) (p′ : Place) (k left gone : ℕ) (g : Going c′ p′ k left gone) where
       pub segments-same : segmentsIn c′ ≡ segmentsIn c
@@ -133,6 +165,7 @@ module _ (c q : List ℕ) (r : Record) where
               within = h .within;
               inside = rw (← segments-same) (h .inside);
               begun = λ l. omega (arith, entry-stores-length p″ (entryHere q r (gone + 1)));
+              small = omega arith;
               segs = addTo (h .place .segment) e (g .segs);
               flows = rw (h .card) (flows-last (g .segs) e (rest (gone + 1)) (h .place) v k c′ flows-here);
               place = h .behind ∙ sym (end-add (head-at c′ (g .segs) e (rest (gone + 1)) k flows-here (h .place) v) (g .flows .carries .packed));
@@ -179,7 +212,7 @@ module _ (c q : List ℕ) (r : Record) where
         unfolding flushAnswer
         flushes-spent c″ k″ h j =
             let i : a - left + left ≡ a = omega (arith, g .few) in
-            ends j c″ p′ gone k″ a spent (f .place) (g .among) (whole-ends c″ k″ a spent (rw i at (h (rest (gone + 1)) (a - left))))
+            ends j c″ p′ gone k″ a spent (f .place) (g .among) (whole-ends c″ k″ a spent (rw i at (h .1 (rest (gone + 1)) (a - left))))
 
 -- A sound disk can be flushed from the place behind its log: the head's stores that are done are fewer than it takes, wherever it goes.
 ready-begun : (o : Option Place) (e : Entry Content) (k : ℕ) (p : Place) → ReadyHead o e k → k < length (entryStores p e)

@@ -1,14 +1,14 @@
 -- End: the journal queued as members and a commit, the unit closed, and what the call performs.
-use mathlib.Core.Path.{_≡_, refl, sym, ap, _∙_}
+use mathlib.Core.Path.{_≡_, refl, sym, ap, _∙_, subst}
 use mathlib.Core.Logic.{inl, inr, _≢_}
 use mathlib.Core.Bool.{Bool, true, false, false≢true}
 use mathlib.Core.List.{List, [], _∷_, _++_, map}
-use Prim.Native.Nat.{ℕ, _+_, _-_, _*_, _≤_, _<_, min}
+use Prim.Native.Nat.{ℕ, _+_, _-_, _*_, _≤_, _<_}
 use native.Mathlib.Omega.{arith}
 use denote.Enum.Declared.{tagOf}
 use types.Run.{OneOf}
 use lib.Dec.{leb}
-use lib.ListN.{length, take, drop, getD, set}
+use lib.ListN.{length, take, drop, getD}
 use Rattle.lists.specs.Basic.{isSome, from}
 use Rattle.lists.specs.Change.{Change, mapChange, carriedBy}
 use Rattle.lists.specs.State.{State, applyAll}
@@ -18,18 +18,18 @@ use Rattle.log.proofs.entry.LogEntry.{the-type}
 use Rattle.log.specs.declared.entry.LogEntry.{LogEntry}
 use Rattle.log.specs.declared.entry.LogEntry.the-variants.{Take, PutFirst, PutAfter, Write, DeleteBlock, DeleteList, Commit}
 use Rattle.log.specs.Card.{Content, slot, slotBytes, splice}
-use Rattle.log.specs.Entry.{member, commit, mapEntry, carried, raw, legal, hasMember, asChange, logChange}
-use Rattle.disk.specs.declared.record.Record.{Record}
+use Rattle.log.specs.Entry.{member, commit, mapEntry, carried, raw, legal, hasMember, asChange, asEntry}
+use Rattle.log.specs.Cell.{cellOf, entryIn}
+use Rattle.disk.specs.Record.{Unit, Record, noCell, noUnit, ringPlace, unitAt, appended, conflictCounted}
 use Rattle.disk.specs.declared.answer.Refusal.{Refusal}
 use Rattle.disk.specs.declared.answer.Refusal.the-variants.{Conflict, QueueFull}
 use Rattle.disk.specs.declared.answer.Reply.{Reply}
 use Rattle.disk.specs.declared.answer.Reply.the-variants.{Accepted, Refused}
-use Rattle.disk.specs.Record.{noJournaled, ringPlace, unitAt, withQueue, withConflicts}
 use Rattle.disk.specs.Disk.{Disk, disk, unitOf, journalPlace, journalAt, journalOf}
 use Rattle.disk.specs.Call.{end, ends}
 use Rattle.disk.specs.Sound.{lengthsRight, recordSound, isOpenUnit}
 use Rattle.disk.specs.Questions.{endApplies, queueRoom, questions, ask, firstNo, refusal}
-use Rattle.disk.specs.Perform.{spliceSome, queuedEntry, enqueue, enqueueAll, unitEntries, closing, conflicted, reply, accepted, refused}
+use Rattle.disk.specs.Perform.{spliceSome, enqueue, enqueueAll, unitEntries, closing, conflicted, reply, accepted, refused}
 use Rattle.disk.specs.Answers.{number, refusedAnswer, replyAnswer}
 use Rattle.disk.proofs.Journal.{journal-size}
 use Rattle.disk.proofs.Questions.{unit-range}
@@ -49,11 +49,11 @@ use Rattle.calls.proofs.Entering.{entering, entered}
 -- A member joins the queue.
 module _ (q j : List ℕ) (r : Record) (k : ℕ) where
   abbrev queuedAs : LogEntry → Record
-  queuedAs e = withQueue r (set (r .queue) (ringPlace r (r .len)) (record { member = true; entry = e })) (r .len + 1)
+  queuedAs e = appended (cellOf (asEntry true e)) r
 
   pub member-write : (b s : ℕ) (q′ : List ℕ) (r′ : Record) → q′ ≡ splice q (slotBytes * ringPlace r (r .len)) (slot j k) → r′ ≡ queuedAs (Write b 0)
       → QueuesMember q j r (Write b s) k q′ r′
-  unfolding enqueue mapChange asChange carried carriedBy spliceSome queuedEntry logChange
+  unfolding enqueue mapChange asChange carried carriedBy spliceSome cellOf raw mapEntry asEntry
   member-write b s q′ r′ h g c = rw (h, g)
 
   no-write : OneOf (0 ∷ 1 ∷ 2 ∷ 4 ∷ 5 ∷ 6 ∷ []) 3 → ⊥
@@ -67,7 +67,7 @@ module _ (q j : List ℕ) (r : Record) (k : ℕ) where
   -- an entry that is no write carries nothing
   pub member-other : (e : LogEntry) (r′ : Record) → OneOf (0 ∷ 1 ∷ 2 ∷ 4 ∷ 5 ∷ 6 ∷ []) (tagOf the-type e) → legal (raw 0 (member (asChange e))) ≡ true → r′ ≡ queuedAs e
       → QueuesMember q j r e k q r′
-  unfolding enqueue mapChange asChange carried carriedBy spliceSome queuedEntry logChange legal raw mapEntry hasMember
+  unfolding enqueue mapChange asChange carried carriedBy spliceSome cellOf asEntry legal raw mapEntry hasMember
   member-other (Take l) r′ t h g c = absurd (false≢true h)
   member-other (PutFirst b l) r′ t h g c = rw g
   member-other (PutAfter b l p) r′ t h g c = rw g
@@ -87,6 +87,7 @@ pub record Along (q₀ j : List ℕ) (u : ℕ) (r₀ : Record) (q : List ℕ) (r
   pub size : length q ≡ 8192
   pub len : r .len ≡ r₀ .len + k
   pub head : r .head ≡ r₀ .head
+  pub units : r .units ≡ r₀ .units
   pub rest : (c : List ℕ)
       → (let d = disk c q₀ j r₀ in
       let n = unitAt r₀ u .len in
@@ -100,6 +101,7 @@ along-start q j u r h =
       size = h .queueData;
       len = omega arith;
       head = refl;
+      units = refl;
       rest = λ c.
           let d = disk c q j r in
           let n = unitAt r u .len in
@@ -108,19 +110,28 @@ along-start q j u r h =
     }
 
 module _ (q₀ j : List ℕ) (u : ℕ) (r₀ : Record) (q : List ℕ) (r : Record) (k : ℕ) (a : Along q₀ j u r₀ q r k) where
-  -- the entry that is queued next may be queued
-  pub along-lawful : Ready q₀ j r₀ u → k < unitAt r₀ u .len → legal (raw 0 (member (changeIn (unitAt r₀ u) k))) ≡ true
-  along-lawful h l = all-from (λ c. legal (raw 0 (member c))) (changeIn (unitAt r₀ u)) 0 (unitAt r₀ u .len) (h .lawful) k (omega arith) (omega arith)
+  -- the entry that is queued next: the journal is as it was, and the entry may be queued
+  abbrev next : Record → LogEntry
+  next x = entryIn (getD (unitAt x u .journal) k noCell)
 
-  pub along-step : (q′ : List ℕ) (r′ : Record) → k < unitAt r₀ u .len → length q′ ≡ 8192
-      → QueuesMember q j r (getD (unitAt r₀ u .journal) k noJournaled .entry) (journalPlace u k) q′ r′ → Along q₀ j u r₀ q′ r′ (k + 1)
+  along-same : next r ≡ next r₀
+  along-same = ap (λ (us : List Unit). entryIn (getD (getD us (u - 1) noUnit .journal) k noCell)) (a .units)
+
+  pub along-lawful : (e : LogEntry) → e ≡ next r → Ready q₀ j r₀ u → k < unitAt r₀ u .len → legal (raw 0 (member (asChange e))) ≡ true
+  along-lawful e i h l =
+      rw (i ∙ along-same) (all-from (λ c. legal (raw 0 (member c))) (changeIn (unitAt r₀ u)) 0 (unitAt r₀ u .len) (h .lawful) k (omega arith) (omega arith))
+
+  pub along-step : (e : LogEntry) (q′ : List ℕ) (r′ : Record) → e ≡ next r → k < unitAt r₀ u .len → length q′ ≡ 8192
+      → QueuesMember q j r e (journalPlace u k) q′ r′ → Along q₀ j u r₀ q′ r′ (k + 1)
   unfolding enqueue enqueueAll journalAt unitOf
-  along-step q′ r′ l z h =
+  along-step e q′ r′ i l z g =
+      let h = subst (λ (x : LogEntry). QueuesMember q j r x (journalPlace u k) q′ r′) (i ∙ along-same) g in
       record {
         within = omega arith;
         size = z;
         len = let e : r .len + 1 ≡ r′ .len = ap (λ (d : Disk). d .rec .len) (h []) in let f = a .len in omega arith;
         head = sym (ap (λ (d : Disk). d .rec .head) (h [])) ∙ a .head;
+        units = sym (ap (λ (d : Disk). d .rec .units) (h [])) ∙ a .units;
         rest = λ c.
             let d = disk c q₀ j r₀ in
             let n = unitAt r₀ u .len in
@@ -131,8 +142,8 @@ module _ (q₀ j : List ℕ) (u : ℕ) (r₀ : Record) (q : List ℕ) (r : Recor
       }
 
   pub along-end : (r′ : Record) → unitAt r₀ u .len ≤ k
-      → r′ ≡ withQueue r (set (r .queue) (ringPlace r (r .len)) (record { member = false; entry = Commit (unitAt r₀ u .len) })) (r .len + 1) → QueuesUnit q₀ j r₀ u q r′
-  unfolding enqueue enqueueAll carried spliceSome queuedEntry
+      → r′ ≡ appended (cellOf (asEntry false (Commit (unitAt r₀ u .len)))) r → QueuesUnit q₀ j r₀ u q r′
+  unfolding enqueue enqueueAll carried spliceSome cellOf raw mapEntry asEntry
   along-end r′ l e c =
       let d = disk c q₀ j r₀ in
       let n = unitAt r₀ u .len in
@@ -142,7 +153,7 @@ module _ (q₀ j : List ℕ) (u : ℕ) (r₀ : Record) (q : List ℕ) (r : Recor
 
 -- The answers of End.
 module _ (q j : List ℕ) (r : Record) (u : ℕ) (a : Bool) where
-  pub ends-conflict : (r′ : Record) → a ≡ false → r′ ≡ withConflicts (closed u r) (min 65535 (r .conflicts + 1)) → EndsAs a q j r u (Refused Conflict) q r′
+  pub ends-conflict : (r′ : Record) → a ≡ false → r′ ≡ conflictCounted (closed u r) → EndsAs a q j r u (Refused Conflict) q r′
   unfolding number refused ends conflicted closing unitOf
   ends-conflict r′ h e = (ask-no 12 a _ h, λ c. rw e)
 

@@ -8,22 +8,22 @@ use Prim.Native.Nat.{ℕ, zero, suc, _+_, _%_, _≤_, _<_}
 use native.Mathlib.Omega.{arith}
 use lib.Dec.{leb, eqb}
 use Rattle.lists.specs.Basic.{isSome, orElse}
-use Rattle.lists.specs.Change.{carriedBy}
+use Rattle.lists.specs.Change.{mapChange, carriedBy}
 use Rattle.lists.specs.State.{Row, taken, placed, onList}
 use Rattle.lists.specs.promises.Tables.{Tables}
 use Rattle.lists.proofs.Basic.{eqb-false, le-true, gt-false}
-use Rattle.log.specs.Entry.{hasMember, isList, carried, logChange}
-use Rattle.disk.specs.declared.record.Record.{Record}
+use Rattle.log.specs.Entry.{mapEntry, raw, hasMember, isList, carried, asEntry}
+use Rattle.log.specs.Cell.{cellOf}
+use Rattle.disk.specs.Record.{Record, holderOf, withLastBlock}
 use Rattle.disk.specs.declared.answer.Refusal.{Refusal}
 use Rattle.disk.specs.declared.answer.Refusal.the-variants.{OutOfRange, ListNotTaken, PredecessorElsewhere, NoNumberFree, QueueFull}
 use Rattle.disk.specs.declared.answer.NumberReply.{NumberReply}
 use Rattle.disk.specs.declared.answer.NumberReply.the-variants.{Number, Refused}
 use Rattle.disk.specs.declared.answer.Reply.the-variants as A
-use Rattle.disk.specs.Record.{holderOf, withLastBlock}
 use Rattle.disk.specs.Disk.{Disk, withRecord, committed}
 use Rattle.disk.specs.Call.{newList, onStream, destination}
 use Rattle.disk.specs.Questions.{freeFrom, freeList, queueRoom, editQuestions, questions, firstNo, refusal}
-use Rattle.disk.specs.Perform.{accepted, change, noted, streamFor, made, numberGiven, changeFor, enqueue, gaveList, queuedEntry, spliceSome}
+use Rattle.disk.specs.Perform.{accepted, change, noted, streamFor, made, numberGiven, changeFor, enqueue, gaveList, spliceSome}
 use Rattle.disk.specs.Answers.{number, numberAnswer}
 use Rattle.disk.proofs.Questions.{free-from}
 use Rattle.calls.specs.Performs.{Performs}
@@ -72,17 +72,17 @@ module _ (used : ℕ → Bool) (limit k last : ℕ) (l : 0 < limit) where
       go (some m) e = ap some (sym e)
 
 pub free-block-limit : (r : Record) (rs : List (Row ℕ)) (n : ℕ) → n ≡ orElse 0 (freeBlockIn r rs) → n ≤ 64
-free-block-limit r rs n h = let l = free-limit (λ b. placed b rs || not (eqb (holderOf r b) 0)) 64 64 (r .«last_block») (omega arith) in omega arith
+free-block-limit r rs n h = let l = free-limit (λ b. placed b rs || not (eqb (holderOf r b) 0)) 64 64 (r .lastBlock) (omega arith) in omega arith
 
 -- A take.
 module _ (r : Record) (rs : List (Row ℕ)) (n : ℕ) (h : n ≡ orElse 0 (freeListIn r rs)) where
   pub takes-none : n ≡ 0 → Takes r rs (Refused NoNumberFree) r
   unfolding number
-  takes-none z = (refl, ask-no 10 _ _ (free-number (λ l. taken l rs) 16 16 (r .«last_list») (omega arith) ∙ rw (← h, z)))
+  takes-none z = (refl, ask-no 10 _ _ (free-number (λ l. taken l rs) 16 16 (r .lastList) (omega arith) ∙ rw (← h, z)))
 
   module _ (z : n ≢ 0) where
     given : freeListIn r rs ≡ some n
-    given = free-some (λ l. taken l rs) 16 16 (r .«last_list») (omega arith) n h z
+    given = free-some (λ l. taken l rs) 16 16 (r .lastList) (omega arith) n h z
 
     pub takes-full : 32 ≤ r .len → Takes r rs (Refused QueueFull) r
     unfolding number isSome
@@ -93,11 +93,11 @@ module _ (r : Record) (rs : List (Row ℕ)) (n : ℕ) (h : n ≡ orElse 0 (freeL
 
 pub takes-performs : (s : ℕ) (d : Disk) (t : Tables) (k : Admitted true d s t) (a : NumberReply) (r′ : Record)
     → Takes (d .rec) (k .located .here .lists) a r′ → Performs (onStream s newList) d (withRecord d r′) (numberAnswer a) []
-unfolding numberAnswer refusal questions editQuestions freeList queueRoom destination accepted made noted streamFor hasMember numberGiven changeFor change gaveList enqueue queuedEntry carried carriedBy spliceSome logChange orElse isSome
+unfolding numberAnswer refusal questions editQuestions freeList queueRoom destination accepted made noted streamFor hasMember numberGiven changeFor change gaveList enqueue carried carriedBy spliceSome cellOf raw mapEntry mapChange asEntry orElse isSome
 takes-performs s d t k a r′ = go a
   where
     free : freeList d ≡ freeListIn (d .rec) (k .located .here .lists)
-    free = free-ext _ _ 16 16 (d .rec .«last_list») (taken-here d t (committed d) (k .located))
+    free = free-ext _ _ 16 16 (d .rec .lastList) (taken-here d t (committed d) (k .located))
 
     rest : refusal (onStream s newList) d ≡ firstNo ((10, isSome (freeListIn (d .rec) (k .located .here .lists))) ∷ (13, leb (d .rec .len + 1) 32) ∷ [])
     rest = entered true d s t _ k ∙ ap (λ (o : Option ℕ). firstNo ((10, isSome o) ∷ (13, leb (d .rec .len + 1) 32) ∷ [])) free
@@ -151,8 +151,8 @@ module _ (s l p b : ℕ) (r : Record) (rs : List (Row ℕ)) where
 
 -- Where the put ends.
 module _ (s l p b : ℕ) (r : Record) where
-  pub puts-full : (x : Refusal) (r′ : Record) → Adds s (putEntry b l p) r (A.Refused x) r′ → Gives [] s l p b r (Refused x) r
-  puts-full x r′ h = (refl, h .1)
+  pub puts-full : (x : Refusal) (r′ : Record) → Adds s (putEntry b l p) r (A.Refused x) r′ → Gives [] s l p b r (Refused x) r′
+  puts-full x r′ h = h
 
   pub puts-block : (r′ r″ : Record) → Adds s (putEntry b l p) r A.Accepted r′ → r″ ≡ withLastBlock (heldBy s b r′) b → Gives [] s l p b r (Number b) r″
   unfolding putBlock

@@ -8,19 +8,18 @@ use Prim.Native.Nat.{ℕ, zero, suc, _≤_, _<_}
 use native.Mathlib.Omega.{arith}
 use lib.Dec.{leb, eqb, eqb·suc-zero}
 use Rattle.lists.specs.Basic.{isSome, orElse, all, from}
-use Rattle.lists.specs.Change.{carriedBy}
+use Rattle.lists.specs.Change.{mapChange, carriedBy}
 use Rattle.lists.specs.State.{Row, State, taken, placed, onList, overlay, mapState}
 use Rattle.lists.specs.promises.Tables.{Tables}
 use Rattle.lists.proofs.Basic.{or-cases, eqb-true, eqb-false}
 use Rattle.lists.proofs.Naturality.{taken-map, onList-map}
-use Rattle.log.specs.declared.entry.LogEntry.{LogEntry}
 use Rattle.log.specs.Card.{zeros}
-use Rattle.log.specs.Entry.{hasMember, isList, member, raw, legal, logChange}
+use Rattle.log.specs.Entry.{hasMember, isList, member, mapEntry, raw, legal, asEntry}
+use Rattle.log.specs.Cell.{cellOf}
 use Rattle.log.specs.promises.Location.{blank}
-use Rattle.disk.specs.declared.record.Record.{Record}
+use Rattle.disk.specs.Record.{Record, holderOf, unitAt}
 use Rattle.disk.specs.declared.answer.NumberReply.{NumberReply}
 use Rattle.disk.specs.declared.answer.NumberReply.the-variants.{Number, Refused}
-use Rattle.disk.specs.Record.{holderOf, unitAt}
 use Rattle.disk.specs.Disk.{Disk, withRecord, unitOf, journalOf, committed, view}
 use Rattle.disk.specs.Call.{newBlock, onStream, destination}
 use Rattle.disk.specs.Sound.{lengthsRight, recordSound, isOpenUnit}
@@ -36,7 +35,7 @@ use Rattle.calls.specs.promises.Adds.{added, rooms}
 use Rattle.calls.specs.promises.Entering.{Admitted}
 use Rattle.calls.specs.promises.Giving.{freeBlockIn, putEntry, heldBy, putBlock, Gives, rangedPutQuestions, viewHere, Shown, PutsFree}
 use Rattle.calls.proofs.Refusing.{usual-performs-refused, performs-accepted}
-use Rattle.calls.proofs.Adding.{change-added}
+use Rattle.calls.proofs.Adding.{Says, change-added}
 use Rattle.inspect.proofs.Locating.{placed-here, overlay-here}
 use Rattle.inspect.proofs.Looking.{Lawful, unit-lawful}
 use Rattle.calls.proofs.Entering.{entered}
@@ -53,8 +52,8 @@ unfolding putAt carriedBy
 put-carries b l zero = refl
 put-carries b l (suc p) = refl
 
-put-entry : (b l p : ℕ) → logChange (putAt b l p) ≡ putEntry b l p
-unfolding putAt logChange
+put-entry : (b l p : ℕ) → Says (putEntry b l p) (putAt b l p)
+unfolding putAt cellOf raw mapEntry mapChange asEntry
 put-entry b l zero = refl
 put-entry b l (suc p) = rw (eqb·suc-zero p)
 
@@ -72,7 +71,7 @@ pub put-disk : (s l p b : ℕ) (d : Disk) → made s (putAt b l p) d ≡ withRec
 unfolding gaveBlock putBlock
 put-disk s l p b d =
     put-made s l p b d
-    ∙ ap (λ (x : Disk). gaveBlock b (hold s b x)) (change-added s (putAt b l p) d (put-carries b l p) ∙ ap (λ (e : LogEntry). withRecord d (added s e (d .rec))) (put-entry b l p))
+    ∙ ap (λ (x : Disk). gaveBlock b (hold s b x)) (change-added s (putAt b l p) (putEntry b l p) d (put-carries b l p) (put-entry b l p))
     ∙ ap (gaveBlock b) (hold-record s b d (added s (putEntry b l p) (d .rec)))
 
 -- A stream's number, and its view at locations.
@@ -81,7 +80,7 @@ unfolding streamOpen
 stands-range d s t k = ⊎-elim (λ e. let z = eqb-true s 0 e in omega arith) (λ e. unit-range d s e .1) (or-cases (eqb s 0) (isOpenUnit d s) (k .opened))
 
 -- unit 1 stands for none
-unit-some : (d : Disk) (s : ℕ) → lengthsRight d ≡ true → recordSound d ≡ true → s ≤ 4 → Lawful d s
+pub unit-some : (d : Disk) (s : ℕ) → lengthsRight d ≡ true → recordSound d ≡ true → s ≤ 4 → Lawful d s
 unit-some d zero l h n = let w = unit-lawful d 1 l h (omega arith) (omega arith) in record { room = w .room; lawful = w .lawful }
 unit-some d (suc s) l h n = unit-lawful d (suc s) l h (omega arith) n
 
@@ -111,7 +110,7 @@ module _ (s : ℕ) (d : Disk) (t : Tables) (k : Admitted true d s t) where
 
   free : freeBlock d ≡ freeBlockIn (d .rec) (here .lists)
   unfolding freeBlock here
-  free = free-ext _ _ 64 64 (d .rec .«last_block») (λ b. ap (λ (x : Bool). x || not (eqb (holderOf (d .rec) b) 0)) (placed-here d t (committed d) (k .located) b))
+  free = free-ext _ _ 64 64 (d .rec .lastBlock) (λ b. ap (λ (x : Bool). x || not (eqb (holderOf (d .rec) b) 0)) (placed-here d t (committed d) (k .located) b))
 
   given : ℕ
   given = orElse 0 (freeBlockIn (d .rec) (here .lists))
@@ -123,7 +122,7 @@ module _ (s : ℕ) (d : Disk) (t : Tables) (k : Admitted true d s t) where
       entered true d s t
       ((5, isList l && leb p 64) ∷ (7, taken l (view d s .lists)) ∷ (9, eqb p 0 || onList l p (view d s .lists)) ∷ (10, isSome (freeBlock d)) ∷ rooms d s)
       k
-      ∙ rw (view-here, free, taken-map (contents d) l v, onList-map (contents d) l p v, free-number (λ b. placed b (here .lists) || not (eqb (holderOf (d .rec) b) 0)) 64 64 (d .rec .«last_block») (omega arith))
+      ∙ rw (view-here, free, taken-map (contents d) l v, onList-map (contents d) l p v, free-number (λ b. placed b (here .lists) || not (eqb (holderOf (d .rec) b) 0)) 64 64 (d .rec .lastBlock) (omega arith))
 
   pub puts-performs : (l p : ℕ) (a : NumberReply) (r′ : Record) → PutsFree t s l p (d .rec) a r′ → Performs (onStream s (newBlock l p)) d (withRecord d r′) (numberAnswer a) []
   unfolding numberAnswer destination accepted numberGiven changeFor given here

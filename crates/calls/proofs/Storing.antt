@@ -13,13 +13,14 @@ use Rattle.log.specs.declared.entry.LogEntry.{LogEntry}
 use Rattle.log.specs.declared.place.Place.{Place}
 use Rattle.log.specs.declared.place.Home.{Home}
 use Rattle.log.specs.declared.place.Home.the-variants.{At, Full}
-use Rattle.log.specs.Entry.{Entry, asEntry}
+use Rattle.log.specs.Entry.{Entry, carried, asEntry}
 use Rattle.log.specs.Card.{Content, segmentsIn}
 use Rattle.log.specs.Store.{Store, doStores, after, home, entryStores}
 use Rattle.log.specs.Flush.{full, spent, stored, storeNext, nextStore, flushFrom}
 use Rattle.log.specs.promises.Within.{Storable, asPlace}
 use Rattle.log.specs.Turns.{AllInTurn}
 use Rattle.log.proofs.Allowance.{stopped-flush, moved-flush}
+use Rattle.log.proofs.Places.{entry-short, used-one}
 use Rattle.log.proofs.LogStores.{going, stores-many}
 use Rattle.log.proofs.Within.{within-home, within-after, home-of-entry, after-of-entry}
 use Rattle.calls.specs.promises.Flushing.{flow, HeadReady, Heads}
@@ -112,6 +113,10 @@ after-segment : (p : Place) (e : Entry Content) → after p e .segment ≡ p .se
 unfolding after
 after-segment p e = refl
 
+-- the head's stores are few
+pub few-stores : (d : Content) → length d ≡ 256 → (t : Bool) (e : LogEntry) (p : Place) → length (entryStores p (going d t e)) ≤ 261
+few-stores d z t e p = omega (arith, stores-many d z t e p, used-one (carried (asEntry false e)), entry-short (asEntry false e))
+
 -- The head as the code has it, and its place as the code finds it.
 module _ (d : Content) (z : length d ≡ 256) (t : Bool) (e : LogEntry) (c : List ℕ) (p : Place) (k : ℕ) (r : HeadReady c p (going d t e) k) (x : Home)
     (i : asPlace x ≡ home (segmentsIn c) p (asEntry false e)) where
@@ -137,9 +142,10 @@ module _ (d : Content) (z : length d ≡ 256) (t : Bool) (e : LogEntry) (c : Lis
 
     pub heads-spent : (a : ℕ) (c′ : List ℕ) → k + a < length (entryStores h (going d t e))
         → c′ ≡ doStores (several k (k + a - k) (entryStores h (going d t e))) c → Heads c p (going d t e) k a (headed.Spent (k + a)) c′
-    heads-spent a c′ l y q s =
-        let n : k + a - k ≡ a = omega arith in
-        rw (y, n) (flush-spent (segmentsIn c) p h (going d t e) q placed a s k c l)
+    heads-spent a c′ l y = (
+      omega (arith, stores-many d z t e h, stores-many d z t e p),
+      λ q s. let n : k + a - k ≡ a = omega arith in rw (y, n) (flush-spent (segmentsIn c) p h (going d t e) q placed a s k c l),
+    )
 
     pub heads-drained : (a n : ℕ) (p′ : Place) (c′ : List ℕ) → n ≡ length (entryStores h (going d t e)) → n - k ≤ a → p′ ≡ after h (asEntry false e)
         → c′ ≡ doStores (several k (n - k) (entryStores h (going d t e))) c → Heads c p (going d t e) k a (headed.Drained p′ (n - k)) c′

@@ -2,41 +2,46 @@
 use mathlib.Core.Path.{_≡_, refl}
 use mathlib.Core.Bool.{true, false, _&&_}
 use mathlib.Core.List.{List, [], _∷_}
-use Prim.Native.Nat.{ℕ, zero, suc, _≤_, _<_}
+use Prim.Native.Nat.{ℕ, zero, suc, _≤_}
 use native.Mathlib.Omega.{arith}
 use lib.Dec.{eqb, eqb·suc-zero}
 use lib.ListN.{length}
-use Rattle.lists.specs.Change.{write, carriedBy}
+use Rattle.lists.specs.Change.{write, mapChange, carriedBy}
 use Rattle.lists.specs.State.{placed}
 use Rattle.lists.specs.promises.Tables.{Tables, OfShown}
 use Rattle.lists.proofs.Basic.{and-true, eqb-true}
 use Rattle.log.specs.declared.entry.LogEntry.the-variants.{Write}
 use Rattle.log.specs.Card.{Content, slotBytes}
-use Rattle.log.specs.Entry.{hasMember, isBlock, carried, logChange}
-use Rattle.disk.specs.declared.record.Record.{Record}
+use Rattle.log.specs.Entry.{mapEntry, raw, hasMember, isBlock, carried, asEntry}
+use Rattle.log.specs.Cell.{cellOf}
+use Rattle.disk.specs.Record.{Record}
 use Rattle.disk.specs.declared.answer.Refusal.{Refusal}
 use Rattle.disk.specs.declared.answer.Reply.{Reply}
 use Rattle.disk.specs.declared.answer.Reply.the-variants.{Accepted, Refused}
-use Rattle.disk.specs.Record.{unitAt}
 use Rattle.disk.specs.Disk.{Disk, disk, withRecord, unitOf, view}
 use Rattle.disk.specs.Questions.{journalRoom, editQuestions, questions, refusal}
 use Rattle.disk.specs.Call.{writeBlock, onStream, destination}
-use Rattle.disk.specs.Perform.{accepted, change, noted, streamFor, made, numberGiven, changeFor, enqueue, journalAdd, queuedEntry, spliceSome}
+use Rattle.disk.specs.Perform.{accepted, change, noted, streamFor, made, numberGiven, changeFor, enqueue, journalAdd, spliceSome}
 use Rattle.disk.specs.Answers.{replyAnswer}
 use Rattle.disk.proofs.Questions.{yes-all, queue-data, journal-data, journal-room}
 use Rattle.disk.proofs.Clauses.{right}
 use Rattle.calls.specs.Performs.{Performs}
 use Rattle.inspect.specs.promises.Inspect.{Sees}
-use Rattle.calls.specs.promises.Adds.{added, AddsAfter, HasPlace, Copies}
+use Rattle.calls.specs.promises.Adds.{added, AddsAfter, InRange, placeNext, HasPlace, Copies}
 use Rattle.calls.proofs.Refusing.{seen-ranges, usual-performs-refused, performs-accepted}
 use Rattle.calls.proofs.Adding.{Decides, seen-decides}
 use Rattle.inspect.proofs.Locating.{placed-here}
+use Rattle.calls.proofs.Putting.{unit-some}
 
-change-written : (s : ℕ) (d : Disk) (b : ℕ) (x : Content) (q j : List ℕ) → Copies s (d .rec) x (d .queueData) (d .journalData) q j
+change-written : (s : ℕ) (d : Disk) (b : ℕ) (x : Content) (q j : List ℕ) → Copies s (placeNext s (d .rec)) x (d .queueData) (d .journalData) q j
     → change s (write b x) d ≡ disk (d .card) q j (added s (Write b 0) (d .rec))
-unfolding change enqueue journalAdd queuedEntry carried carriedBy logChange added unitOf spliceSome
+unfolding change enqueue journalAdd carried carriedBy cellOf raw mapEntry mapChange asEntry added unitOf spliceSome
 change-written zero d b x q j k = rw (k .queue, k .journal)
 change-written (suc u) d b x q j k = rw (k .queue, k .journal, eqb·suc-zero u)
+
+-- what finding the place needs
+pub write-ranges : (d : Disk) (s : ℕ) (t : Tables) → Sees false d s t → InRange s (d .rec)
+write-ranges d s t z = (seen-ranges z .0, right d (z .lengths) (z .sound) .log .room, seen-ranges z .1, unit-some d s (z .lengths) (z .sound) (seen-ranges z .0) .room)
 
 module _ (d : Disk) (s b : ℕ) (x : Content) (a : Reply) (r : Record) where
   pub write-decides : (t : Tables) → Sees false d s t → OfShown t (λ rs. AddsAfter ((5, isBlock b && eqb (length x) slotBytes) ∷ (8, placed b rs) ∷ []) s (Write b 0) (d .rec) a r)
@@ -49,7 +54,7 @@ module _ (d : Disk) (s b : ℕ) (x : Content) (a : Reply) (r : Record) where
   unfolding replyAnswer destination
   write-refused y e h = let k = rw e at h in rw (e, k .0) (usual-performs-refused (onStream s (writeBlock b x)) d y tt (k .1))
 
-  pub write-accepted : a ≡ Accepted → Decides (onStream s (writeBlock b x)) d s (Write b 0) a r → (q j : List ℕ) → Copies s (d .rec) x (d .queueData) (d .journalData) q j
+  pub write-accepted : a ≡ Accepted → Decides (onStream s (writeBlock b x)) d s (Write b 0) a r → (q j : List ℕ) → Copies s (placeNext s (d .rec)) x (d .queueData) (d .journalData) q j
       → Performs (onStream s (writeBlock b x)) d (disk (d .card) q j r) (replyAnswer a) []
   unfolding replyAnswer accepted made noted streamFor hasMember numberGiven changeFor
   write-accepted e h q j k =
@@ -58,7 +63,7 @@ module _ (d : Disk) (s b : ℕ) (x : Content) (a : Reply) (r : Record) where
 
   -- what copying needs then
   pub write-fits : (t : Tables) → Sees false d s t → a ≡ Accepted → Decides (onStream s (writeBlock b x)) d s (Write b 0) a r
-      → (length (d .queueData) ≡ 8192) × (length (d .journalData) ≡ 15360) × (length x ≡ 256) × HasPlace s (d .rec)
+      → (length (d .queueData) ≡ 8192) × (length (d .journalData) ≡ 15360) × (length x ≡ 256) × HasPlace s (placeNext s (d .rec))
   unfolding questions editQuestions unitOf
   write-fits t z e h =
       let w = rw e at h in
@@ -66,9 +71,9 @@ module _ (d : Disk) (s b : ℕ) (x : Content) (a : Reply) (r : Record) where
         queue-data d (z .lengths),
         journal-data d (z .lengths),
         eqb-true (length x) 256 (and-true (isBlock b) (eqb (length x) 256) (yes 3) .1),
-        (seen-ranges z .0, right d (z .lengths) (z .sound) .log .room, seen-ranges z .1, room s (yes 5)),
+        room s (seen-ranges z .0) (yes 5),
       )
     where
-      room : (s : ℕ) → journalRoom d s ≡ true → 1 ≤ s → unitAt (d .rec) s .len < 15
-      room zero y l = absurd (omega arith)
-      room (suc u) y l = journal-room d u y
+      room : (s : ℕ) → s ≤ 4 → journalRoom d s ≡ true → HasPlace s (placeNext s (d .rec))
+      room zero l y = omega arith
+      room (suc u) l y = rw (eqb·suc-zero u) (let h = journal-room d u y in omega arith)

@@ -1,38 +1,33 @@
 // A change added on a stream.
-use crate::replied::Replied;
 use disk::answer::Refusal;
 use disk::answer::Reply;
 use disk::change::append;
 use disk::change::journal;
+use disk::record::RECORD;
 use disk::record::Record;
 use disk::record::Unit;
+use disk::record::journal_len;
+use disk::record::len;
 use log::entry::LogEntry;
 ghost use Prim.Native.Nat.{_≤_, _<_};
+ghost use Rattle.disk.specs.Record.{recordIn};
 ghost use Rattle.calls.specs.promises.Adds.{Adds};
 
 // 11. Has the unit's journal room? 13. Has the queue, for stream 0?
-pub fn add(rec: Record, s: usize, e: LogEntry) -> Replied
-    requires { ⌜ (s ≤ 4) × (rec .head < 32) ⌝ }
-    ensures { λ r. ⌜ Adds s e rec (r .reply) (r .rec) ⌝ }
+pub fn add(rec: &mut [u8; RECORD], s: usize, e: LogEntry) -> Reply
+    requires { ⌜ (s ≤ 4) × (recordIn (now rec) .head < 32) ⌝ }
+    ensures { λ r. ⌜ Adds s e (recordIn (now (rec .entry))) r (recordIn (now (rec .exit))) ⌝ }
 {
     if s == 0 {
-        if Record::QUEUE <= rec.len {
-            let reply = Reply::Refused(Refusal::QueueFull);
-            return Replied { rec, reply };
+        if Record::QUEUE <= len(rec) {
+            return Reply::Refused(Refusal::QueueFull);
         }
-        let reply = Reply::Accepted;
-        return Replied {
-            rec: append(rec, false, e),
-            reply,
-        };
+        append(rec, false, e);
+        return Reply::Accepted;
     }
-    if Unit::JOURNAL <= rec.units[s - 1].len {
-        let reply = Reply::Refused(Refusal::JournalFull);
-        return Replied { rec, reply };
+    if Unit::JOURNAL <= journal_len(rec, s) {
+        return Reply::Refused(Refusal::JournalFull);
     }
-    let reply = Reply::Accepted;
-    Replied {
-        rec: journal(rec, s, e),
-        reply,
-    }
+    journal(rec, s, e);
+    Reply::Accepted
 }

@@ -1,9 +1,9 @@
 // Begin: a unit opened, its journal empty.
 use crate::check::check;
-use crate::replied::Replied;
 use disk::answer::Refusal;
 use disk::answer::Reply;
 use disk::change::empty;
+use disk::record::RECORD;
 use disk::record::Record;
 use inspect::look::Looked;
 use inspect::units::is_open;
@@ -16,29 +16,23 @@ pub fn begin(
     card: &[u8],
     queue_data: &[u8],
     journal_data: &[u8],
-    rec: Record,
+    rec: &mut [u8; RECORD],
     unit: usize,
-) -> Replied
-    ensures { λ r. ⌜ ChangesRecord (beginOf unit) (now (card .entry)) (now (queue_data .entry)) (now (journal_data .entry)) rec (r .rec) (replyAnswer (r .reply)) ⌝ }
+) -> Reply
+    ensures { λ r. ⌜ ChangesRecord (beginOf unit) (now (card .entry)) (now (queue_data .entry)) (now (journal_data .entry)) (now (rec .entry)) (now (rec .exit)) (replyAnswer r) ⌝ }
 {
     match check(card, queue_data, journal_data, rec) {
         Looked::Refused(x) => {
-            let reply = Reply::Refused(x);
-            return Replied { rec, reply };
+            return Reply::Refused(x);
         }
         Looked::Seen => {}
     }
     if unit < 1 || Record::UNITS < unit {
-        let reply = Reply::Refused(Refusal::StreamClosed);
-        return Replied { rec, reply };
+        return Reply::Refused(Refusal::StreamClosed);
     }
     if is_open(rec, unit) {
-        let reply = Reply::Refused(Refusal::UnitOpen);
-        return Replied { rec, reply };
+        return Reply::Refused(Refusal::UnitOpen);
     }
-    let reply = Reply::Accepted;
-    Replied {
-        rec: empty(rec, unit, true),
-        reply,
-    }
+    empty(rec, unit, true);
+    Reply::Accepted
 }

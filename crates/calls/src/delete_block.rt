@@ -1,10 +1,9 @@
 // DeleteBlock: a block taken off its list.
 use crate::add::add;
 use crate::ranges::is_block;
-use crate::replied::Replied;
 use disk::answer::Refusal;
 use disk::answer::Reply;
-use disk::record::Record;
+use disk::record::RECORD;
 use inspect::look::Looked;
 use inspect::look::look_stream;
 use lists::tables::is_placed;
@@ -15,24 +14,23 @@ ghost use Rattle.lists.specs.State.{placed};
 ghost use Rattle.lists.specs.promises.Tables.{tablesIn, OfShown};
 ghost use Rattle.log.specs.declared.entry.LogEntry.the-variants as E;
 ghost use Rattle.log.specs.Entry.{isBlock};
+ghost use Rattle.disk.specs.Record.{recordIn};
 ghost use Rattle.disk.specs.Call.{deleteBlock, onStream};
 ghost use Rattle.disk.specs.Answers.{replyAnswer};
 ghost use Rattle.calls.specs.promises.Adds.{AddsAfter};
 ghost use Rattle.calls.specs.Performs.{ChangesRecord};
 
 // Questions 5, 8, 11 and 13, over the stream's view.
-fn delete_placed(rec: Record, nodes: &[u8; 1280], s: usize, b: usize) -> Replied
-    requires { ⌜ (s ≤ 4) × (rec .head < 32) ⌝ }
-    ensures { λ r. ⌜ OfShown (tablesIn (now (nodes .entry))) (λ rs. AddsAfter ((5, isBlock b) ∷ (8, placed b rs) ∷ []) s (E.DeleteBlock b) rec (r .reply) (r .rec)) ⌝ }
+fn delete_placed(rec: &mut [u8; RECORD], nodes: &[u8; 1280], s: usize, b: usize) -> Reply
+    requires { ⌜ (s ≤ 4) × (recordIn (now rec) .head < 32) ⌝ }
+    ensures { λ r. ⌜ OfShown (tablesIn (now (nodes .entry))) (λ rs. AddsAfter ((5, isBlock b) ∷ (8, placed b rs) ∷ []) s (E.DeleteBlock b) (recordIn (now (rec .entry))) r (recordIn (now (rec .exit)))) ⌝ }
 {
     if !is_block(b) {
-        let reply = Reply::Refused(Refusal::OutOfRange);
-        return Replied { rec, reply };
+        return Reply::Refused(Refusal::OutOfRange);
     }
     let block = b as u8;
     if !is_placed(nodes, block) {
-        let reply = Reply::Refused(Refusal::BlockNotPlaced);
-        return Replied { rec, reply };
+        return Reply::Refused(Refusal::BlockNotPlaced);
     }
     add(rec, s, LogEntry::DeleteBlock { block })
 }
@@ -42,17 +40,16 @@ pub fn delete_block(
     card: &[u8],
     queue_data: &[u8],
     journal_data: &[u8],
-    rec: Record,
+    rec: &mut [u8; RECORD],
     stream: usize,
     block: usize,
-) -> Replied
-    ensures { λ r. ⌜ ChangesRecord (onStream stream (deleteBlock block)) (now (card .entry)) (now (queue_data .entry)) (now (journal_data .entry)) rec (r .rec) (replyAnswer (r .reply)) ⌝ }
+) -> Reply
+    ensures { λ r. ⌜ ChangesRecord (onStream stream (deleteBlock block)) (now (card .entry)) (now (queue_data .entry)) (now (journal_data .entry)) (now (rec .entry)) (now (rec .exit)) (replyAnswer r) ⌝ }
 {
     let mut nodes = [0u8; 1280];
     match look_stream(card, queue_data, journal_data, rec, stream, &mut nodes) {
         Looked::Refused(x) => {
-            let reply = Reply::Refused(x);
-            return Replied { rec, reply };
+            return Reply::Refused(x);
         }
         Looked::Seen => {}
     }

@@ -1,10 +1,9 @@
 // DeleteList: a list given up with its blocks.
 use crate::add::add;
 use crate::ranges::is_list;
-use crate::replied::Replied;
 use disk::answer::Refusal;
 use disk::answer::Reply;
-use disk::record::Record;
+use disk::record::RECORD;
 use inspect::look::Looked;
 use inspect::look::look_stream;
 use lists::tables::is_taken;
@@ -15,24 +14,23 @@ ghost use Rattle.lists.specs.State.{taken};
 ghost use Rattle.lists.specs.promises.Tables.{tablesIn, OfShown};
 ghost use Rattle.log.specs.declared.entry.LogEntry.the-variants as E;
 ghost use Rattle.log.specs.Entry.{isList};
+ghost use Rattle.disk.specs.Record.{recordIn};
 ghost use Rattle.disk.specs.Call.{deleteList, onStream};
 ghost use Rattle.disk.specs.Answers.{replyAnswer};
 ghost use Rattle.calls.specs.promises.Adds.{AddsAfter};
 ghost use Rattle.calls.specs.Performs.{ChangesRecord};
 
 // Questions 5, 7, 11 and 13, over the stream's view.
-fn delete_taken(rec: Record, nodes: &[u8; 1280], s: usize, l: usize) -> Replied
-    requires { ⌜ (s ≤ 4) × (rec .head < 32) ⌝ }
-    ensures { λ r. ⌜ OfShown (tablesIn (now (nodes .entry))) (λ rs. AddsAfter ((5, isList l) ∷ (7, taken l rs) ∷ []) s (E.DeleteList l) rec (r .reply) (r .rec)) ⌝ }
+fn delete_taken(rec: &mut [u8; RECORD], nodes: &[u8; 1280], s: usize, l: usize) -> Reply
+    requires { ⌜ (s ≤ 4) × (recordIn (now rec) .head < 32) ⌝ }
+    ensures { λ r. ⌜ OfShown (tablesIn (now (nodes .entry))) (λ rs. AddsAfter ((5, isList l) ∷ (7, taken l rs) ∷ []) s (E.DeleteList l) (recordIn (now (rec .entry))) r (recordIn (now (rec .exit)))) ⌝ }
 {
     if !is_list(l) {
-        let reply = Reply::Refused(Refusal::OutOfRange);
-        return Replied { rec, reply };
+        return Reply::Refused(Refusal::OutOfRange);
     }
     let list = l as u8;
     if !is_taken(nodes, list) {
-        let reply = Reply::Refused(Refusal::ListNotTaken);
-        return Replied { rec, reply };
+        return Reply::Refused(Refusal::ListNotTaken);
     }
     add(rec, s, LogEntry::DeleteList { list })
 }
@@ -42,17 +40,16 @@ pub fn delete_list(
     card: &[u8],
     queue_data: &[u8],
     journal_data: &[u8],
-    rec: Record,
+    rec: &mut [u8; RECORD],
     stream: usize,
     list: usize,
-) -> Replied
-    ensures { λ r. ⌜ ChangesRecord (onStream stream (deleteList list)) (now (card .entry)) (now (queue_data .entry)) (now (journal_data .entry)) rec (r .rec) (replyAnswer (r .reply)) ⌝ }
+) -> Reply
+    ensures { λ r. ⌜ ChangesRecord (onStream stream (deleteList list)) (now (card .entry)) (now (queue_data .entry)) (now (journal_data .entry)) (now (rec .entry)) (now (rec .exit)) (replyAnswer r) ⌝ }
 {
     let mut nodes = [0u8; 1280];
     match look_stream(card, queue_data, journal_data, rec, stream, &mut nodes) {
         Looked::Refused(x) => {
-            let reply = Reply::Refused(x);
-            return Replied { rec, reply };
+            return Reply::Refused(x);
         }
         Looked::Seen => {}
     }

@@ -1,7 +1,12 @@
 // The stores of a flush.
-use crate::replied::FlushReplied;
 use disk::answer::FlushReply;
+use disk::change::flow;
+use disk::record;
+use disk::record::RECORD;
 use disk::record::Record;
+use disk::record::head;
+use disk::record::len;
+use disk::record::queue_entry;
 use log::entry::LogEntry;
 use log::layout::SEGMENT;
 use log::layout::SLOT;
@@ -18,7 +23,7 @@ ghost use Rattle.log.specs.Entry.{mapEntry, asEntry};
 ghost use Rattle.log.specs.Store.{doStores, entryStores};
 ghost use Rattle.log.specs.promises.Within.{Storable};
 ghost use Rattle.log.specs.Turns.{AllInTurn};
-ghost use Rattle.disk.specs.Record.{withFlow};
+ghost use Rattle.disk.specs.Record.{recordIn, withFlow};
 ghost use Rattle.calls.specs.promises.Flushing.{HeadReady, Heads, Flushable, Flushes};
 
 // What a flush makes of the queue's head: it has no place; the allowance ended when so many of its stores were done; or it is on the card, with the
@@ -77,36 +82,36 @@ fn store_head(
     Headed::Drained(after(home, e), left)
 }
 
-// The reply of a flush, with the record when `gone` entries have left the queue and `done` stores of the next one are on the card.
-fn ended(rec: Record, gone: usize, done: usize, reply: FlushReply) -> FlushReplied
-    requires { ⌜ (gone ≤ rec .len) × (rec .len ≤ 32) × (rec .head < 32) ⌝ }
-    ensures { λ r. ⌜ r ≡ record { rec = withFlow rec ((rec .head + gone) % 32) (rec .len - gone) done; reply = reply } ⌝ }
+// The record when `gone` entries have left the queue and `done` stores of the next one are on the card.
+fn ended(rec: &mut [u8; RECORD], gone: usize, done: usize)
+    requires { ⌜ (gone ≤ recordIn (now rec) .len) × (recordIn (now rec) .len ≤ 32) × (recordIn (now rec) .head < 32) × (done < 65536) ⌝ }
+    ensures { λ r. ⌜ recordIn (now (rec .exit)) ≡ withFlow (recordIn (now (rec .entry))) ((recordIn (now (rec .entry)) .head + gone) % 32) (recordIn (now (rec .entry)) .len - gone) done ⌝ }
 {
-    let mut next = rec;
-    next.head = (rec.head + gone) % Record::QUEUE;
-    next.len = rec.len - gone;
-    next.done = done;
-    FlushReplied { rec: next, reply }
+    let first = (head(rec) + gone) % Record::QUEUE;
+    let left = len(rec) - gone;
+    flow(rec, first, left, done);
 }
 
 // The queue's stores, from the place behind the log on, until the flush ends.
 pub fn drain(
     card: &mut [u8],
     queue_data: &[u8],
-    rec: Record,
+    rec: &mut [u8; RECORD],
     behind: Place,
     allowance: usize,
-) -> FlushReplied
-    requires { ⌜ Flushable (now card) (now queue_data) rec behind ⌝ }
-    ensures { λ r. ⌜ Flushes allowance (now (card .entry)) (now (queue_data .entry)) rec (now (card .exit)) (r .rec) (r .reply) ⌝ }
+) -> FlushReply
+    requires { ⌜ Flushable (now card) (now queue_data) (recordIn (now rec)) behind ⌝ }
+    ensures { λ r. ⌜ Flushes allowance (now (card .entry)) (now (queue_data .entry)) (recordIn (now (rec .entry))) (now (card .exit)) (recordIn (now (rec .exit))) r ⌝ }
 {
+    let first = head(rec);
+    let entries = len(rec);
     let mut place = behind;
-    let mut done = rec.done;
+    let mut done = record::done(rec);
     let mut left = allowance;
     let mut gone = 0;
-    while gone < rec.len {
-        let at = (rec.head + gone) % Record::QUEUE;
-        let queued = rec.queue[at];
+    while gone < entries {
+        let at = (first + gone) % Record::QUEUE;
+        let queued = queue_entry(rec, at);
         let e = queued.entry;
         let data = SLOT * at;
         match store_head(
@@ -119,10 +124,12 @@ pub fn drain(
             left,
         ) {
             Headed::Full => {
-                return ended(rec, gone, done, FlushReply::Full(allowance - left));
+                ended(rec, gone, done);
+                return FlushReply::Full(allowance - left);
             }
             Headed::Spent(upto) => {
-                return ended(rec, gone, upto, FlushReply::Spent(allowance));
+                ended(rec, gone, upto);
+                return FlushReply::Spent(allowance);
             }
             Headed::Drained(next, stores) => {
                 place = next;
@@ -132,5 +139,6 @@ pub fn drain(
         done = 0;
         gone += 1;
     }
-    ended(rec, gone, done, FlushReply::Drained(allowance - left))
+    ended(rec, gone, done);
+    FlushReply::Drained(allowance - left)
 }

@@ -1,14 +1,18 @@
 // End: a unit closed, its journal queued whole or, at a conflict, dropped.
 use crate::enter::enter;
-use crate::replied::Replied;
 use disk::answer::Refusal;
 use disk::answer::Reply;
 use disk::change::append;
 use disk::change::count_conflict;
 use disk::change::empty;
 use disk::change::release;
+use disk::record::RECORD;
 use disk::record::Record;
 use disk::record::Unit;
+use disk::record::head;
+use disk::record::journal_entry;
+use disk::record::journal_len;
+use disk::record::len;
 use inspect::journal::enter_journal;
 use inspect::look::Looked;
 use log::copy::copy_in;
@@ -21,70 +25,62 @@ ghost use Prim.Native.Nat.{_+_, _≤_, _<_};
 ghost use lib.ListN.{length};
 ghost use Rattle.lists.specs.promises.Tables.{tablesIn};
 ghost use Rattle.log.specs.Entry.{legal, raw, member, asChange};
-ghost use Rattle.disk.specs.Record.{unitAt};
-ghost use Rattle.disk.specs.Disk.{disk};
+ghost use Rattle.disk.specs.Record.{recordIn, unitAt};
+ghost use Rattle.disk.specs.Disk.{diskIn};
 ghost use Rattle.disk.specs.Call.{end};
 ghost use Rattle.disk.specs.Answers.{replyAnswer};
 ghost use Rattle.calls.specs.promises.Ending.{closed, QueuesMember, Ready, QueuesUnit, Ends};
 ghost use Rattle.calls.specs.Performs.{Performs};
 
 // Unit u closed, its journal gone, its numbers released.
-fn close(rec: Record, u: usize) -> Record
+fn close(rec: &mut [u8; RECORD], u: usize)
     requires { ⌜ (1 ≤ u) × (u ≤ 4) ⌝ }
-    ensures { λ r. ⌜ r ≡ closed u rec ⌝ }
+    ensures { λ r. ⌜ recordIn (now (rec .exit)) ≡ closed u (recordIn (now (rec .entry))) ⌝ }
 {
-    let mut next = empty(rec, u, false);
-    let held = next.holder;
-    let left = release(held, u as u8);
-    next.holder = left;
-    next
+    empty(rec, u, false);
+    release(rec, u as u8);
 }
 
 // A journal's entry, its data at place k of the journal data, joins the queue as a member.
 fn queue_member(
     queue_data: &mut [u8],
     journal_data: &[u8],
-    rec: Record,
+    rec: &mut [u8; RECORD],
     e: LogEntry,
     k: usize,
-) -> Record
-    requires { ⌜ (length (now queue_data) ≡ 8192) × (length (now journal_data) ≡ 15360) × (rec .len < 32) × (rec .head < 32) × (k < 60) × (legal (raw 0 (member (asChange e))) ≡ true) ⌝ }
-    ensures { λ r. ⌜ QueuesMember (now (queue_data .entry)) (now (journal_data .entry)) rec e k (now (queue_data .exit)) r ⌝ }
+)
+    requires { ⌜ (length (now queue_data) ≡ 8192) × (length (now journal_data) ≡ 15360) × (recordIn (now rec) .len < 32) × (recordIn (now rec) .head < 32) × (k < 60) × (legal (raw 0 (member (asChange e))) ≡ true) ⌝ }
+    ensures { λ r. ⌜ QueuesMember (now (queue_data .entry)) (now (journal_data .entry)) (recordIn (now (rec .entry))) e k (now (queue_data .exit)) (recordIn (now (rec .exit))) ⌝ }
 {
     match e {
         LogEntry::Write { block, slot: _ } => {
-            let at = (rec.head + rec.len) % Record::QUEUE;
+            let at = (head(rec) + len(rec)) % Record::QUEUE;
             let start = SLOT * k;
             let stop = start + SLOT;
             copy_in(queue_data, SLOT * at, &journal_data[start..stop]);
-            append(rec, true, LogEntry::Write { block, slot: 0 })
+            append(rec, true, LogEntry::Write { block, slot: 0 });
         }
-        _ => append(rec, true, e),
+        _ => {
+            append(rec, true, e);
+        }
     }
 }
 
 // Unit u's journal joins the queue as members, then a commit.
-fn queue_unit(queue_data: &mut [u8], journal_data: &[u8], rec: Record, u: usize) -> Record
-    requires { ⌜ Ready (now queue_data) (now journal_data) rec u × (rec .len + unitAt rec u .len < 32) ⌝ }
-    ensures { λ r. ⌜ QueuesUnit (now (queue_data .entry)) (now (journal_data .entry)) rec u (now (queue_data .exit)) r ⌝ }
+fn queue_unit(queue_data: &mut [u8], journal_data: &[u8], rec: &mut [u8; RECORD], u: usize)
+    requires { ⌜ Ready (now queue_data) (now journal_data) (recordIn (now rec)) u × (recordIn (now rec) .len + unitAt (recordIn (now rec)) u .len < 32) ⌝ }
+    ensures { λ r. ⌜ QueuesUnit (now (queue_data .entry)) (now (journal_data .entry)) (recordIn (now (rec .entry))) u (now (queue_data .exit)) (recordIn (now (rec .exit))) ⌝ }
 {
-    let unit = rec.units[u - 1];
+    let entries = journal_len(rec, u);
     let first = (u - 1) * Unit::JOURNAL;
-    let mut next = rec;
     let mut k = 0;
-    while k < unit.len {
-        let journaled = unit.journal[k];
-        let e = journaled.entry;
-        next = queue_member(queue_data, journal_data, next, e, first + k);
+    while k < entries {
+        let e = journal_entry(rec, u, k);
+        queue_member(queue_data, journal_data, rec, e, first + k);
         k += 1;
     }
-    append(
-        next,
-        false,
-        LogEntry::Commit {
-            count: unit.len as u8,
-        },
-    )
+    let count = entries as u8;
+    append(rec, false, LogEntry::Commit { count });
 }
 
 // 12. Does every entry apply to the committed state, which the tables show? 13. Has the queue room? Refused 12 the unit is closed too.
@@ -92,29 +88,23 @@ fn end_unit(
     nodes: &mut [u8; 1280],
     queue_data: &mut [u8],
     journal_data: &[u8],
-    rec: Record,
+    rec: &mut [u8; RECORD],
     u: usize,
-) -> Replied
-    requires { ⌜ Ready (now queue_data) (now journal_data) rec u ⌝ }
-    ensures { λ r. ⌜ Ends (tablesIn (now (nodes .entry))) (now (queue_data .entry)) (now (journal_data .entry)) rec u (r .reply) (now (queue_data .exit)) (r .rec) ⌝ }
+) -> Reply
+    requires { ⌜ Ready (now queue_data) (now journal_data) (recordIn (now rec)) u ⌝ }
+    ensures { λ r. ⌜ Ends (tablesIn (now (nodes .entry))) (now (queue_data .entry)) (now (journal_data .entry)) (recordIn (now (rec .entry))) u r (now (queue_data .exit)) (recordIn (now (rec .exit))) ⌝ }
 {
-    let unit = rec.units[u - 1];
-    if !enter_journal(nodes, unit, u) {
-        let reply = Reply::Refused(Refusal::Conflict);
-        return Replied {
-            rec: count_conflict(close(rec, u)),
-            reply,
-        };
+    if !enter_journal(nodes, rec, u) {
+        close(rec, u);
+        count_conflict(rec);
+        return Reply::Refused(Refusal::Conflict);
     }
-    if Record::QUEUE <= rec.len + unit.len {
-        let reply = Reply::Refused(Refusal::QueueFull);
-        return Replied { rec, reply };
+    if Record::QUEUE <= len(rec) + journal_len(rec, u) {
+        return Reply::Refused(Refusal::QueueFull);
     }
-    let reply = Reply::Accepted;
-    Replied {
-        rec: close(queue_unit(queue_data, journal_data, rec, u), u),
-        reply,
-    }
+    queue_unit(queue_data, journal_data, rec, u);
+    close(rec, u);
+    Reply::Accepted
 }
 
 // Questions: 1 lengths, 3 record, 4 unit, 12 every entry applies, 13 queue.
@@ -122,16 +112,15 @@ pub fn end(
     card: &[u8],
     queue_data: &mut [u8],
     journal_data: &[u8],
-    rec: Record,
+    rec: &mut [u8; RECORD],
     unit: usize,
-) -> Replied
-    ensures { λ r. ⌜ Performs (end unit) (disk (now (card .entry)) (now (queue_data .entry)) (now (journal_data .entry)) rec) (disk (now (card .entry)) (now (queue_data .exit)) (now (journal_data .entry)) (r .rec)) (replyAnswer (r .reply)) [] ⌝ }
+) -> Reply
+    ensures { λ r. ⌜ Performs (end unit) (diskIn (now (card .entry)) (now (queue_data .entry)) (now (journal_data .entry)) (now (rec .entry))) (diskIn (now (card .entry)) (now (queue_data .exit)) (now (journal_data .entry)) (now (rec .exit))) (replyAnswer r) [] ⌝ }
 {
     let mut nodes = [0u8; 1280];
     match enter(card, queue_data, journal_data, rec, false, unit, &mut nodes) {
         Looked::Refused(x) => {
-            let reply = Reply::Refused(x);
-            return Replied { rec, reply };
+            return Reply::Refused(x);
         }
         Looked::Seen => {}
     }

@@ -1,7 +1,7 @@
 // The look-up of the lists taken.
 use disk::answer::NumberReply;
 use disk::answer::Refusal;
-use disk::record::Record;
+use disk::record::RECORD;
 use inspect::look::Looked;
 use inspect::look::look_view;
 use lists::tables::list_after;
@@ -23,11 +23,11 @@ pub fn inventory(
     card: &[u8],
     queue_data: &[u8],
     journal_data: &[u8],
-    rec: Record,
+    rec: &[u8; RECORD],
     view: usize,
     dest: &mut [u8],
 ) -> NumberReply
-    ensures { λ r. ⌜ ChangesNothing (call.inView view (call.inventory (now (dest .entry)))) (now (card .entry)) (now (queue_data .entry)) (now (journal_data .entry)) rec (numberAnswer r) (now (dest .exit)) ⌝ }
+    ensures { λ r. ⌜ ChangesNothing (call.inView view (call.inventory (now (dest .entry)))) (now (card .entry)) (now (queue_data .entry)) (now (journal_data .entry)) (now (rec .entry)) (numberAnswer r) (now (dest .exit)) ⌝ }
 {
     let mut nodes = [0u8; 1280];
     match look_view(card, queue_data, journal_data, rec, view, &mut nodes) {

@@ -18,5 +18,4 @@ pub mod new_list;
 pub mod next;
 mod ranges;
 pub mod read;
-pub mod replied;
 pub mod write;

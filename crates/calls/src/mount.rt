@@ -1,8 +1,8 @@
 // Mounting: the record becomes a fresh one, if the log is acceptable.
-use crate::replied::MountReplied;
 use disk::answer::MountReply;
 use disk::answer::Refusal;
-use disk::record::Record;
+use disk::change::renew;
+use disk::record::RECORD;
 use inspect::lengths::data_right;
 use log::mount::Mounted;
 ghost use Rattle.disk.specs.Call.{mount};
@@ -10,28 +10,23 @@ ghost use Rattle.disk.specs.Answers.{mountAnswer};
 ghost use Rattle.calls.specs.Performs.{ChangesRecord};
 
 // Questions: 1 lengths, of which the walk asks the card's, 2 log. The record is not looked at.
-pub fn mount(card: &[u8], queue_data: &[u8], journal_data: &[u8], rec: Record) -> MountReplied
-    ensures { λ r. ⌜ ChangesRecord mount (now (card .entry)) (now (queue_data .entry)) (now (journal_data .entry)) rec (r .rec) (mountAnswer (r .reply)) ⌝ }
+pub fn mount(
+    card: &[u8],
+    queue_data: &[u8],
+    journal_data: &[u8],
+    rec: &mut [u8; RECORD],
+) -> MountReply
+    ensures { λ r. ⌜ ChangesRecord mount (now (card .entry)) (now (queue_data .entry)) (now (journal_data .entry)) (now (rec .entry)) (now (rec .exit)) (mountAnswer r) ⌝ }
 {
     if !data_right(queue_data, journal_data) {
-        let reply = MountReply::Refused(Refusal::WrongLength);
-        return MountReplied { rec, reply };
+        return MountReply::Refused(Refusal::WrongLength);
     }
     match log::mount::mount(card) {
-        Mounted::WrongLength => {
-            let reply = MountReply::Refused(Refusal::WrongLength);
-            MountReplied { rec, reply }
-        }
-        Mounted::Fault(segment, entry) => {
-            let reply = MountReply::Fault { segment, entry };
-            MountReplied { rec, reply }
-        }
+        Mounted::WrongLength => MountReply::Refused(Refusal::WrongLength),
+        Mounted::Fault(segment, entry) => MountReply::Fault { segment, entry },
         Mounted::Sound(_) => {
-            let reply = MountReply::Accepted;
-            MountReplied {
-                rec: Record::fresh(),
-                reply,
-            }
+            renew(rec);
+            MountReply::Accepted
         }
     }
 }

@@ -1,9 +1,8 @@
 // NewBlock: a free block put on a list, first or behind another.
 use crate::enter::enter;
 use crate::give::put_free;
-use crate::replied::NumberReplied;
 use disk::answer::NumberReply;
-use disk::record::Record;
+use disk::record::RECORD;
 use inspect::look::Looked;
 ghost use Rattle.disk.specs.Call.{newBlock, onStream};
 ghost use Rattle.disk.specs.Answers.{numberAnswer};
@@ -14,12 +13,12 @@ pub fn new_block(
     card: &[u8],
     queue_data: &[u8],
     journal_data: &[u8],
-    rec: Record,
+    rec: &mut [u8; RECORD],
     stream: usize,
     list: usize,
     predecessor: usize,
-) -> NumberReplied
-    ensures { λ r. ⌜ ChangesRecord (onStream stream (newBlock list predecessor)) (now (card .entry)) (now (queue_data .entry)) (now (journal_data .entry)) rec (r .rec) (numberAnswer (r .reply)) ⌝ }
+) -> NumberReply
+    ensures { λ r. ⌜ ChangesRecord (onStream stream (newBlock list predecessor)) (now (card .entry)) (now (queue_data .entry)) (now (journal_data .entry)) (now (rec .entry)) (now (rec .exit)) (numberAnswer r) ⌝ }
 {
     let mut nodes = [0u8; 1280];
     match enter(
@@ -32,8 +31,7 @@ pub fn new_block(
         &mut nodes,
     ) {
         Looked::Refused(x) => {
-            let reply = NumberReply::Refused(x);
-            return NumberReplied { rec, reply };
+            return NumberReply::Refused(x);
         }
         Looked::Seen => {}
     }

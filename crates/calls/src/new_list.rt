@@ -1,9 +1,8 @@
 // NewList: a free list taken.
 use crate::enter::enter;
 use crate::give::take_list;
-use crate::replied::NumberReplied;
 use disk::answer::NumberReply;
-use disk::record::Record;
+use disk::record::RECORD;
 use inspect::look::Looked;
 ghost use Rattle.disk.specs.Call.{newList, onStream};
 ghost use Rattle.disk.specs.Answers.{numberAnswer};
@@ -14,10 +13,10 @@ pub fn new_list(
     card: &[u8],
     queue_data: &[u8],
     journal_data: &[u8],
-    rec: Record,
+    rec: &mut [u8; RECORD],
     stream: usize,
-) -> NumberReplied
-    ensures { λ r. ⌜ ChangesRecord (onStream stream newList) (now (card .entry)) (now (queue_data .entry)) (now (journal_data .entry)) rec (r .rec) (numberAnswer (r .reply)) ⌝ }
+) -> NumberReply
+    ensures { λ r. ⌜ ChangesRecord (onStream stream newList) (now (card .entry)) (now (queue_data .entry)) (now (journal_data .entry)) (now (rec .entry)) (now (rec .exit)) (numberAnswer r) ⌝ }
 {
     let mut nodes = [0u8; 1280];
     match enter(
@@ -30,8 +29,7 @@ pub fn new_list(
         &mut nodes,
     ) {
         Looked::Refused(x) => {
-            let reply = NumberReply::Refused(x);
-            return NumberReplied { rec, reply };
+            return NumberReply::Refused(x);
         }
         Looked::Seen => {}
     }

@@ -3,7 +3,7 @@ use crate::ranges::follows;
 use crate::ranges::is_position;
 use disk::answer::NumberReply;
 use disk::answer::Refusal;
-use disk::record::Record;
+use disk::record::RECORD;
 use inspect::look::Looked;
 use inspect::look::look_view;
 use lists::tables::block_after;
@@ -19,12 +19,12 @@ pub fn next(
     card: &[u8],
     queue_data: &[u8],
     journal_data: &[u8],
-    rec: Record,
+    rec: &[u8; RECORD],
     view: usize,
     list: usize,
     predecessor: usize,
 ) -> NumberReply
-    ensures { λ r. ⌜ ChangesNothing (inView view (blockAfter list predecessor)) (now (card .entry)) (now (queue_data .entry)) (now (journal_data .entry)) rec (numberAnswer r) [] ⌝ }
+    ensures { λ r. ⌜ ChangesNothing (inView view (blockAfter list predecessor)) (now (card .entry)) (now (queue_data .entry)) (now (journal_data .entry)) (now (rec .entry)) (numberAnswer r) [] ⌝ }
 {
     let mut nodes = [0u8; 1280];
     match look_view(card, queue_data, journal_data, rec, view, &mut nodes) {

@@ -2,7 +2,7 @@
 use crate::ranges::is_block;
 use disk::answer::Refusal;
 use disk::answer::Reply;
-use disk::record::Record;
+use disk::record::RECORD;
 use inspect::look::Looked;
 use inspect::look::look_view;
 use lists::tables::is_placed;
@@ -20,12 +20,12 @@ pub fn read(
     card: &[u8],
     queue_data: &[u8],
     journal_data: &[u8],
-    rec: Record,
+    rec: &[u8; RECORD],
     view: usize,
     block: usize,
     dest: &mut [u8],
 ) -> Reply
-    ensures { λ r. ⌜ ChangesNothing (inView view (readBlock block (now (dest .entry)))) (now (card .entry)) (now (queue_data .entry)) (now (journal_data .entry)) rec (replyAnswer r) (now (dest .exit)) ⌝ }
+    ensures { λ r. ⌜ ChangesNothing (inView view (readBlock block (now (dest .entry)))) (now (card .entry)) (now (queue_data .entry)) (now (journal_data .entry)) (now (rec .entry)) (replyAnswer r) (now (dest .exit)) ⌝ }
 {
     let mut nodes = [0u8; 1280];
     match look_view(card, queue_data, journal_data, rec, view, &mut nodes) {

@@ -1,11 +1,14 @@
 // Write: 256 bytes that a block is to hold, added on a stream.
 use crate::add::add;
 use crate::ranges::is_block;
-use crate::replied::Replied;
 use disk::answer::Refusal;
 use disk::answer::Reply;
+use disk::record::RECORD;
 use disk::record::Record;
 use disk::record::Unit;
+use disk::record::head;
+use disk::record::journal_len;
+use disk::record::len;
 use inspect::look::Looked;
 use inspect::look::look_stream;
 use lists::tables::is_placed;
@@ -24,46 +27,47 @@ ghost use Rattle.lists.specs.promises.Tables.{tablesIn, OfShown};
 ghost use Rattle.log.specs.declared.entry.LogEntry.the-variants as E;
 ghost use Rattle.log.specs.Card.{slotBytes};
 ghost use Rattle.log.specs.Entry.{isBlock};
-ghost use Rattle.disk.specs.Disk.{disk};
+ghost use Rattle.disk.specs.Record.{recordIn};
+ghost use Rattle.disk.specs.Disk.{diskIn};
 ghost use Rattle.disk.specs.Call.{writeBlock, onStream};
 ghost use Rattle.disk.specs.Answers.{replyAnswer};
-ghost use Rattle.calls.specs.promises.Adds.{AddsAfter, Copies, HasPlace};
+ghost use Rattle.calls.specs.promises.Adds.{AddsAfter, InRange, placeNext, Copies, HasPlace};
 ghost use Rattle.calls.specs.Performs.{Performs};
 
-// The content goes to the place of the entry that the stream takes next.
-fn copy_content(
-    queue_data: &mut [u8],
-    journal_data: &mut [u8],
-    rec: Record,
-    s: usize,
-    content: &[u8],
-)
-    requires { ⌜ (length (now queue_data) ≡ 8192) × (length (now journal_data) ≡ 15360) × (length (now content) ≡ 256) × HasPlace s rec ⌝ }
-    ensures { λ r. ⌜ Copies s rec (now (content .entry)) (now (queue_data .entry)) (now (journal_data .entry)) (now (queue_data .exit)) (now (journal_data .exit)) ⌝ }
+// The place of the data of the entry that the stream takes next.
+fn place_next(rec: &[u8; RECORD], s: usize) -> usize
+    requires { ⌜ InRange s (recordIn (now rec)) ⌝ }
+    ensures { λ r. ⌜ r ≡ placeNext s (recordIn (now (rec .entry))) ⌝ }
 {
     if s == 0 {
-        let at = (rec.head + rec.len) % Record::QUEUE;
+        return (head(rec) + len(rec)) % Record::QUEUE;
+    }
+    (s - 1) * Unit::JOURNAL + journal_len(rec, s)
+}
+
+// The content goes to that place.
+fn copy_content(queue_data: &mut [u8], journal_data: &mut [u8], s: usize, at: usize, content: &[u8])
+    requires { ⌜ (length (now queue_data) ≡ 8192) × (length (now journal_data) ≡ 15360) × (length (now content) ≡ 256) × HasPlace s at ⌝ }
+    ensures { λ r. ⌜ Copies s at (now (content .entry)) (now (queue_data .entry)) (now (journal_data .entry)) (now (queue_data .exit)) (now (journal_data .exit)) ⌝ }
+{
+    if s == 0 {
         copy_in(queue_data, SLOT * at, content);
         return;
     }
-    let unit = rec.units[s - 1];
-    let at = (s - 1) * Unit::JOURNAL + unit.len;
     copy_in(journal_data, SLOT * at, content);
 }
 
 // Questions 5, 8, 11 and 13, over the stream's view; n bytes are lent.
-fn write_placed(rec: Record, nodes: &[u8; 1280], s: usize, b: usize, n: usize) -> Replied
-    requires { ⌜ (s ≤ 4) × (rec .head < 32) ⌝ }
-    ensures { λ r. ⌜ OfShown (tablesIn (now (nodes .entry))) (λ rs. AddsAfter ((5, isBlock b && eqb n slotBytes) ∷ (8, placed b rs) ∷ []) s (E.Write b 0) rec (r .reply) (r .rec)) ⌝ }
+fn write_placed(rec: &mut [u8; RECORD], nodes: &[u8; 1280], s: usize, b: usize, n: usize) -> Reply
+    requires { ⌜ (s ≤ 4) × (recordIn (now rec) .head < 32) ⌝ }
+    ensures { λ r. ⌜ OfShown (tablesIn (now (nodes .entry))) (λ rs. AddsAfter ((5, isBlock b && eqb n slotBytes) ∷ (8, placed b rs) ∷ []) s (E.Write b 0) (recordIn (now (rec .entry))) r (recordIn (now (rec .exit)))) ⌝ }
 {
     if !both(is_block(b), n == SLOT) {
-        let reply = Reply::Refused(Refusal::OutOfRange);
-        return Replied { rec, reply };
+        return Reply::Refused(Refusal::OutOfRange);
     }
     let block = b as u8;
     if !is_placed(nodes, block) {
-        let reply = Reply::Refused(Refusal::BlockNotPlaced);
-        return Replied { rec, reply };
+        return Reply::Refused(Refusal::BlockNotPlaced);
     }
     add(rec, s, LogEntry::Write { block, slot: 0 })
 }
@@ -73,26 +77,25 @@ pub fn write(
     card: &[u8],
     queue_data: &mut [u8],
     journal_data: &mut [u8],
-    rec: Record,
+    rec: &mut [u8; RECORD],
     stream: usize,
     block: usize,
     content: &[u8],
-) -> Replied
-    ensures { λ r. ⌜ Performs (onStream stream (writeBlock block (now (content .entry)))) (disk (now (card .entry)) (now (queue_data .entry)) (now (journal_data .entry)) rec) (disk (now (card .entry)) (now (queue_data .exit)) (now (journal_data .exit)) (r .rec)) (replyAnswer (r .reply)) [] ⌝ }
+) -> Reply
+    ensures { λ r. ⌜ Performs (onStream stream (writeBlock block (now (content .entry)))) (diskIn (now (card .entry)) (now (queue_data .entry)) (now (journal_data .entry)) (now (rec .entry))) (diskIn (now (card .entry)) (now (queue_data .exit)) (now (journal_data .exit)) (now (rec .exit))) (replyAnswer r) [] ⌝ }
 {
     let mut nodes = [0u8; 1280];
     match look_stream(card, queue_data, journal_data, rec, stream, &mut nodes) {
         Looked::Refused(x) => {
-            let reply = Reply::Refused(x);
-            return Replied { rec, reply };
+            return Reply::Refused(x);
         }
         Looked::Seen => {}
     }
-    let written = write_placed(rec, &nodes, stream, block, content.len());
-    let reply = written.reply;
+    let at = place_next(rec, stream);
+    let reply = write_placed(rec, &nodes, stream, block, content.len());
     match reply {
-        Reply::Accepted => copy_content(queue_data, journal_data, rec, stream, content),
+        Reply::Accepted => copy_content(queue_data, journal_data, stream, at, content),
         Reply::Refused(_) => {}
     }
-    written
+    reply
 }

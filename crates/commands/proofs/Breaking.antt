@@ -11,7 +11,7 @@ use Rattle.disk.specs.declared.answer.Refusal.{Refusal}
 use Rattle.disk.specs.declared.answer.Refusal.the-variants.{WrongLength}
 use Rattle.disk.specs.declared.answer.NumberReply.{NumberReply}
 use Rattle.disk.specs.declared.answer.NumberReply.the-variants.{Number, Refused}
-use Rattle.disk.specs.Disk.{Disk, disk}
+use Rattle.disk.specs.Disk.{Disk, diskIn}
 use Rattle.disk.specs.Sound.{lengthsRight}
 use Rattle.disk.specs.Call.{flush, ends}
 use Rattle.disk.specs.Questions.{questions, ask, firstNo, refusal}
@@ -25,7 +25,7 @@ use Rattle.text.proofs.Lines.{take-least}
 use Rattle.commands.specs.declared.state.State.{State}
 use Rattle.commands.specs.declared.state.Ran.{Ran}
 use Rattle.commands.specs.Shell.{shellOf, withDisk, lentDisk}
-use Rattle.commands.specs.Cut.{unsoundRecord, lost, cutOff, cutAllowance, Broken, brokenFlush, brokenFormat, cutShort, Breaks, Loses}
+use Rattle.commands.specs.Cut.{unsoundBytes, lost, cutOff, cutAllowance, Broken, brokenFlush, brokenFormat, cutShort, Breaks, Loses}
 use Rattle.commands.specs.Ran.{Fits, Runs}
 use Rattle.commands.proofs.Lending.{lent-disk, card-back, card-behind, fits-back}
 
@@ -60,7 +60,7 @@ module _ (k : ℕ) (d : Disk) where
 
 -- The lent bytes of the card are the first n of a longer buffer.
 module _ (c : List ℕ) (s : State) (f : Fits c s) (n : ℕ) (many : n ≡ min (min (s .card) (s .size)) (length c)) where
-  pub disk-lent : (q j : List ℕ) → lentDisk (shellOf c q j s) ≡ disk (take n c) (slice 0 (s .queue) q) (slice 0 (s .journal) j) (s .rec)
+  pub disk-lent : (q j : List ℕ) → lentDisk (shellOf c q j s) ≡ diskIn (take n c) (slice 0 (s .queue) q) (slice 0 (s .journal) j) (s .rec)
   disk-lent q j = lent-disk c q j s ∙ rw (many, take-least (min (s .card) (s .size)) c)
 
   module _ (x : List ℕ) (e : length x ≡ length (take n c)) where
@@ -73,7 +73,7 @@ module _ (c : List ℕ) (s : State) (f : Fits c s) (n : ℕ) (many : n ≡ min (
       unfolding Breaks Loses cutShort cutOff leaves lost
       cut-made k (h, m, z) (t, u, v, p) =
           rw (h, m, z, t, u, v) (record {
-            shell = ap (λ (y : List ℕ). withDisk (shellOf c q j s) (disk y (replicate (length q) 165) (replicate (length j) 165) unsoundRecord)) (card-back c s f n many x e);
+            shell = ap (λ (y : List ℕ). withDisk (shellOf c q j s) (diskIn y (replicate (length q) 165) (replicate (length j) 165) unsoundBytes)) (card-back c s f n many x e);
             text = p;
             behind = card-behind c s f n many x e;
             fits = let g = fits-back c s f n many x e in record { longest = g .longest; whole = g .whole };

@@ -1,9 +1,9 @@
 -- The commands are the events of demand 3: a call, on what is lent (`call-event`); where all is lent, a cut between calls (`cut-event`), inside a flush
--- (`flush-event`) or inside a formatting (`format-event`), which leaves 165 in each byte of the rest and a record that is not sound.
+-- (`flush-event`) or inside a formatting (`format-event`), which leaves 165 in each byte of the rest, and so a record that is not sound (`lost-unsound`).
 use mathlib.Core.Path.{_≡_, refl, sym, ap, _∙_}
-use mathlib.Core.Bool.{Bool, true}
+use mathlib.Core.Bool.{Bool, false, and-false}
 use mathlib.Core.List.{List, [], _++_, append-nil}
-use Prim.Native.Nat.{ℕ, zero, suc, _≤_, min}
+use Prim.Native.Nat.{ℕ, _≤_, min}
 use native.Mathlib.Omega.{arith}
 use native.Mathlib.Decide.{decLe}
 use native.Mathlib.Nat.{zero-add}
@@ -12,22 +12,24 @@ use lib.Seq.{take-all}
 use Rattle.log.specs.Card.{segmentsIn}
 use Rattle.log.specs.Store.{Store, doStores, formatStores}
 use Rattle.log.proofs.Formatting.{format-length}
+use Rattle.lists.specs.Basic.{each}
+use Rattle.disk.specs.Record.{recordIn, shaped}
 use Rattle.disk.specs.Disk.{Disk, disk}
-use Rattle.disk.specs.Call.{Call, flush, format}
-use Rattle.disk.specs.Questions.{questions, refusal}
+use Rattle.disk.specs.Sound.{recordSound}
+use Rattle.disk.specs.Call.{Call, flush}
+use Rattle.disk.specs.Questions.{questions}
 use Rattle.disk.specs.Perform.{perform, accepted, flushed, formatted, afterFlush}
 use Rattle.disk.proofs.Questions.{yes-all}
 use Rattle.disk.proofs.Clauses.{Right, right}
 use Rattle.disk.proofs.Performing.{perform-accepted}
-use Rattle.disk.proofs.Draining.{left}
 use Rattle.disk.specs.Statements.{todo}
 use Rattle.disk.proofs.Sequence.{flush-stored}
 use Rattle.crash.specs.Event.{World, step, leaves, partOf, putBack, lend}
 use Rattle.crash.specs.Event as E
-use Rattle.commands.specs.Shell.{Shell, withDisk, firstBytes, partsLent, lentDisk, afterCall}
+use Rattle.commands.specs.Shell.{Shell, partsLent, lentDisk, afterCall}
 use Rattle.commands.specs.Called.{called}
 use Rattle.commands.proofs.Accepted.{code-accepted}
-use Rattle.commands.specs.Cut.{Broken, lost, cutOff, cutBetween, cutAllowance, brokenFlush, brokenFormat, cutShort, cutFlush, cutFormat}
+use Rattle.commands.specs.Cut.{Broken, unsoundBytes, unsoundRecord, lost, cutOff, cutBetween, cutAllowance, brokenFlush, brokenFormat, cutShort, cutFlush, cutFormat}
 
 abbrev worldOf : Shell → Bool → World
 worldOf s b = record { disk = s .disk; down = b }
@@ -35,6 +37,11 @@ worldOf s b = record { disk = s .disk; down = b }
 pub call-event : (c : Call) (s : Shell) (b : Bool) → called c s .shell .disk ≡ step (worldOf s b) (E.called c (partsLent s)) .disk
 unfolding called afterCall lentDisk step
 call-event c s b = refl
+
+-- more entries than places
+pub lost-unsound : (c : List ℕ) (d : Disk) → recordSound (leaves c (lost d)) ≡ false
+unfolding recordSound leaves lost recordIn unsoundBytes each
+lost-unsound c d = and-false (shaped unsoundRecord)
 
 pub cut-event : (s : Shell) (b : Bool) → cutBetween s .shell .disk ≡ step (worldOf s b) (E.cutBetween (lost (s .disk))) .disk
 unfolding cutBetween step

@@ -7,7 +7,7 @@ use native.Mathlib.Decide.{decLe}
 use native.Mathlib.Nat.{min-eq-left, zero-add}
 use lib.ListN.{length, take, drop, replicate, length-take, drop-of-length-le}
 use lib.Seq.{length-take-le, length-front, take-all, take-at, take-take, take-add, take-append-add, drop-at, drop-append-add, drop-drop, sets-eq}
-use Rattle.disk.specs.Disk.{disk}
+use Rattle.disk.specs.Disk.{diskIn}
 use Rattle.crash.specs.Event.{partOf, putBack, lend}
 use Rattle.text.specs.Written.{written}
 use Rattle.text.proofs.Lines.{drop-least}
@@ -66,7 +66,7 @@ take-min k m c = go (decLe k m)
         rw e (sym (take-all k (take m c) (omega (arith, length-take m c))))
 
 -- what a call is lent
-pub lent-disk : (c q j : List ℕ) (s : State) → lentDisk (shellOf c q j s) ≡ disk (take (min (s .card) (s .size)) c) (take (s .queue) q) (take (s .journal) j) (s .rec)
+pub lent-disk : (c q j : List ℕ) (s : State) → lentDisk (shellOf c q j s) ≡ diskIn (take (min (s .card) (s .size)) c) (take (s .queue) q) (take (s .journal) j) (s .rec)
 unfolding lentDisk lend partOf
 lent-disk c q j s = rw (take-min (s .card) (s .size) c)
 

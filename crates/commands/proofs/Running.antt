@@ -6,8 +6,7 @@ use native.Mathlib.Omega.{arith}
 use borrow.Author.Tests.{lt-ltb, le-ltb}
 use lib.ListN.{length, take, drop, set, replicate, length-take, length-replicate, length-set}
 use lib.Seq.{take-at, take-set-lt, drop-set-lt}
-use Rattle.disk.specs.declared.record.Record.{Record}
-use Rattle.disk.specs.Disk.{Disk, disk}
+use Rattle.disk.specs.Disk.{Disk, diskIn}
 use Rattle.disk.specs.Call.{Call}
 use Rattle.disk.specs.Perform.{perform}
 use Rattle.crash.specs.Event.{giveBack, leaves}
@@ -18,7 +17,7 @@ use Rattle.commands.specs.declared.state.State.{State}
 use Rattle.commands.specs.declared.state.Ran.{Ran}
 use Rattle.commands.specs.Shell.{Printed, shellOf, lentDisk, afterCall}
 use Rattle.commands.specs.Called.{called, Calls}
-use Rattle.commands.specs.Cut.{unsoundRecord, lost, cutBetween}
+use Rattle.commands.specs.Cut.{unsoundBytes, lost, cutBetween}
 use Rattle.commands.specs.Ran.{longestCard, ok, unknown, inserted, poked, Fits, Runs}
 use Rattle.commands.proofs.Lending.{replaced-behind, replaced-length, lent-disk, card-back, card-behind, fits-back, buffer-back}
 
@@ -33,7 +32,7 @@ runs {c} {c′ = c′} {q′} {j′} p s r k f b e t = record {
 }
 
 -- a call on what is lent
-module _ (c q j : List ℕ) (s : State) (f : Fits c s) (u v w : List ℕ) (r : Record) where
+module _ (c q j : List ℕ) (s : State) (f : Fits c s) (u v w r : List ℕ) where
   abbrev cardLent : ℕ
   cardLent = min (min (s .card) (s .size)) (length c)
 
@@ -46,16 +45,16 @@ module _ (c q j : List ℕ) (s : State) (f : Fits c s) (u v w : List ℕ) (r : R
   abbrev after : State
   after = record { rec = r; size = s .size; card = s .card; queue = s .queue; journal = s .journal }
 
-  lent-whole : disk (take cardLent c) (take queueLent q) (take journalLent j) (s .rec) ≡ lentDisk (shellOf c q j s)
+  lent-whole : diskIn (take cardLent c) (take queueLent q) (take journalLent j) (s .rec) ≡ lentDisk (shellOf c q j s)
   lent-whole = rw (take-least (min (s .card) (s .size)) c, take-least (s .queue) q, take-least (s .journal) j) (sym (lent-disk c q j s))
 
   pub lent-runs : {out out′ : List ℕ} {at : ℕ} (x : Call) (a : Ran) → length u ≡ length (take cardLent c) → a .state ≡ after
-      → Calls x (disk (take cardLent c) (take queueLent q) (take journalLent j) (s .rec)) (disk u v w r) out at out′ (a .at)
+      → Calls x (diskIn (take cardLent c) (take queueLent q) (take journalLent j) (s .rec)) (diskIn u v w r) out at out′ (a .at)
       → Runs (called x (shellOf c q j s)) c out at (u ++ drop cardLent c) (v ++ drop queueLent q) (w ++ drop journalLent j) out′ a
   unfolding called afterCall giveBack
   lent-runs x a e k t =
       let g = fits-back c s f cardLent refl u e in
-      let back : disk u v w r ≡ perform x (lentDisk (shellOf c q j s)) .disk = t .left ∙ ap (λ (d : Disk). perform x d .disk) lent-whole in
+      let back : diskIn u v w r ≡ perform x (lentDisk (shellOf c q j s)) .disk = t .left ∙ ap (λ (d : Disk). perform x d .disk) lent-whole in
       runs (called x (shellOf c q j s)) after a k
       (record { longest = g .longest; whole = g .whole })
       (card-behind c s f cardLent refl u e)
@@ -64,7 +63,7 @@ module _ (c q j : List ℕ) (s : State) (f : Fits c s) (u v w : List ℕ) (r : R
 
 -- another card
 pub inserted-runs : (n b : ℕ) (c q j : List ℕ) (s : State) {out out′ : List ℕ} {at : ℕ} (r : Ran) → longestCard ≤ length c
-    → r .state ≡ record { rec = unsoundRecord; size = min n longestCard; card = min n longestCard; queue = 8192; journal = 15360 } → Puts out at (bytes "ok" ++ 10 ∷ []) out′ (r .at)
+    → r .state ≡ record { rec = unsoundBytes; size = min n longestCard; card = min n longestCard; queue = 8192; journal = 15360 } → Puts out at (bytes "ok" ++ 10 ∷ []) out′ (r .at)
     → Runs (ok (inserted n b (shellOf c q j s))) c out at (replicate (min n longestCard) (b % 256) ++ drop (min n longestCard) c) (replicate (length q) 165) (replicate (length j) 165) out′ r
 unfolding inserted lost leaves
 inserted-runs n b c q j s r h k t =
@@ -80,7 +79,7 @@ inserted-runs n b c q j s r h k t =
 
 -- a power cut between calls
 pub cut-runs : (c q j : List ℕ) (s : State) {out out′ : List ℕ} {at : ℕ} (r : Ran) → Fits c s
-    → r .state ≡ record { rec = unsoundRecord; size = s .size; card = s .card; queue = s .queue; journal = s .journal } → Puts out at (bytes "cut" ++ 10 ∷ []) out′ (r .at)
+    → r .state ≡ record { rec = unsoundBytes; size = s .size; card = s .card; queue = s .queue; journal = s .journal } → Puts out at (bytes "cut" ++ 10 ∷ []) out′ (r .at)
     → Runs (cutBetween (shellOf c q j s)) c out at c (replicate (length q) 165) (replicate (length j) 165) out′ r
 unfolding cutBetween lost leaves
 cut-runs c q j s r f k t = runs (cutBetween (shellOf c q j s)) _ r k (record { longest = f .longest; whole = f .whole }) refl refl t

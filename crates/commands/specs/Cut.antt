@@ -6,8 +6,7 @@ use Prim.Native.Nat.{ℕ, min}
 use lib.Dec.{eqb, leb}
 use lib.ListN.{length, replicate}
 use Rattle.log.specs.Card.{segmentsIn}
-use Rattle.disk.specs.declared.record.Record.{Record}
-use Rattle.disk.specs.Record.{freshRecord, withFlow, queuePlaces}
+use Rattle.disk.specs.Record.{Record, recordIn}
 use Rattle.disk.specs.Disk.{Disk}
 use Rattle.disk.specs.Call.{format, flush}
 use Rattle.disk.specs.Questions.{refusal}
@@ -23,9 +22,12 @@ use Rattle.commands.specs.declared.state.State.{State}
 use Rattle.commands.specs.declared.state.Ran.{Ran}
 use Rattle.commands.specs.Shell.{Shell, Printed, printed, withDisk, firstBytes, lentDisk}
 
--- a head outside the ring
-unfoldable pub unsoundRecord : Record
-unsoundRecord = withFlow freshRecord queuePlaces 0 0
+-- a record whose bytes are all 165: its queue has 32 places, and the head and the length are 165
+unfoldable pub unsoundBytes : List ℕ
+unsoundBytes = replicate 448 165
+
+abbrev pub unsoundRecord : Record
+unsoundRecord = recordIn unsoundBytes
 
 -- "both data buffers become all 165, the record one that is not sound"
 unfoldable pub lost : Disk → Rest
@@ -80,6 +82,6 @@ Breaks b c c′ (Refused x) = (b .code ≡ number x) × (c ≡ c′)
 -- the reply is printed, and the rest is lost unless it is a refusal
 unfoldable pub Loses : NumberReply → List ℕ → List ℕ → State → List ℕ → ℕ → List ℕ → List ℕ → List ℕ → Ran → Type 0
 Loses (Number k) q j s out at q′ j′ out′ r =
-    (r .state ≡ record { rec = unsoundRecord; size = s .size; card = s .card; queue = s .queue; journal = s .journal })
+    (r .state ≡ record { rec = unsoundBytes; size = s .size; card = s .card; queue = s .queue; journal = s .journal })
     × (q′ ≡ replicate (length q) 165) × (j′ ≡ replicate (length j) 165) × Puts out at (cutLine k) out′ (r .at)
 Loses (Refused x) q j s out at q′ j′ out′ r = (r .state ≡ s) × (q ≡ q′) × (j ≡ j′) × Puts out at (numberLine (number x)) out′ (r .at)

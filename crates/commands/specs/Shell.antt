@@ -2,7 +2,7 @@
 use mathlib.Core.List.{List}
 use Prim.Native.Nat.{ℕ}
 use lib.ListN.{take}
-use Rattle.disk.specs.Disk.{Disk, disk}
+use Rattle.disk.specs.Disk.{Disk, diskIn}
 use Rattle.crash.specs.Event.{Part, Parts, lend, giveBack}
 use Rattle.commands.specs.declared.state.State.{State}
 
@@ -15,7 +15,7 @@ pub record Shell : Type 0 where
 
 -- the buffers and the state in code: the card is the first bytes of a longer buffer
 abbrev pub shellOf : List ℕ → List ℕ → List ℕ → State → Shell
-shellOf c q j s = record { disk = disk (take (s .size) c) q j (s .rec); lentCard = s .card; lentQueue = s .queue; lentJournal = s .journal }
+shellOf c q j s = record { disk = diskIn (take (s .size) c) q j (s .rec); lentCard = s .card; lentQueue = s .queue; lentJournal = s .journal }
 
 abbrev pub withDisk : Shell → Disk → Shell
 withDisk s d = record { disk = d; lentCard = s .lentCard; lentQueue = s .lentQueue; lentJournal = s .lentJournal }

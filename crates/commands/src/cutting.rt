@@ -9,7 +9,7 @@ use calls::flush::ALLOWANCE;
 use disk::answer::FlushReply;
 use disk::answer::NumberReply;
 use disk::answer::Refusal;
-use disk::record::Record;
+use disk::record::RECORD;
 use inspect::lengths::lengths_right;
 use log::layout::SEGMENT;
 use log::store::format_stores;
@@ -18,8 +18,8 @@ use script::lines::put_number;
 use script::replies::number_of;
 use text::line::part;
 ghost use mathlib.Core.Path.{_≡_};
-ghost use Rattle.disk.specs.declared.record.Record.{Record};
-ghost use Rattle.disk.specs.Disk.{disk};
+ghost use Rattle.disk.specs.Record.{Record};
+ghost use Rattle.disk.specs.Disk.{disk, diskIn};
 ghost use Rattle.commands.specs.Shell.{shellOf};
 ghost use Rattle.commands.specs.Cut.{cutAllowance, brokenFlush, brokenFormat, cutFlush, cutFormat, Breaks, Loses};
 ghost use Rattle.commands.specs.Ran.{Fits, Runs};
@@ -38,12 +38,12 @@ pub fn cut_flush(
     ensures { λ r. ⌜ Runs (cutFlush allowance stores (shellOf (now (card .entry)) (now (queue .entry)) (now (journal .entry)) state)) (now (card .entry)) (now (out .entry)) at (now (card .exit)) (now (queue .exit)) (now (journal .exit)) (now (out .exit)) r ⌝ }
 {
     let n = within(least(state.card, state.size), card);
-    let rec = state.rec;
+    let mut rec = state.rec;
     let broken = broken_flush(
         &mut card[..n],
         part(queue, 0, state.queue),
         part(journal, 0, state.journal),
-        rec,
+        &mut rec,
         allowance,
         stores,
     );
@@ -55,15 +55,13 @@ fn broken_flush(
     card: &mut [u8],
     queue: &[u8],
     journal: &[u8],
-    rec: Record,
+    rec: &mut [u8; RECORD],
     allowance: usize,
     stores: usize,
 ) -> NumberReply
-    ensures { λ r. ⌜ Breaks (brokenFlush allowance stores (disk (now (card .entry)) (now (queue .entry)) (now (journal .entry)) rec)) (now (card .entry)) (now (card .exit)) r ⌝ }
+    ensures { λ r. ⌜ Breaks (brokenFlush allowance stores (diskIn (now (card .entry)) (now (queue .entry)) (now (journal .entry)) (now (rec .entry)))) (now (card .entry)) (now (card .exit)) r ⌝ }
 {
-    let done = calls::flush::flush(card, queue, journal, rec, cut_allowance(allowance, stores));
-    let reply = done.reply;
-    match reply {
+    match calls::flush::flush(card, queue, journal, rec, cut_allowance(allowance, stores)) {
         FlushReply::Drained(k) => NumberReply::Number(k),
         FlushReply::Full(k) => NumberReply::Number(k),
         FlushReply::Spent(k) => NumberReply::Number(k),

@@ -2,14 +2,14 @@
 use crate::state::within;
 use disk::answer::NumberReply;
 use disk::answer::Reply;
-use disk::record::Record;
+use disk::record::RECORD;
 use script::command::Look;
 use script::replies::put_inventory;
 use script::replies::put_numbered;
 use script::replies::put_read;
 use text::line::part;
 ghost use lib.ListN.{take};
-ghost use Rattle.disk.specs.Disk.{disk};
+ghost use Rattle.disk.specs.Disk.{diskIn};
 ghost use Rattle.disk.specs.Call as call;
 ghost use Rattle.disk.specs.Answers.{replyAnswer, numberAnswer};
 ghost use Rattle.calls.specs.Performs.{Performs};
@@ -24,11 +24,11 @@ pub fn look(
     card: &[u8],
     queue: &[u8],
     journal: &[u8],
-    rec: Record,
+    rec: &[u8; RECORD],
     out: &mut [u8],
     at: usize,
 ) -> usize
-    ensures { λ r. ⌜ Calls (call.inView view (lookOf l)) (disk (now (card .entry)) (now (queue .entry)) (now (journal .entry)) rec) (disk (now (card .entry)) (now (queue .entry)) (now (journal .entry)) rec) (now (out .entry)) at (now (out .exit)) r ⌝ }
+    ensures { λ r. ⌜ Calls (call.inView view (lookOf l)) (diskIn (now (card .entry)) (now (queue .entry)) (now (journal .entry)) (now (rec .entry))) (diskIn (now (card .entry)) (now (queue .entry)) (now (journal .entry)) (now (rec .entry))) (now (out .entry)) at (now (out .exit)) r ⌝ }
 {
     match l {
         Look::Read { block, lent } => read(
@@ -64,14 +64,14 @@ fn read(
     card: &[u8],
     queue: &[u8],
     journal: &[u8],
-    rec: Record,
+    rec: &[u8; RECORD],
     view: usize,
     block: usize,
     lent: usize,
     out: &mut [u8],
     at: usize,
 ) -> usize
-    ensures { λ r. ⌜ Calls (call.inView view (call.readBlock block (bytesLent lent))) (disk (now (card .entry)) (now (queue .entry)) (now (journal .entry)) rec) (disk (now (card .entry)) (now (queue .entry)) (now (journal .entry)) rec) (now (out .entry)) at (now (out .exit)) r ⌝ }
+    ensures { λ r. ⌜ Calls (call.inView view (call.readBlock block (bytesLent lent))) (diskIn (now (card .entry)) (now (queue .entry)) (now (journal .entry)) (now (rec .entry))) (diskIn (now (card .entry)) (now (queue .entry)) (now (journal .entry)) (now (rec .entry))) (now (out .entry)) at (now (out .exit)) r ⌝ }
 {
     let mut content = [0u8; PART];
     let reply = read_part(card, queue, journal, rec, view, block, lent, &mut content);
@@ -83,13 +83,13 @@ fn read_part(
     card: &[u8],
     queue: &[u8],
     journal: &[u8],
-    rec: Record,
+    rec: &[u8; RECORD],
     view: usize,
     block: usize,
     lent: usize,
     content: &mut [u8],
 ) -> Reply
-    ensures { λ r. ⌜ Performs (call.inView view (call.readBlock block (take lent (now (content .entry))))) (disk (now (card .entry)) (now (queue .entry)) (now (journal .entry)) rec) (disk (now (card .entry)) (now (queue .entry)) (now (journal .entry)) rec) (replyAnswer r) (take lent (now (content .exit))) ⌝ }
+    ensures { λ r. ⌜ Performs (call.inView view (call.readBlock block (take lent (now (content .entry))))) (diskIn (now (card .entry)) (now (queue .entry)) (now (journal .entry)) (now (rec .entry))) (diskIn (now (card .entry)) (now (queue .entry)) (now (journal .entry)) (now (rec .entry))) (replyAnswer r) (take lent (now (content .exit))) ⌝ }
 {
     let n = within(lent, content);
     calls::read::read(card, queue, journal, rec, view, block, &mut content[..n])
@@ -99,13 +99,13 @@ fn inventory(
     card: &[u8],
     queue: &[u8],
     journal: &[u8],
-    rec: Record,
+    rec: &[u8; RECORD],
     view: usize,
     lent: usize,
     out: &mut [u8],
     at: usize,
 ) -> usize
-    ensures { λ r. ⌜ Calls (call.inView view (call.inventory (bytesLent lent))) (disk (now (card .entry)) (now (queue .entry)) (now (journal .entry)) rec) (disk (now (card .entry)) (now (queue .entry)) (now (journal .entry)) rec) (now (out .entry)) at (now (out .exit)) r ⌝ }
+    ensures { λ r. ⌜ Calls (call.inView view (call.inventory (bytesLent lent))) (diskIn (now (card .entry)) (now (queue .entry)) (now (journal .entry)) (now (rec .entry))) (diskIn (now (card .entry)) (now (queue .entry)) (now (journal .entry)) (now (rec .entry))) (now (out .entry)) at (now (out .exit)) r ⌝ }
 {
     let mut lists = [0u8; PART];
     let reply = inventory_part(card, queue, journal, rec, view, lent, &mut lists);
@@ -116,12 +116,12 @@ fn inventory_part(
     card: &[u8],
     queue: &[u8],
     journal: &[u8],
-    rec: Record,
+    rec: &[u8; RECORD],
     view: usize,
     lent: usize,
     lists: &mut [u8],
 ) -> NumberReply
-    ensures { λ r. ⌜ Performs (call.inView view (call.inventory (take lent (now (lists .entry))))) (disk (now (card .entry)) (now (queue .entry)) (now (journal .entry)) rec) (disk (now (card .entry)) (now (queue .entry)) (now (journal .entry)) rec) (numberAnswer r) (take lent (now (lists .exit))) ⌝ }
+    ensures { λ r. ⌜ Performs (call.inView view (call.inventory (take lent (now (lists .entry))))) (diskIn (now (card .entry)) (now (queue .entry)) (now (journal .entry)) (now (rec .entry))) (diskIn (now (card .entry)) (now (queue .entry)) (now (journal .entry)) (now (rec .entry))) (numberAnswer r) (take lent (now (lists .exit))) ⌝ }
 {
     let n = within(lent, lists);
     calls::inventory::inventory(card, queue, journal, rec, view, &mut lists[..n])

@@ -196,21 +196,20 @@ fn lent(
     let n = within(least(state.card, state.size), card);
     let m = within(state.queue, queue);
     let k = within(state.journal, journal);
-    let rec = state.rec;
-    let called = call(
+    let mut rec = state.rec;
+    let next = call(
         q,
         line,
         &mut card[..n],
         &mut queue[..m],
         &mut journal[..k],
-        rec,
+        &mut rec,
         out,
         at,
     );
-    let after = called.rec;
     Ran {
-        state: with_record(state, after),
-        at: called.at,
+        state: with_record(state, rec),
+        at: next,
     }
 }
 
@@ -230,7 +229,7 @@ fn show_lent(
         part(card, 0, least(state.card, state.size)),
         part(queue, 0, state.queue),
         part(journal, 0, state.journal),
-        rec,
+        &rec,
         view,
         out,
         at,

@@ -1,7 +1,7 @@
 // A view, shown by the look-ups.
 use disk::answer::NumberReply;
 use disk::answer::Reply;
-use disk::record::Record;
+use disk::record::RECORD;
 use log::entry::LogEntry;
 use script::lines::put_block;
 use script::lines::put_list;
@@ -12,7 +12,7 @@ ghost use mathlib.Core.Path.{_≡_};
 ghost use lib.ListN.{length};
 ghost use lib.Seq.{slice};
 ghost use Rattle.text.specs.Written.{Puts};
-ghost use Rattle.disk.specs.Disk.{disk};
+ghost use Rattle.disk.specs.Disk.{diskIn};
 ghost use Rattle.commands.specs.Shown.{blockBehind, blocksOn, listShown, listsShown, blockShown, blocksShown, contentsOn, contentsShown, viewShown, shown};
 
 const LISTS: usize = LogEntry::LISTS as usize;
@@ -25,12 +25,12 @@ pub fn show(
     card: &[u8],
     queue: &[u8],
     journal: &[u8],
-    rec: Record,
+    rec: &[u8; RECORD],
     view: usize,
     out: &mut [u8],
     at: usize,
 ) -> usize
-    ensures { λ r. ⌜ Puts (now (out .entry)) at (shown view (disk (now (card .entry)) (now (queue .entry)) (now (journal .entry)) rec)) (now (out .exit)) r ⌝ }
+    ensures { λ r. ⌜ Puts (now (out .entry)) at (shown view (diskIn (now (card .entry)) (now (queue .entry)) (now (journal .entry)) (now (rec .entry)))) (now (out .exit)) r ⌝ }
 {
     let mut lists = [0u8; LISTS];
     match calls::inventory::inventory(card, queue, journal, rec, view, &mut lists) {
@@ -52,13 +52,13 @@ fn show_view(
     card: &[u8],
     queue: &[u8],
     journal: &[u8],
-    rec: Record,
+    rec: &[u8; RECORD],
     view: usize,
     lists: &[u8],
     out: &mut [u8],
     at: usize,
 ) -> usize
-    ensures { λ r. ⌜ Puts (now (out .entry)) at (viewShown (disk (now (card .entry)) (now (queue .entry)) (now (journal .entry)) rec) view (now (lists .entry))) (now (out .exit)) r ⌝ }
+    ensures { λ r. ⌜ Puts (now (out .entry)) at (viewShown (diskIn (now (card .entry)) (now (queue .entry)) (now (journal .entry)) (now (rec .entry))) view (now (lists .entry))) (now (out .exit)) r ⌝ }
 {
     let position = show_lists(card, queue, journal, rec, view, lists, out, at);
     show_contents(card, queue, journal, rec, view, lists, out, position)
@@ -68,13 +68,13 @@ fn show_lists(
     card: &[u8],
     queue: &[u8],
     journal: &[u8],
-    rec: Record,
+    rec: &[u8; RECORD],
     view: usize,
     lists: &[u8],
     out: &mut [u8],
     at: usize,
 ) -> usize
-    ensures { λ r. ⌜ Puts (now (out .entry)) at (listsShown (disk (now (card .entry)) (now (queue .entry)) (now (journal .entry)) rec) view (now (lists .entry))) (now (out .exit)) r ⌝ }
+    ensures { λ r. ⌜ Puts (now (out .entry)) at (listsShown (diskIn (now (card .entry)) (now (queue .entry)) (now (journal .entry)) (now (rec .entry))) view (now (lists .entry))) (now (out .exit)) r ⌝ }
 {
     let mut position = at;
     let mut i = 0;
@@ -89,13 +89,13 @@ fn show_list(
     card: &[u8],
     queue: &[u8],
     journal: &[u8],
-    rec: Record,
+    rec: &[u8; RECORD],
     view: usize,
     list: u8,
     out: &mut [u8],
     at: usize,
 ) -> usize
-    ensures { λ r. ⌜ Puts (now (out .entry)) at (listShown (disk (now (card .entry)) (now (queue .entry)) (now (journal .entry)) rec) view list) (now (out .exit)) r ⌝ }
+    ensures { λ r. ⌜ Puts (now (out .entry)) at (listShown (diskIn (now (card .entry)) (now (queue .entry)) (now (journal .entry)) (now (rec .entry))) view list) (now (out .exit)) r ⌝ }
 {
     let mut blocks = [0u8; BLOCKS];
     let n = gather(card, queue, journal, rec, view, list, &mut blocks);
@@ -107,13 +107,13 @@ fn show_contents(
     card: &[u8],
     queue: &[u8],
     journal: &[u8],
-    rec: Record,
+    rec: &[u8; RECORD],
     view: usize,
     lists: &[u8],
     out: &mut [u8],
     at: usize,
 ) -> usize
-    ensures { λ r. ⌜ Puts (now (out .entry)) at (contentsShown (disk (now (card .entry)) (now (queue .entry)) (now (journal .entry)) rec) view (now (lists .entry))) (now (out .exit)) r ⌝ }
+    ensures { λ r. ⌜ Puts (now (out .entry)) at (contentsShown (diskIn (now (card .entry)) (now (queue .entry)) (now (journal .entry)) (now (rec .entry))) view (now (lists .entry))) (now (out .exit)) r ⌝ }
 {
     let mut position = at;
     let mut i = 0;
@@ -128,13 +128,13 @@ fn show_contents_on(
     card: &[u8],
     queue: &[u8],
     journal: &[u8],
-    rec: Record,
+    rec: &[u8; RECORD],
     view: usize,
     list: u8,
     out: &mut [u8],
     at: usize,
 ) -> usize
-    ensures { λ r. ⌜ Puts (now (out .entry)) at (contentsOn (disk (now (card .entry)) (now (queue .entry)) (now (journal .entry)) rec) view list) (now (out .exit)) r ⌝ }
+    ensures { λ r. ⌜ Puts (now (out .entry)) at (contentsOn (diskIn (now (card .entry)) (now (queue .entry)) (now (journal .entry)) (now (rec .entry))) view list) (now (out .exit)) r ⌝ }
 {
     let mut blocks = [0u8; BLOCKS];
     let n = gather(card, queue, journal, rec, view, list, &mut blocks);
@@ -155,13 +155,13 @@ fn gather(
     card: &[u8],
     queue: &[u8],
     journal: &[u8],
-    rec: Record,
+    rec: &[u8; RECORD],
     view: usize,
     list: u8,
     blocks: &mut [u8],
 ) -> usize
     requires { ⌜ length (now blocks) ≡ 64 ⌝ }
-    ensures { λ r. ⌜ slice 0 r (now (blocks .exit)) ≡ blocksOn (disk (now (card .entry)) (now (queue .entry)) (now (journal .entry)) rec) view list ⌝ }
+    ensures { λ r. ⌜ slice 0 r (now (blocks .exit)) ≡ blocksOn (diskIn (now (card .entry)) (now (queue .entry)) (now (journal .entry)) (now (rec .entry))) view list ⌝ }
 {
     let mut block = block_after(card, queue, journal, rec, view, list, 0);
     let mut n = 0;
@@ -180,12 +180,12 @@ fn block_after(
     card: &[u8],
     queue: &[u8],
     journal: &[u8],
-    rec: Record,
+    rec: &[u8; RECORD],
     view: usize,
     list: u8,
     block: u8,
 ) -> u8
-    ensures { λ r. ⌜ r ≡ blockBehind (disk (now (card .entry)) (now (queue .entry)) (now (journal .entry)) rec) view list block ⌝ }
+    ensures { λ r. ⌜ r ≡ blockBehind (diskIn (now (card .entry)) (now (queue .entry)) (now (journal .entry)) (now (rec .entry))) view list block ⌝ }
 {
     match calls::next::next(
         card,
@@ -205,13 +205,13 @@ fn show_blocks(
     card: &[u8],
     queue: &[u8],
     journal: &[u8],
-    rec: Record,
+    rec: &[u8; RECORD],
     view: usize,
     blocks: &[u8],
     out: &mut [u8],
     at: usize,
 ) -> usize
-    ensures { λ r. ⌜ Puts (now (out .entry)) at (blocksShown (disk (now (card .entry)) (now (queue .entry)) (now (journal .entry)) rec) view (now (blocks .entry))) (now (out .exit)) r ⌝ }
+    ensures { λ r. ⌜ Puts (now (out .entry)) at (blocksShown (diskIn (now (card .entry)) (now (queue .entry)) (now (journal .entry)) (now (rec .entry))) view (now (blocks .entry))) (now (out .exit)) r ⌝ }
 {
     let mut position = at;
     let mut i = 0;
@@ -226,13 +226,13 @@ fn show_block(
     card: &[u8],
     queue: &[u8],
     journal: &[u8],
-    rec: Record,
+    rec: &[u8; RECORD],
     view: usize,
     block: u8,
     out: &mut [u8],
     at: usize,
 ) -> usize
-    ensures { λ r. ⌜ Puts (now (out .entry)) at (blockShown (disk (now (card .entry)) (now (queue .entry)) (now (journal .entry)) rec) view block) (now (out .exit)) r ⌝ }
+    ensures { λ r. ⌜ Puts (now (out .entry)) at (blockShown (diskIn (now (card .entry)) (now (queue .entry)) (now (journal .entry)) (now (rec .entry))) view block) (now (out .exit)) r ⌝ }
 {
     let mut content = [0u8; 256];
     match calls::read::read(

@@ -1,5 +1,5 @@
 // What the shell keeps from command to command, beside the card and both data buffers.
-use disk::record::Record;
+use disk::record::RECORD;
 ghost use mathlib.Core.Path.{_≡_};
 ghost use Prim.Native.Nat.{min};
 ghost use lib.ListN.{length};
@@ -13,7 +13,7 @@ pub const JOURNAL_DATA: usize = 15360;
 
 // The record, the card's length, and how many bytes of card, queue data and journal data are lent.
 pub struct State {
-    pub rec: Record,
+    pub rec: [u8; RECORD],
     pub size: usize,
     pub card: usize,
     pub queue: usize,
@@ -27,7 +27,7 @@ pub struct Ran {
 }
 
 // With a card of this size, and all of it lent.
-pub fn with_card(rec: Record, size: usize) -> State
+pub fn with_card(rec: [u8; RECORD], size: usize) -> State
     ensures { λ r. ⌜ r ≡ record { rec = rec; size = size; card = size; queue = 8192; journal = 15360 } ⌝ }
 {
     State {
@@ -39,7 +39,7 @@ pub fn with_card(rec: Record, size: usize) -> State
     }
 }
 
-pub fn with_record(s: State, rec: Record) -> State
+pub fn with_record(s: State, rec: [u8; RECORD]) -> State
     ensures { λ r. ⌜ r ≡ record { rec = rec; size = s .size; card = s .card; queue = s .queue; journal = s .journal } ⌝ }
 {
     let mut next = s;

@@ -11,6 +11,7 @@ use Rattle.log.specs.Entry.{plain, carried}
 use Rattle.log.specs.Card.{Content, zeros}
 use Rattle.log.proofs.Segment.{Sized}
 use Rattle.log.proofs.Places.{Good}
+use Rattle.disk.specs.Record.{isOpen}
 use Rattle.disk.specs.Disk.{Disk, unitOf, queued, journalOf, committed}
 use Rattle.disk.specs.Call.{Edit, onStream, begin, end}
 use Rattle.disk.specs.Questions.{streamOpen, journalRoom, streamRoom, endApplies, questions, refusal}
@@ -90,7 +91,7 @@ accepted-begin u d b h i =
     let y = yes-all (begin u) d h in
     let (p, q) = and-true (leb 1 u) (leb u 4) (y 2) in
     let k = right d (y 0) (y 1) .units .units u (leb-true 1 u p) (leb-true u 4 q) in
-    let n : unitOf d u .len ≡ 0 = k .closed (not-false (unitOf d u .opened) (y 3)) in
+    let n : unitOf d u .len ≡ 0 = k .closed (not-false (isOpen (unitOf d u)) (y 3)) in
     same-inv d (opening u d) b refl (queued-opening u d) refl (λ v. journal-opening u v d n) i
 
 pub accepted-end : (u : ℕ) (d : Disk) (b : Book) → refusal (end u) d ≡ 0 → Live d b → Live (accepted (end u) d .disk) (joinUnit u b)

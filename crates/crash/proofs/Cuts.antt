@@ -8,8 +8,7 @@ use Rattle.lists.proofs.Basic.{getD-same}
 use Rattle.log.specs.Card.{segmentsIn}
 use Rattle.log.specs.Store.{doStores, formatStores}
 use Rattle.log.proofs.Segment.{Carries}
-use Rattle.disk.specs.declared.record.Record.{Record}
-use Rattle.disk.specs.Record.{freshRecord}
+use Rattle.disk.specs.Record.{Record, freshRecord}
 use Rattle.disk.specs.Disk.{Disk, withRecord}
 use Rattle.disk.specs.Call.{format, mount}
 use Rattle.disk.specs.Perform.{formatted, accepted}

@@ -8,7 +8,7 @@ use lib.Dec.{eqb}
 use lib.ListN.{length, drop, take, take-append-drop}
 use lib.Seq.{drop-drop, take-all, drop-length}
 use Rattle.lists.proofs.Basic.{and-true, eqb-true}
-use Rattle.disk.specs.declared.record.Record.{Record}
+use Rattle.disk.specs.Record.{Record}
 use Rattle.disk.specs.Disk.{Disk, withRecord}
 use Rattle.crash.specs.Event.{Part, Parts, partOf, putBack, lend, giveBack, isWhole, lentWhole}
 

@@ -19,8 +19,7 @@ use Rattle.log.specs.Reader.{Reader, reader, settled, lastOf, read, replay}
 use Rattle.log.specs.Card.{Content, zeros}
 use Rattle.log.proofs.Places.{Good}
 use Rattle.log.proofs.Flows.{AllGood}
-use Rattle.disk.specs.declared.record.Record.{Record}
-use Rattle.disk.specs.Record.{holderOf}
+use Rattle.disk.specs.Record.{Record, holderOf}
 use Rattle.disk.specs.Disk.{Disk, committed, view}
 use Rattle.disk.specs.Sound.{journalSound}
 use Rattle.disk.specs.Call.{Edit, newList, newBlock, writeBlock, deleteBlock, deleteList, onStream}

@@ -13,8 +13,7 @@ use Rattle.lists.proofs.Basic.{and-true, or-cases, not-false, eqb-true, leb-tru
 use Rattle.log.specs.Entry.{legal, raw, isBlock, isList}
 use Rattle.log.specs.Reader.{Reader}
 use Rattle.log.specs.Card.{Content, cardLength}
-use Rattle.disk.specs.declared.record.Record.{Record}
-use Rattle.disk.specs.Record.{unitAt, holderOf, shaped}
+use Rattle.disk.specs.Record.{Record, unitAt, holderOf, shaped, isOpen}
 use Rattle.disk.specs.Disk.{Disk, queued, unitOf, journalOf, committedReader, stateOf, committed}
 use Rattle.disk.specs.Sound.{lengthsRight, isOpenUnit, journalSound, unitSound, holderSound, headStanding, recordSound}
 use Rattle.disk.proofs.Questions.{card-length, queue-data, journal-data}
@@ -34,7 +33,7 @@ pub record LogRight (d : Disk) (z : Reader Content) : Type 0 where
 pub record UnitRight (d : Disk) (u : ℕ) : Type 0 where
   pub places : length (unitOf d u .journal) ≡ 15
   pub room : unitOf d u .len ≤ 15
-  pub closed : unitOf d u .opened ≡ false → unitOf d u .len ≡ 0
+  pub closed : isOpen (unitOf d u) ≡ false → unitOf d u .len ≡ 0
   pub sound : all (journalSound (d .rec) u) (journalOf d u) ≡ true
 
 -- block b is held by no unit, or by an open one and stands on no list of s
@@ -53,8 +52,8 @@ pub record Right (d : Disk) : Type 0 where
   pub log : LogRight d reader
   pub units : UnitsRight d (reader .state)
   pub journalData : length (d .journalData) ≡ 15360
-  pub lastBlock : isBlock (d .rec .«last_block») ≡ true
-  pub lastList : isList (d .rec .«last_list») ≡ true
+  pub lastBlock : isBlock (d .rec .lastBlock) ≡ true
+  pub lastList : isList (d .rec .lastList) ≡ true
   pub conflicts : d .rec .conflicts ≤ 65535
 
 pub committed-is : (d : Disk) (z : Reader Content) → committedReader d ≡ some z → committed d ≡ z .state
@@ -112,13 +111,13 @@ unit-right d u l h =
     record {
       places = l;
       room = leb-true (unitOf d u .len) 15 (each-at _ h 0);
-      closed = unit-closed (unitOf d u .opened) (unitOf d u .len) (each-at _ h 1);
+      closed = unit-closed (isOpen (unitOf d u)) (unitOf d u .len) (each-at _ h 1);
       sound = each-at _ h 2;
     }
 
 right-unit : (d : Disk) (u : ℕ) → UnitRight d u → unitSound d u ≡ true
 unfolding unitSound each
-right-unit d u r = rw (le-true (unitOf d u .len) 15 (r .room), closed-unit (unitOf d u .opened) (unitOf d u .len) (r .closed), r .sound)
+right-unit d u r = rw (le-true (unitOf d u .len) 15 (r .room), closed-unit (isOpen (unitOf d u)) (unitOf d u .len) (r .closed), r .sound)
 
 -- Clauses of a block's holder.
 holder-right : (d : Disk) (s : State Content) (b : ℕ) → committed d ≡ s → holderSound d b ≡ true → HolderRight d s b

@@ -10,8 +10,7 @@ use Rattle.lists.specs.Basic.{bind, from}
 use Rattle.lists.specs.State.{overlay}
 use Rattle.log.specs.Reader.{Reader, replay}
 use Rattle.log.specs.Card.{Content, zeros, mounted}
-use Rattle.disk.specs.declared.record.Record.{Record}
-use Rattle.disk.specs.Record.{noUnit, freshUnit, freshRecord, unitCount}
+use Rattle.disk.specs.Record.{Record, noUnit, freshUnit, freshRecord, unitCount}
 use Rattle.disk.specs.Disk.{Disk, queuedAt, queued, unitOf, journalAt, journalOf, readerOf, committedReader, persistent, committed, view}
 
 fresh-length : (n i : ℕ) → getD (replicate n freshUnit) i noUnit .len ≡ 0

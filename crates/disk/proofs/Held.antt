@@ -14,8 +14,7 @@ use Rattle.lists.proofs.Basic.{and-true, eqb-same, eqb-true, eqb-false, eq-true
 use Rattle.lists.proofs.Count.{puts}
 use Rattle.log.specs.Entry.{member, raw, legal}
 use Rattle.log.specs.Card.{Content}
-use Rattle.disk.specs.declared.record.Record.{Record}
-use Rattle.disk.specs.Record.{holderOf, released}
+use Rattle.disk.specs.Record.{Record, holderOf, released}
 use Rattle.disk.specs.Disk.{Disk}
 use Rattle.disk.specs.Sound.{putBy, journalSound}
 use Rattle.disk.specs.Perform.{hold, closing}

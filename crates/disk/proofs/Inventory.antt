@@ -20,7 +20,7 @@ use Rattle.log.specs.Reader.{start}
 use Rattle.log.specs.Card.{Content, zeros}
 use Rattle.log.proofs.Distinct.{replay-distinct}
 use Rattle.log.proofs.Numbers.{mayEnter, legal-enters, InRange, start-range, replay-range, carries-enters}
-use Rattle.disk.specs.declared.record.Record.{Record}
+use Rattle.disk.specs.Record.{Record}
 use Rattle.disk.specs.Disk.{Disk, queued, journalOf, stateOf, persistent, committed, view}
 use Rattle.disk.specs.Sound.{isOpenUnit, journalSound}
 use Rattle.disk.specs.Call.{inventory, inView}

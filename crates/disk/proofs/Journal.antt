@@ -13,13 +13,13 @@ use lib.Seq.{getD-set-same, getD-set-other}
 use Rattle.lists.specs.Basic.{from}
 use Rattle.lists.specs.Change.{Change, mapChange, carriedBy}
 use Rattle.lists.proofs.Basic.{from-length, from-ext, from-snoc}
-use Rattle.log.specs.Entry.{Entry, member, commit, carried, asChange, logChange}
+use Rattle.log.specs.Entry.{Entry, plain, member, commit, carried, asChange}
+use Rattle.log.specs.Cell.{cellOf, entryIn}
 use Rattle.log.specs.Card.{Content, slot}
 use Rattle.log.specs.Flush.{Flow}
 use Rattle.log.proofs.Segment.{Sized}
 use Rattle.log.proofs.Slot.{length-slot}
-use Rattle.disk.specs.declared.record.Unit.{Unit}
-use Rattle.disk.specs.Record.{noJournaled, noUnit, journaled, emptied}
+use Rattle.disk.specs.Record.{Unit, noCell, noUnit, journaled, emptied}
 use Rattle.disk.specs.Disk.{Disk, unitOf, journalPlace, journalAt, journalOf}
 use Rattle.disk.specs.Perform.{enqueue, enqueueAll, afterFlush, journalAdd, hold, gaveBlock, gaveList, opening, closing, conflicted, unitEntries}
 use Rattle.disk.proofs.Buffer.{length-spliced, filled-place, other-place}
@@ -31,15 +31,15 @@ unfolding unitOf
 unit-same d e u h = ap (λ (us : List Unit). getD us (u - 1) noUnit) h
 
 pub unit-added : (u : ℕ) (c : Change Content) (d : Disk) → 1 ≤ u → u ≤ 4 → length (d .rec .units) ≡ 4
-    → unitOf (journalAdd u c d) u ≡ journaled (unitOf d u) (logChange c)
+    → unitOf (journalAdd u c d) u ≡ journaled (unitOf d u) (cellOf (plain c))
 unfolding unitOf journalAdd
 unit-added u c d p q n = getD-set-same (d .rec .units) (u - 1) _ noUnit (omega arith)
 
-pub unit-opening : (u : ℕ) (d : Disk) → 1 ≤ u → u ≤ 4 → length (d .rec .units) ≡ 4 → unitOf (opening u d) u ≡ emptied true (unitOf d u)
+pub unit-opening : (u : ℕ) (d : Disk) → 1 ≤ u → u ≤ 4 → length (d .rec .units) ≡ 4 → unitOf (opening u d) u ≡ emptied 1 (unitOf d u)
 unfolding unitOf opening
 unit-opening u d p q n = getD-set-same (d .rec .units) (u - 1) _ noUnit (omega arith)
 
-pub unit-closing : (u : ℕ) (d : Disk) → 1 ≤ u → u ≤ 4 → length (d .rec .units) ≡ 4 → unitOf (closing u d) u ≡ emptied false (unitOf d u)
+pub unit-closing : (u : ℕ) (d : Disk) → 1 ≤ u → u ≤ 4 → length (d .rec .units) ≡ 4 → unitOf (closing u d) u ≡ emptied 0 (unitOf d u)
 unfolding unitOf closing
 unit-closing u d p q n = getD-set-same (d .rec .units) (u - 1) _ noUnit (omega arith)
 
@@ -70,7 +70,7 @@ journal-none d u h = ap (from (journalAt d u) 0) h
 
 pub journal-same : (d e : Disk) (u : ℕ) → e .journalData ≡ d .journalData → unitOf e u ≡ unitOf d u → journalOf e u ≡ journalOf d u
 unfolding journalOf journalAt
-journal-same d e u a b i = from (λ k. mapChange (λ s. slot (a i) (journalPlace u k)) (asChange (getD (b i .journal) k noJournaled .entry))) 0 (b i .len)
+journal-same d e u a b i = from (λ k. mapChange (λ s. slot (a i) (journalPlace u k)) (asChange (entryIn (getD (b i .journal) k noCell)))) 0 (b i .len)
 
 -- A change that joins unit u's journal.
 module _ (u : ℕ) (c : Change Content) (d : Disk) (p : 1 ≤ u) (q : u ≤ 4) (l : length (d .journalData) ≡ 15360) (m : unitOf d u .len < 15) (z : Sized (carriedBy c)) where
@@ -82,14 +82,14 @@ module _ (u : ℕ) (c : Change Content) (d : Disk) (p : 1 ≤ u) (q : u ≤ 4) (
   unfolding journalAt journalAdd
   journal-new n k =
       rw (unit-added u c d p q n)
-      (rw (getD-set-same (unitOf d u .journal) (unitOf d u .len) (record { entry = logChange c }) noJournaled (omega arith))
+      (rw (getD-set-same (unitOf d u .journal) (unitOf d u .len) (cellOf (plain c)) noCell (omega arith))
       (change-fill _ c (filled-place (d .journalData) (journalPlace u (unitOf d u .len)) (carriedBy c) (omega arith) z)))
 
   journal-old : length (d .rec .units) ≡ 4 → (k : ℕ) → k < unitOf d u .len → journalAt (journalAdd u c d) u k ≡ journalAt d u k
   unfolding journalAt journalAdd
   journal-old n k h =
       rw (unit-added u c d p q n)
-      (rw (getD-set-other (unitOf d u .journal) (unitOf d u .len) k (record { entry = logChange c }) noJournaled (omega arith))
+      (rw (getD-set-other (unitOf d u .journal) (unitOf d u .len) k (cellOf (plain c)) noCell (omega arith))
       (rw (other-place (d .journalData) (journalPlace u (unitOf d u .len)) (journalPlace u k) (carriedBy c) (omega arith) (omega arith) z (omega arith))))
 
   pub journal-add : length (d .rec .units) ≡ 4 → length (unitOf d u .journal) ≡ 15 → journalOf (journalAdd u c d) u ≡ journalOf d u ++ c ∷ []

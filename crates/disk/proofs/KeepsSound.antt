@@ -25,7 +25,7 @@ use Rattle.log.proofs.Segment.{Sized, Carries, carries-walk}
 use Rattle.log.proofs.Formatting.{nils, format-length, formatted-carries}
 use Rattle.log.proofs.Places.{Good}
 use Rattle.log.proofs.Flows.{AllGood}
-use Rattle.disk.specs.Record.{noUnit, freshUnit, freshRecord, holderOf}
+use Rattle.disk.specs.Record.{noUnit, freshUnit, freshRecord, holderOf, isOpen}
 use Rattle.disk.specs.Disk.{Disk, withRecord, unitOf, journalOf, readerOf, committed}
 use Rattle.disk.specs.Sound.{isOpenUnit, headStanding}
 use Rattle.disk.specs.Call.{Edit, format, mount, onStream, begin, end, ends}
@@ -78,7 +78,7 @@ conflicted-right d k = record {
   conflicts = omega arith;
 }
 
-opening-right : (u : ℕ) (d : Disk) → 1 ≤ u → u ≤ 4 → unitOf d u .opened ≡ false → Right d → Right (opening u d)
+opening-right : (u : ℕ) (d : Disk) → 1 ≤ u → u ≤ 4 → isOpen (unitOf d u) ≡ false → Right d → Right (opening u d)
 unfolding opening
 opening-right u d p q c k = record {
   reader = k .reader;
@@ -279,7 +279,7 @@ unfolding questions accepted
 begin-right u d h =
     let y = yes-all (begin u) d h in
     let (a, b) = and-true (leb 1 u) (leb u 4) (y 2) in
-    opening-right u d (leb-true 1 u a) (leb-true u 4 b) (not-false (unitOf d u .opened) (y 3)) (right d (y 0) (y 1))
+    opening-right u d (leb-true 1 u a) (leb-true u 4 b) (not-false (isOpen (unitOf d u)) (y 3)) (right d (y 0) (y 1))
 
 -- Refusal 12.
 pub conflict-right : (u : ℕ) (d : Disk) → refusal (end u) d ≡ 12 → Right (refused (end u) 12 d)

@@ -1,4 +1,6 @@
 pub mod Buffer
+pub mod Bytes
+pub mod Fixed
 pub mod Queue
 pub mod Journal
 pub mod Questions

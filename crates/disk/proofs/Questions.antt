@@ -14,7 +14,7 @@ use Rattle.lists.specs.State.{State, taken, placed, overlay}
 use Rattle.lists.proofs.Basic.{and-true, or-both, false-not, eqb-same, eqb-true, leb-true, ltb-true, le-true, some-of}
 use Rattle.log.specs.Entry.{isBlock, isList}
 use Rattle.log.specs.Card.{Content, zeros, cardLength}
-use Rattle.disk.specs.Record.{holderOf}
+use Rattle.disk.specs.Record.{holderOf, isOpen}
 use Rattle.disk.specs.Disk.{Disk, unitOf, journalOf, persistent, committed, view}
 use Rattle.disk.specs.Sound.{lengthsRight, isOpenUnit}
 use Rattle.disk.specs.Call.{Call, format, mount, conflictCount, onStream, inView, begin, end, flush}
@@ -102,14 +102,14 @@ module _ (d : Disk) (h : lengthsRight d ≡ true) where
   unfolding lengthsRight
   journal-data = eqb-true _ 15360 (and-true (cardLength (d .card) && eqb (length (d .queueData)) 8192) _ h .1)
 
-pub unit-range : (d : Disk) (u : ℕ) → isOpenUnit d u ≡ true → (1 ≤ u) × (u ≤ 4) × (unitOf d u .opened ≡ true)
+pub unit-range : (d : Disk) (u : ℕ) → isOpenUnit d u ≡ true → (1 ≤ u) × (u ≤ 4) × (isOpen (unitOf d u) ≡ true)
 unfolding isOpenUnit
 unit-range d u h =
-    let (a, o) = and-true (leb 1 u && leb u 4) (unitOf d u .opened) h in
+    let (a, o) = and-true (leb 1 u && leb u 4) (isOpen (unitOf d u)) h in
     let (p, q) = and-true (leb 1 u) (leb u 4) a in
     (leb-true 1 u p, leb-true u 4 q, o)
 
-pub open-range : (d : Disk) (u : ℕ) → streamOpen d (suc u) ≡ true → (1 ≤ suc u) × (suc u ≤ 4) × (unitOf d (suc u) .opened ≡ true)
+pub open-range : (d : Disk) (u : ℕ) → streamOpen d (suc u) ≡ true → (1 ≤ suc u) × (suc u ≤ 4) × (isOpen (unitOf d (suc u)) ≡ true)
 unfolding streamOpen
 open-range d u h = unit-range d (suc u) (rw (eqb·suc-zero u) at h)
 
@@ -160,7 +160,7 @@ pub list-number : (d : Disk) → isSome (freeList d) ≡ true
 unfolding freeList orElse
 list-number d h =
     let (n, e) = some-of (freeList d) h in
-    let f = free-from (λ l. taken l (committed d .lists)) 16 16 (d .rec .«last_list») n (omega arith) e in
+    let f = free-from (λ l. taken l (committed d .lists)) 16 16 (d .rec .lastList) n (omega arith) e in
     rw e (f .0, in-range 16 n (f .1) (f .2))
 
 -- the block that NewBlock gives: on no list, held by no unit, and in range
@@ -169,6 +169,6 @@ pub block-number : (d : Disk) → isSome (freeBlock d) ≡ true
 unfolding freeBlock orElse
 block-number d h =
     let (n, e) = some-of (freeBlock d) h in
-    let f = free-from (λ b. placed b (committed d .lists) || not (eqb (holderOf (d .rec) b) 0)) 64 64 (d .rec .«last_block») n (omega arith) e in
+    let f = free-from (λ b. placed b (committed d .lists) || not (eqb (holderOf (d .rec) b) 0)) 64 64 (d .rec .lastBlock) n (omega arith) e in
     let (a, b) = or-both (placed n (committed d .lists)) (not (eqb (holderOf (d .rec) n) 0)) (f .0) in
     rw e (a, eqb-true _ 0 (false-not (eqb (holderOf (d .rec) n) 0) b), in-range 64 n (f .1) (f .2))

@@ -12,50 +12,40 @@ use lib.Seq.{getD-set-same, getD-set-other}
 use Rattle.lists.specs.Basic.{bind, from}
 use Rattle.lists.specs.Change.{Change, takeList, putFirst, putAfter, write, delBlock, delList, mapChange, carriedBy}
 use Rattle.lists.proofs.Basic.{from-length, from-shift, from-ext, from-snoc, from-drop}
-use Rattle.log.specs.Entry.{Entry, plain, member, commit, mapEntry, carried, asEntry, asChange, logChange}
+use Rattle.log.specs.Entry.{Entry, plain, member, commit, mapEntry, carried, asEntry, asChange, raw}
+use Rattle.log.specs.Cell.{cellOf, memberIn, entryIn}
 use Rattle.log.specs.Reader.{replay}
 use Rattle.log.specs.Card.{Content, zeros, slot, mounted}
 use Rattle.log.specs.Flush.{Flow}
+use Rattle.log.proofs.Cells.{cell-entry, cell-change}
 use Rattle.log.proofs.Segment.{Sized}
 use Rattle.log.proofs.Slot.{length-slot}
-use Rattle.disk.specs.Record.{ringPlace, noQueued}
+use Rattle.disk.specs.Record.{ringPlace, noCell}
 use Rattle.disk.specs.Disk.{Disk, queuedAt, queued, readerOf, committedReader}
-use Rattle.disk.specs.Perform.{spliceSome, queuedEntry, enqueue, enqueueAll, afterFlush, journalAdd, hold, gaveBlock, gaveList, opening, closing, conflicted}
+use Rattle.disk.specs.Perform.{spliceSome, enqueue, enqueueAll, afterFlush, journalAdd, hold, gaveBlock, gaveList, opening, closing, conflicted}
 use Rattle.disk.proofs.Buffer.{FillsWith, length-spliced, filled-place, other-place}
 
 -- An entry with its data taken out and put in again.
-pub change-fill : (x : Content) (c : Change Content) → FillsWith x (carriedBy c) → mapChange (λ s. x) (asChange (logChange c)) ≡ c
-unfolding mapChange asChange logChange carriedBy
-change-fill x (takeList l) h = refl
-change-fill x (putFirst b l) h = refl
-change-fill x (putAfter b l p) h = refl
-change-fill x (write b d) h = ap (write b) h
-change-fill x (delBlock b) h = refl
-change-fill x (delList l) h = refl
+change-filled : (x : Content) (c : Change Content) → FillsWith x (carriedBy c) → mapChange (λ s. x) (mapChange {E = ℕ} (λ d. 0) c) ≡ c
+unfolding mapChange carriedBy
+change-filled x (takeList l) h = refl
+change-filled x (putFirst b l) h = refl
+change-filled x (putAfter b l p) h = refl
+change-filled x (write b d) h = ap (write b) h
+change-filled x (delBlock b) h = refl
+change-filled x (delList l) h = refl
 
-plain-fill : (x : Content) (c : Change Content) → mapEntry (λ s. x) (asEntry false (logChange c)) ≡ plain (mapChange (λ s. x) (asChange (logChange c)))
-unfolding mapEntry mapChange asEntry asChange logChange
-plain-fill x (takeList l) = refl
-plain-fill x (putFirst b l) = refl
-plain-fill x (putAfter b l p) = refl
-plain-fill x (write b d) = refl
-plain-fill x (delBlock b) = refl
-plain-fill x (delList l) = refl
+pub change-fill : (x : Content) (c : Change Content) → FillsWith x (carriedBy c) → mapChange (λ s. x) (asChange (entryIn (cellOf (plain c)))) ≡ c
+change-fill x c h = ap (mapChange (λ s. x)) (cell-change c) ∙ change-filled x c h
 
-member-fill : (x : Content) (c : Change Content) → mapEntry (λ s. x) (asEntry true (logChange c)) ≡ member (mapChange (λ s. x) (asChange (logChange c)))
-unfolding mapEntry mapChange asEntry asChange logChange
-member-fill x (takeList l) = refl
-member-fill x (putFirst b l) = refl
-member-fill x (putAfter b l p) = refl
-member-fill x (write b d) = refl
-member-fill x (delBlock b) = refl
-member-fill x (delList l) = refl
+entry-filled : (x : Content) (e : Entry Content) → FillsWith x (carried e) → mapEntry (λ s. x) (raw 0 e) ≡ e
+unfolding raw carried mapEntry
+entry-filled x (plain c) h = ap plain (change-filled x c h)
+entry-filled x (member c) h = ap member (change-filled x c h)
+entry-filled x (commit n) h = refl
 
-pub entry-fill : (x : Content) (e : Entry Content) → FillsWith x (carried e) → mapEntry (λ s. x) (asEntry (queuedEntry e .member) (queuedEntry e .entry)) ≡ e
-unfolding queuedEntry carried mapEntry asEntry
-entry-fill x (plain c) h = plain-fill x c ∙ ap plain (change-fill x c h)
-entry-fill x (member c) h = member-fill x c ∙ ap member (change-fill x c h)
-entry-fill x (commit n) h = refl
+pub entry-fill : (x : Content) (e : Entry Content) → FillsWith x (carried e) → mapEntry (λ s. x) (asEntry (memberIn (cellOf e)) (entryIn (cellOf e))) ≡ e
+entry-fill x e h = ap (mapEntry (λ s. x)) (cell-entry e) ∙ entry-filled x e h
 
 -- Places of the ring.
 ring-apart : (h k n : ℕ) → k < n → n < 32 → (h + k) % 32 ≢ (h + n) % 32
@@ -74,7 +64,7 @@ enqueue-length e d = add-one (d .rec .len)
 
 pub enqueue-places : (e : Entry Content) (d : Disk) → length (enqueue e d .rec .queue) ≡ length (d .rec .queue)
 unfolding enqueue
-enqueue-places e d = length-set (d .rec .queue) _ (queuedEntry e)
+enqueue-places e d = length-set (d .rec .queue) _ (cellOf e)
 
 pub enqueue-data : (e : Entry Content) (d : Disk) → length (d .queueData) ≡ 8192 → Sized (carried e) → length (enqueue e d .queueData) ≡ 8192
 unfolding enqueue
@@ -87,7 +77,7 @@ queue-length d = from-length (queuedAt d) 0 (d .rec .len)
 queued-new : (e : Entry Content) (d : Disk) → length (d .queueData) ≡ 8192 → length (d .rec .queue) ≡ 32 → Sized (carried e) → queuedAt (enqueue e d) (d .rec .len) ≡ e
 unfolding queuedAt enqueue
 queued-new e d l q z =
-    rw (getD-set-same (d .rec .queue) p (queuedEntry e) noQueued (omega (arith, ring-small (d .rec .head + d .rec .len))))
+    rw (getD-set-same (d .rec .queue) p (cellOf e) noCell (omega (arith, ring-small (d .rec .head + d .rec .len))))
     (entry-fill (slot (spliceSome (d .queueData) (256 * p) (carried e)) p) e (filled-place (d .queueData) p (carried e) (omega (arith, ring-fits (d .rec .head + d .rec .len))) z))
   where
     p : ℕ
@@ -97,7 +87,7 @@ queued-old : (e : Entry Content) (d : Disk) (k : ℕ) → length (d .queueData) 
     → queuedAt (enqueue e d) k ≡ queuedAt d k
 unfolding queuedAt enqueue
 queued-old e d k l m z a =
-    rw (getD-set-other (d .rec .queue) p j (queuedEntry e) noQueued (ring-apart (d .rec .head) k (d .rec .len) a m))
+    rw (getD-set-other (d .rec .queue) p j (cellOf e) noCell (ring-apart (d .rec .head) k (d .rec .len) a m))
     (rw (other-place (d .queueData) p j (carried e) (omega (arith, ring-fits (d .rec .head + d .rec .len))) (omega (arith, ring-fits (d .rec .head + k))) z
     (λ e. ring-apart (d .rec .head) k (d .rec .len) a m (sym e))))
   where
@@ -181,8 +171,8 @@ pub record Beside (d e : Disk) : Type 0 where
   pub done : e .rec .done ≡ d .rec .done
   pub units : e .rec .units ≡ d .rec .units
   pub holder : e .rec .holder ≡ d .rec .holder
-  pub lastBlock : e .rec .«last_block» ≡ d .rec .«last_block»
-  pub lastList : e .rec .«last_list» ≡ d .rec .«last_list»
+  pub lastBlock : e .rec .lastBlock ≡ d .rec .lastBlock
+  pub lastList : e .rec .lastList ≡ d .rec .lastList
   pub conflicts : e .rec .conflicts ≡ d .rec .conflicts
 
 pub beside-one : (e : Entry Content) (d : Disk) → Beside d (enqueue e d)
@@ -191,7 +181,7 @@ beside-one e d =
     record {
       card = refl;
       journalData = refl;
-      places = length-set (d .rec .queue) _ (queuedEntry e);
+      places = length-set (d .rec .queue) _ (cellOf e);
       head = refl;
       done = refl;
       units = refl;
@@ -265,7 +255,7 @@ pub queued-same : (d e : Disk) → e .queueData ≡ d .queueData → e .rec .que
     → queued e ≡ queued d
 unfolding queued queuedAt
 queued-same d e a b c n i =
-    from (λ k. let q = getD (b i) ((c i + k) % 32) noQueued in mapEntry (λ s. slot (a i) ((c i + k) % 32)) (asEntry (q .member) (q .entry))) 0 (n i)
+    from (λ k. let q = getD (b i) ((c i + k) % 32) noCell in mapEntry (λ s. slot (a i) ((c i + k) % 32)) (asEntry (memberIn q) (entryIn q))) 0 (n i)
 
 pub queued-journal : (u : ℕ) (c : Change Content) (d : Disk) → queued (journalAdd u c d) ≡ queued d
 unfolding journalAdd

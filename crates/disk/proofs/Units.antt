@@ -15,11 +15,11 @@ use Rattle.lists.specs.Change.{Change, carriedBy}
 use Rattle.lists.specs.State.{State, placed}
 use Rattle.lists.proofs.Basic.{le-true, eq-true, all-append}
 use Rattle.lists.proofs.Count.{puts}
-use Rattle.log.specs.Entry.{member, raw, legal, logChange}
+use Rattle.log.specs.Entry.{plain, member, raw, legal}
+use Rattle.log.specs.Cell.{cellOf}
 use Rattle.log.specs.Card.{Content}
 use Rattle.log.proofs.Segment.{Sized}
-use Rattle.disk.specs.declared.record.Unit.{Unit}
-use Rattle.disk.specs.Record.{holderOf, journaled, emptied, released}
+use Rattle.disk.specs.Record.{Unit, holderOf, journaled, emptied, released, isOpen}
 use Rattle.disk.specs.Disk.{Disk, unitOf, journalOf}
 use Rattle.disk.specs.Sound.{isOpenUnit, journalSound}
 use Rattle.disk.specs.Perform.{journalAdd, hold, opening, closing}
@@ -28,12 +28,12 @@ use Rattle.disk.proofs.Journal.{unit-same, unit-added, unit-added-other
 use Rattle.disk.proofs.Held.{closing-holder, closing-released, hold-holder, hold-other, puts-all, journals-more}
 use Rattle.disk.proofs.Clauses.{UnitRight, HolderRight, UnitsRight}
 
-open-unit : (d : Disk) (u : ℕ) → 1 ≤ u → u ≤ 4 → unitOf d u .opened ≡ true → isOpenUnit d u ≡ true
+open-unit : (d : Disk) (u : ℕ) → 1 ≤ u → u ≤ 4 → isOpen (unitOf d u) ≡ true → isOpenUnit d u ≡ true
 unfolding isOpenUnit
 open-unit d u p q o = rw (le-true 1 u p, le-true u 4 q, o)
 
 -- units that were open are open still
-open-more : (d e : Disk) (u : ℕ) → (1 ≤ u → u ≤ 4 → unitOf d u .opened ≡ true → unitOf e u .opened ≡ true) → isOpenUnit d u ≡ true → isOpenUnit e u ≡ true
+open-more : (d e : Disk) (u : ℕ) → (1 ≤ u → u ≤ 4 → isOpen (unitOf d u) ≡ true → isOpen (unitOf e u) ≡ true) → isOpenUnit d u ≡ true → isOpenUnit e u ≡ true
 open-more d e u f h = let (p, q, o) = unit-range d u h in open-unit e u p q (f p q o)
 
 -- a unit that stays as it is, and still holds what it held
@@ -66,7 +66,7 @@ units-same d e s j u h k = record {
   four = rw u (k .four);
   table = rw h (k .table);
   units = λ v p q. unit-kept d e v (unit v) (journal-same d e v j (unit v)) (λ b x. holder b ∙ x) (k .units v p q);
-  holders = λ b p q. holder-kept d e s b (holder b) (λ v x o. open-more d e v (λ a c y. ap (λ (z : Unit). z .opened) (unit v) ∙ y) o) (k .holders b p q);
+  holders = λ b p q. holder-kept d e s b (holder b) (λ v x o. open-more d e v (λ a c y. ap (λ (z : Unit). isOpen z) (unit v) ∙ y) o) (k .holders b p q);
 }
   where
     unit : (v : ℕ) → unitOf e v ≡ unitOf d v
@@ -93,7 +93,7 @@ hold-units u b d s o p q z n k = record {
     unit v = unit-same d e v refl
 
     still : (v : ℕ) → isOpenUnit d v ≡ true → isOpenUnit e v ≡ true
-    still v h = open-more d e v (λ a c y. ap (λ (z : Unit). z .opened) (unit v) ∙ y) h
+    still v h = open-more d e v (λ a c y. ap (λ (z : Unit). isOpen z) (unit v) ∙ y) h
 
     go : (c : ℕ) → 1 ≤ c → c ≤ 64 → Dec (c ≡ b) → HolderRight e s c
     go c x y (yes w) = inr (rw w (rw (hold-holder (suc u) b d p (omega (arith, k .table)) z) (still (suc u) o)), rw w n)
@@ -133,15 +133,15 @@ module _ (u : ℕ) (c : Change Content) (d : Disk) (s : State Content) (o : isOp
       q : u ≤ 4
       q = unit-range d u o .1
 
-      e : unitOf added u ≡ journaled (unitOf d u) (logChange c)
+      e : unitOf added u ≡ journaled (unitOf d u) (cellOf (plain c))
       e = unit-added u c d p q (k .four)
 
       holder : (b : ℕ) → holderOf (added .rec) b ≡ holderOf (d .rec) b
       holder b = ap (λ (hs : List ℕ). getD hs (b - 1) 0) added-holder
 
-      still : (v : ℕ) → 1 ≤ v → unitOf d v .opened ≡ true → Dec (u ≡ v) → unitOf added v .opened ≡ true
-      still v a h (yes n) = rw (← n) (ap (λ (x : Unit). x .opened) e ∙ rw n h)
-      still v a h (no n) = ap (λ (x : Unit). x .opened) (unit-added-other u v p a n c d) ∙ h
+      still : (v : ℕ) → 1 ≤ v → isOpen (unitOf d v) ≡ true → Dec (u ≡ v) → isOpen (unitOf added v) ≡ true
+      still v a h (yes n) = rw (← n) (ap (λ (x : Unit). isOpen x) e ∙ rw n h)
+      still v a h (no n) = ap (λ (x : Unit). isOpen x) (unit-added-other u v p a n c d) ∙ h
 
       own : UnitRight added u
       own =
@@ -149,7 +149,7 @@ module _ (u : ℕ) (c : Change Content) (d : Disk) (s : State Content) (o : isOp
           record {
             places = rw e (length-set (unitOf d u .journal) (unitOf d u .len) _ ∙ x .places);
             room = rw e (omega arith);
-            closed = λ h. absurd (true≢false (sym (unit-range d u o .2) ∙ sym (ap (λ (y : Unit). y .opened) e) ∙ h));
+            closed = λ h. absurd (true≢false (sym (unit-range d u o .2) ∙ sym (ap (λ (y : Unit). isOpen y) e) ∙ h));
             sound = rw (journal-add u c d p q l m z (k .four) (x .places))
                 (all-append (journalSound (added .rec) u) (journalOf d u) (c ∷ []) (journals-more (d .rec) (added .rec) u (journalOf d u) (λ b h. holder b ∙ h) (x .sound)) (rw added-sound));
           }
@@ -172,13 +172,13 @@ module _ (u : ℕ) (d : Disk) (s : State Content) (p : 1 ≤ u) (q : u ≤ 4) (k
   unfolding opening
   begun-holder = refl
 
-  begun-unit : unitOf begun u ≡ emptied true (unitOf d u)
+  begun-unit : unitOf begun u ≡ emptied 1 (unitOf d u)
   begun-unit = unit-opening u d p q (k .four)
 
-  begun-open : unitOf begun u .opened ≡ true
-  begun-open = ap (λ (x : Unit). x .opened) begun-unit
+  begun-open : isOpen (unitOf begun u) ≡ true
+  begun-open = ap (λ (x : Unit). isOpen x) begun-unit
 
-  pub opening-units : unitOf d u .opened ≡ false → UnitsRight (opening u d) s
+  pub opening-units : isOpen (unitOf d u) ≡ false → UnitsRight (opening u d) s
   opening-units c = record {
     four = begun-four;
     table = rw begun-holder (k .table);
@@ -189,9 +189,9 @@ module _ (u : ℕ) (d : Disk) (s : State Content) (p : 1 ≤ u) (q : u ≤ 4) (k
       holder : (b : ℕ) → holderOf (begun .rec) b ≡ holderOf (d .rec) b
       holder b = ap (λ (hs : List ℕ). getD hs (b - 1) 0) begun-holder
 
-      still : (v : ℕ) → 1 ≤ v → unitOf d v .opened ≡ true → Dec (u ≡ v) → unitOf begun v .opened ≡ true
+      still : (v : ℕ) → 1 ≤ v → isOpen (unitOf d v) ≡ true → Dec (u ≡ v) → isOpen (unitOf begun v) ≡ true
       still v a h (yes n) = rw (← n) begun-open
-      still v a h (no n) = ap (λ (x : Unit). x .opened) (unit-opening-other u v p a n d) ∙ h
+      still v a h (no n) = ap (λ (x : Unit). isOpen x) (unit-opening-other u v p a n d) ∙ h
 
       own : UnitRight begun u
       own =
@@ -220,7 +220,7 @@ module _ (u : ℕ) (d : Disk) (s : State Content) (p : 1 ≤ u) (q : u ≤ 4) (k
   unfolding closing released
   ended-table = length-map (d .rec .holder) _ ∙ k .table
 
-  ended-unit : unitOf ended u ≡ emptied false (unitOf d u)
+  ended-unit : unitOf ended u ≡ emptied 0 (unitOf d u)
   ended-unit = unit-closing u d p q (k .four)
 
   pub closing-units : UnitsRight (closing u d) s
@@ -249,4 +249,4 @@ module _ (u : ℕ) (d : Disk) (s : State Content) (p : 1 ≤ u) (q : u ≤ 4) (k
       holder b h (yes w) = inl (closing-released u d b w)
       holder b h (no w) =
           holder-kept d ended s b (closing-holder u d b w)
-          (λ v x. open-more d ended v (λ a c o. ap (λ (y : Unit). y .opened) (unit-closing-other u v p a (λ e. w (x ∙ sym e)) d) ∙ o)) h
+          (λ v x. open-more d ended v (λ a c o. ap (λ (y : Unit). isOpen y) (unit-closing-other u v p a (λ e. w (x ∙ sym e)) d) ∙ o)) h

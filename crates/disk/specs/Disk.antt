@@ -9,12 +9,10 @@ use Rattle.lists.specs.Basic.{bind, from}
 use Rattle.lists.specs.Change.{Change, mapChange}
 use Rattle.lists.specs.State.{State, state, overlay}
 use Rattle.log.specs.Entry.{Entry, mapEntry, asEntry, asChange}
+use Rattle.log.specs.Cell.{memberIn, entryIn}
 use Rattle.log.specs.Reader.{Reader, replay}
 use Rattle.log.specs.Card.{Content, zeros, slot, Outcome, sound, fault, mounted}
-use Rattle.disk.specs.declared.record.Queued.{Queued}
-use Rattle.disk.specs.declared.record.Unit.{Unit}
-use Rattle.disk.specs.declared.record.Record.{Record}
-use Rattle.disk.specs.Record.{noQueued, noJournaled, unitAt, ringPlace, journalPlaces}
+use Rattle.disk.specs.Record.{Unit, Record, recordIn, noCell, unitAt, ringPlace, journalPlaces}
 
 -- "Every call is lent card, queue data, journal data and record."
 pub record Disk : Type 0 where
@@ -26,6 +24,10 @@ pub record Disk : Type 0 where
 abbrev pub disk : List ℕ → List ℕ → List ℕ → Record → Disk
 disk c q j r = record { card = c; queueData = q; journalData = j; rec = r }
 
+-- the same of the record's bytes
+abbrev pub diskIn : List ℕ → List ℕ → List ℕ → List ℕ → Disk
+diskIn c q j r = disk c q j (recordIn r)
+
 abbrev pub withRecord : Disk → Record → Disk
 withRecord d r = disk (d .card) (d .queueData) (d .journalData) r
 
@@ -33,8 +35,8 @@ withRecord d r = disk (d .card) (d .queueData) (d .journalData) r
 unfoldable pub queuedAt : Disk → ℕ → Entry Content
 queuedAt d k =
     let p = ringPlace (d .rec) k in
-    let q = getD (d .rec .queue) p noQueued in
-    mapEntry (λ s. slot (d .queueData) p) (asEntry (q .member) (q .entry))
+    let q = getD (d .rec .queue) p noCell in
+    mapEntry (λ s. slot (d .queueData) p) (asEntry (memberIn q) (entryIn q))
 
 unfoldable pub queued : Disk → List (Entry Content)
 queued d = from (queuedAt d) 0 (d .rec .len)
@@ -47,7 +49,7 @@ abbrev pub journalPlace : ℕ → ℕ → ℕ
 journalPlace u k = (u - 1) * journalPlaces + k
 
 unfoldable pub journalAt : Disk → ℕ → ℕ → Change Content
-journalAt d u k = mapChange (λ s. slot (d .journalData) (journalPlace u k)) (asChange (getD (unitOf d u .journal) k noJournaled .entry))
+journalAt d u k = mapChange (λ s. slot (d .journalData) (journalPlace u k)) (asChange (entryIn (getD (unitOf d u .journal) k noCell)))
 
 unfoldable pub journalOf : Disk → ℕ → List (Change Content)
 journalOf d u = from (journalAt d u) 0 (unitOf d u .len)

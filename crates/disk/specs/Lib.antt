@@ -8,3 +8,4 @@ pub mod Answers
 pub mod KnownRuns
 pub mod Inventory
 pub mod Statements
+pub mod promises

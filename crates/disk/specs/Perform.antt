@@ -9,14 +9,12 @@ use Rattle.lists.specs.Basic.{orElse}
 use Rattle.lists.specs.Change.{Change, takeList, putFirst, putAfter, write, delBlock, delList, carriedBy}
 use Rattle.lists.specs.State.{State}
 use Rattle.lists.specs.Lookup.{contentOf, nextAfter, listNums}
-use Rattle.log.specs.declared.entry.LogEntry.the-variants.{Commit}
-use Rattle.log.specs.Entry.{Entry, plain, member, commit, carried, hasMember, logChange}
+use Rattle.log.specs.Entry.{Entry, plain, member, commit, carried, hasMember}
+use Rattle.log.specs.Cell.{cellOf}
 use Rattle.log.specs.Card.{Content, zeros, slotBytes, segmentsIn, Outcome, sound, fault, mounted, splice}
 use Rattle.log.specs.Store.{doStores, formatStores, tail}
 use Rattle.log.specs.Flush.{Flow, Flushed, Ending, drained, full, spent, flushFrom}
-use Rattle.disk.specs.declared.record.Queued.{Queued}
-use Rattle.disk.specs.declared.record.Record.{Record}
-use Rattle.disk.specs.Record.{ringPlace, withQueue, withFlow, withUnits, withLastBlock, withLastList, withConflicts, emptied, journaled, released, freshRecord, queuePlaces}
+use Rattle.disk.specs.Record.{ringPlace, withFlow, withLastBlock, withLastList, appended, journalGrown, unitTurned, holding, releasing, conflictCounted, freshRecord, queuePlaces}
 use Rattle.disk.specs.Disk.{Disk, withRecord, unitOf, journalPlace, journalOf, queued, view}
 use Rattle.disk.specs.Call.{Edit, newList, newBlock, writeBlock, deleteBlock, deleteList, Look, readBlock, blockAfter, inventory, Call, format, mount, conflictCount, onStream, inView, begin, end, flush, ends, destination}
 use Rattle.disk.specs.Questions.{freeBlock, freeList, refusal}
@@ -37,12 +35,6 @@ unfoldable pub spliceSome : List ℕ → ℕ → Option (List ℕ) → List ℕ
 spliceSome d i none = d
 spliceSome d i (some v) = splice d i v
 
--- an entry as the queue holds it
-unfoldable pub queuedEntry : {D : Type 0} → Entry D → Queued
-queuedEntry (plain c) = record { member = false; entry = logChange c }
-queuedEntry (member c) = record { member = true; entry = logChange c }
-queuedEntry (commit n) = record { member = false; entry = Commit n }
-
 -- the entry joins the queue, its data at its place
 unfoldable pub enqueue : Entry Content → Disk → Disk
 enqueue e d =
@@ -52,7 +44,7 @@ enqueue e d =
       card = d .card;
       queueData = spliceSome (d .queueData) (slotBytes * p) (carried e);
       journalData = d .journalData;
-      rec = withQueue r (set (r .queue) p (queuedEntry e)) (r .len + 1);
+      rec = appended (cellOf e) r;
     }
 
 unfoldable pub enqueueAll : List (Entry Content) → Disk → Disk
@@ -67,7 +59,7 @@ journalAdd u c d =
       card = d .card;
       queueData = d .queueData;
       journalData = spliceSome (d .journalData) (slotBytes * journalPlace u (x .len)) (carriedBy c);
-      rec = withUnits (d .rec) (set (d .rec .units) (u - 1) (journaled x (logChange c))) (d .rec .holder);
+      rec = journalGrown u (cellOf (plain c)) (d .rec);
     }
 
 -- "Changes come on stream 0 (simple; queued) or 1 to 4 (journalled, no log entry)."
@@ -76,7 +68,7 @@ change s c d = elim s [ zero ↦ enqueue (plain c) d | suc u ↦ journalAdd (suc
 
 -- "A block made in a unit is held by it until it ends."
 unfoldable pub hold : ℕ → ℕ → Disk → Disk
-hold s b d = elim s [ zero ↦ d | suc u ↦ withRecord d (withUnits (d .rec) (d .rec .units) (set (d .rec .holder) (b - 1) (suc u))) ]
+hold s b d = elim s [ zero ↦ d | suc u ↦ withRecord d (holding b (suc u) (d .rec)) ]
 
 unfoldable pub gaveBlock : ℕ → Disk → Disk
 gaveBlock b d = withRecord d (withLastBlock (d .rec) b)
@@ -129,15 +121,15 @@ found (blockAfter l p) s = (nextAfter (s .lists) l p, [])
 found (inventory x) s = let ls = listNums (s .lists) in (length ls, ls ++ drop (length ls) x)
 
 unfoldable pub opening : ℕ → Disk → Disk
-opening u d = withRecord d (withUnits (d .rec) (set (d .rec .units) (u - 1) (emptied true (unitOf d u))) (d .rec .holder))
+opening u d = withRecord d (unitTurned 1 u (d .rec))
 
 -- "the unit closes, its journal goes, its held numbers are released"
 unfoldable pub closing : ℕ → Disk → Disk
-closing u d = withRecord d (withUnits (d .rec) (set (d .rec .units) (u - 1) (emptied false (unitOf d u))) (released u (d .rec .holder)))
+closing u d = withRecord d (releasing u (unitTurned 0 u (d .rec)))
 
 -- "the conflict count (one for all, stops at 65,535 [..]) rises"
 unfoldable pub conflicted : Disk → Disk
-conflicted d = withRecord d (withConflicts (d .rec) (min 65535 (d .rec .conflicts + 1)))
+conflicted d = withRecord d (conflictCounted (d .rec))
 
 -- "End queues the journal as members, then a commit"
 unfoldable pub unitEntries : List (Change Content) → List (Entry Content)

@@ -9,8 +9,7 @@ use Rattle.lists.specs.Basic.{isSome}
 use Rattle.lists.specs.State.{Row, State, taken, placed, onList, applyAll}
 use Rattle.log.specs.Entry.{isBlock, isList}
 use Rattle.log.specs.Card.{Content, zeros, slotBytes, mounted}
-use Rattle.disk.specs.declared.record.Record.{Record}
-use Rattle.disk.specs.Record.{holderOf, queuePlaces, journalPlaces, unitCount}
+use Rattle.disk.specs.Record.{isOpen, holderOf, queuePlaces, journalPlaces, unitCount}
 use Rattle.disk.specs.Disk.{Disk, unitOf, journalOf, readerOf, committed, view}
 use Rattle.disk.specs.Sound.{lengthsRight, recordSound, isOpenUnit}
 use Rattle.disk.specs.Call.{Edit, newList, newBlock, writeBlock, deleteBlock, deleteList, Look, readBlock, blockAfter, inventory, Call, format, mount, conflictCount, onStream, inView, begin, end, flush}
@@ -41,11 +40,11 @@ freeFrom used limit (suc k) last =
 unfoldable pub freeBlock : Disk → Option ℕ
 freeBlock d =
     let s = committed d in
-    freeFrom (λ b. placed b (s .lists) || not (eqb (holderOf (d .rec) b) 0)) 64 64 (d .rec .«last_block»)
+    freeFrom (λ b. placed b (s .lists) || not (eqb (holderOf (d .rec) b) 0)) 64 64 (d .rec .lastBlock)
 
 -- "NewList likewise with 16 (free: not taken in the committed state)"
 unfoldable pub freeList : Disk → Option ℕ
-freeList d = let s = committed d in freeFrom (λ l. taken l (s .lists)) 16 16 (d .rec .«last_list»)
+freeList d = let s = committed d in freeFrom (λ l. taken l (s .lists)) 16 16 (d .rec .lastList)
 
 -- "11. Has the journal fewer than 15?" (streams 1 to 4)
 unfoldable pub journalRoom : Disk → ℕ → Bool
@@ -87,7 +86,7 @@ questions mount d = (1, lengthsRight d) ∷ (2, mountable d) ∷ []
 questions conflictCount d = (1, lengthsRight d) ∷ (3, recordSound d) ∷ []
 questions (onStream s e) d = (1, lengthsRight d) ∷ (3, recordSound d) ∷ (4, streamOpen d s) ∷ editQuestions s e d
 questions (inView v k) d = (1, lengthsRight d) ∷ (3, recordSound d) ∷ (4, viewOpen d v) ∷ lookQuestions k (view d v .lists)
-questions (begin u) d = (1, lengthsRight d) ∷ (3, recordSound d) ∷ (4, leb 1 u && leb u unitCount) ∷ (6, not (unitOf d u .opened)) ∷ []
+questions (begin u) d = (1, lengthsRight d) ∷ (3, recordSound d) ∷ (4, leb 1 u && leb u unitCount) ∷ (6, not (isOpen (unitOf d u))) ∷ []
 questions (end u) d =
     (1, lengthsRight d) ∷ (3, recordSound d)
     ∷ (4, isOpenUnit d u) ∷ (12, endApplies d u) ∷ (13, queueRoom d (unitOf d u .len + 1)) ∷ []

@@ -10,8 +10,7 @@ use Rattle.lists.specs.State.{placed}
 use Rattle.log.specs.Entry.{Entry, member, raw, legal, isBlock, isList}
 use Rattle.log.specs.Card.{Content, cardLength, segmentsIn}
 use Rattle.log.specs.Store.{home, tail, headAt}
-use Rattle.disk.specs.declared.record.Record.{Record}
-use Rattle.disk.specs.Record.{shaped, holderOf, queuePlaces, journalPlaces, unitCount}
+use Rattle.disk.specs.Record.{Record, shaped, isOpen, holderOf, queuePlaces, journalPlaces, unitCount}
 use Rattle.disk.specs.Disk.{Disk, unitOf, queued, journalOf, committed, committedReader}
 
 -- "1. Are the lent lengths of card, queue data and journal data right?"
@@ -19,7 +18,7 @@ unfoldable pub lengthsRight : Disk → Bool
 lengthsRight d = cardLength (d .card) && eqb (length (d .queueData)) 8192 && eqb (length (d .journalData)) 15360
 
 unfoldable pub isOpenUnit : Disk → ℕ → Bool
-isOpenUnit d u = leb 1 u && leb u unitCount && unitOf d u .opened
+isOpenUnit d u = leb 1 u && leb u unitCount && isOpen (unitOf d u)
 
 -- the block that a change puts
 unfoldable pub putBy : {D : Type 0} → Change D → List ℕ
@@ -39,7 +38,7 @@ unfoldable pub unitSound : Disk → ℕ → Bool
 unitSound d u =
     each
     (leb (unitOf d u .len) journalPlaces
-    ∷ (unitOf d u .opened || eqb (unitOf d u .len) 0)
+    ∷ (isOpen (unitOf d u) || eqb (unitOf d u .len) 0)
     ∷ all (journalSound (d .rec) u) (journalOf d u)
     ∷ [])
 
@@ -59,7 +58,7 @@ recordSound d =
     each
     (shaped r
     ∷ leb (r .len) queuePlaces ∷ ltb (r .head) queuePlaces
-    ∷ isBlock (r .«last_block») ∷ isList (r .«last_list») ∷ leb (r .conflicts) 65535
+    ∷ isBlock (r .lastBlock) ∷ isList (r .lastList) ∷ leb (r .conflicts) 65535
     ∷ all (λ e. legal (raw 0 e)) (queued d)
     ∷ all (unitSound d) (from (λ u. u) 1 unitCount)
     ∷ isSome (committedReader d)

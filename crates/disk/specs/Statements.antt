@@ -4,11 +4,12 @@ use mathlib.Core.Logic.{_⊎_}
 use mathlib.Core.Bool.{true}
 use mathlib.Core.List.{List}
 use Prim.Native.Nat.{ℕ, _+_, _-_, _≤_, _<_}
-use lib.ListN.{length, take}
+use lib.ListN.{length, getD, take}
 use Rattle.log.specs.Card.{cardLength, segmentsIn, count}
 use Rattle.log.specs.Store.{Store, doStores}
 use Rattle.log.specs.Flush.{rest}
 use Rattle.log.specs.Turns.{Steps, Clears}
+use Rattle.disk.specs.Record.{recordIn}
 use Rattle.disk.specs.Disk.{Disk, queued}
 use Rattle.disk.specs.Sound.{lengthsRight, recordSound}
 use Rattle.disk.specs.Call.{Call, flush}
@@ -20,6 +21,13 @@ abbrev pub LeavesSound : Type 0
 LeavesSound =
     (c : Call) (d : Disk) → (refusal c d ≡ 0) ⊎ (refusal c d ≡ 12)
     → let e = perform c d .disk in (lengthsRight e ≡ true) × (recordSound e ≡ true)
+
+-- "says of each result, the record and each lent byte [..] which definition it equals": a promise about the record's parts fixes each of its bytes
+abbrev pub IsBytes : List ℕ → Type 0
+IsBytes bs = (i : ℕ) → getD bs i 0 < 256
+
+abbrev pub RecordFixed : Type 0
+RecordFixed = (bs cs : List ℕ) → length bs ≡ 448 → length cs ≡ 448 → IsBytes bs → IsBytes cs → recordIn bs ≡ recordIn cs → bs ≡ cs
 
 -- "With allowance m+n it leaves what m, then n leaves, m+n being in range.": the disk; the stores add up, and the ending is the second's
 abbrev pub FlushSum : Type 0

@@ -1,80 +1,134 @@
-// One part of the record changed: the queue, a unit, the holders, the conflict count.
-use crate::record::Journaled;
-use crate::record::Queued;
+// One part of the record changed: the queue, a unit, the holders, the numbers given last, the conflict count.
+use crate::record::CELL;
+use crate::record::CONFLICTS;
+use crate::record::DONE;
+use crate::record::HEAD;
+use crate::record::HOLDERS;
+use crate::record::JOURNALS;
+use crate::record::LAST_BLOCK;
+use crate::record::LAST_LIST;
+use crate::record::LEN;
+use crate::record::LENGTHS;
+use crate::record::OPENED;
+use crate::record::RECORD;
 use crate::record::Record;
 use crate::record::Unit;
+use crate::record::conflicts;
+use crate::record::head;
+use crate::record::journal_len;
+use crate::record::len;
+use log::encode::entry_byte;
 use log::entry::LogEntry;
 ghost use mathlib.Core.Path.{_≡_};
 ghost use mathlib.Core.Bool.{true, false, cond};
+ghost use Prim.Native.Nat.{ℕ, _+_, _-_, _*_, _<_, _≤_};
 ghost use lib.Dec.{eqb};
-ghost use Prim.Native.Nat.{ℕ, _+_, _-_, _<_, _≤_, min};
-ghost use lib.ListN.{length, getD, set};
-ghost use Rattle.disk.specs.Record.{ringPlace, unitAt, withQueue, withUnits, withConflicts, journaled, emptied, released};
+ghost use lib.ListN.{length, set};
+ghost use Rattle.log.specs.Entry.{asEntry};
+ghost use Rattle.log.specs.Cell.{cellOf};
+ghost use Rattle.disk.specs.Record.{recordIn, unitAt, withFlow, withLastBlock, withLastList, appended, journalGrown, unitTurned, holding, releasing, conflictCounted, freshRecord};
+ghost use Rattle.disk.specs.promises.Bytes.{cellSet, flag};
 
 const BLOCKS: usize = LogEntry::BLOCKS as usize;
 
-// An entry more at the end of the queue.
-pub fn append(rec: Record, member: bool, entry: LogEntry) -> Record
-    requires { ⌜ (rec .len < 32) × (rec .head < 32) ⌝ }
-    ensures { λ r. ⌜ r ≡ withQueue rec (set (rec .queue) (ringPlace rec (rec .len)) (record { member = member; entry = entry })) (rec .len + 1) ⌝ }
+// Nothing is done, and the compiler drops the copy: how long an array is the proof learns of a value, not of a reference.
+fn sized(rec: [u8; RECORD])
+    ensures { λ r. ⌜ length rec ≡ 448 ⌝ }
+{}
+
+// The four bytes of an entry, from byte i on.
+fn put_cell(rec: &mut [u8; RECORD], i: usize, member: bool, entry: LogEntry)
+    requires { ⌜ i ≤ 444 ⌝ }
+    ensures { λ r. ⌜ now (rec .exit) ≡ cellSet (now (rec .entry)) i (cellOf (asEntry member entry)) ⌝ }
 {
-    let mut next = rec;
-    let at = (rec.head + rec.len) % Record::QUEUE;
-    next.queue[at] = Queued { member, entry };
-    next.len = rec.len + 1;
-    next
+    rec[i] = entry_byte(entry, member, 0, 0);
+    rec[i + 1] = entry_byte(entry, member, 0, 1);
+    rec[i + 2] = entry_byte(entry, member, 0, 2);
+    rec[i + 3] = entry_byte(entry, member, 0, 3);
+}
+
+// An entry more at the end of the queue.
+pub fn append(rec: &mut [u8; RECORD], member: bool, entry: LogEntry)
+    requires { ⌜ (recordIn (now rec) .len < 32) × (recordIn (now rec) .head < 32) ⌝ }
+    ensures { λ r. ⌜ recordIn (now (rec .exit)) ≡ appended (cellOf (asEntry member entry)) (recordIn (now (rec .entry))) ⌝ }
+{
+    sized(*rec);
+    let n = len(rec);
+    let at = (head(rec) + n) % Record::QUEUE;
+    put_cell(rec, CELL * at, member, entry);
+    rec[LEN] = (n + 1) as u8;
 }
 
 // An entry more in the journal of unit u.
-pub fn journal(rec: Record, u: usize, entry: LogEntry) -> Record
-    requires { ⌜ (1 ≤ u) × (u ≤ 4) × (unitAt rec u .len < 15) ⌝ }
-    ensures { λ r. ⌜ r ≡ withUnits rec (set (rec .units) (u - 1) (journaled (unitAt rec u) entry)) (rec .holder) ⌝ }
+pub fn journal(rec: &mut [u8; RECORD], u: usize, entry: LogEntry)
+    requires { ⌜ (1 ≤ u) × (u ≤ 4) × (unitAt (recordIn (now rec)) u .len < 15) ⌝ }
+    ensures { λ r. ⌜ recordIn (now (rec .exit)) ≡ journalGrown u (cellOf (asEntry false entry)) (recordIn (now (rec .entry))) ⌝ }
 {
-    let mut next = rec;
+    sized(*rec);
     let i = u - 1;
-    let mut unit = next.units[i];
-    let at = unit.len;
-    unit.journal[at] = Journaled { entry };
-    unit.len = at + 1;
-    next.units[i] = unit;
-    next
+    let n = journal_len(rec, u);
+    put_cell(rec, JOURNALS + CELL * (Unit::JOURNAL * i + n), false, entry);
+    rec[LENGTHS + i] = (n + 1) as u8;
 }
 
 // Block b held by unit u.
-pub fn hold(rec: Record, b: usize, u: u8) -> Record
+pub fn hold(rec: &mut [u8; RECORD], b: usize, u: u8)
     requires { ⌜ (1 ≤ b) × (b ≤ 64) ⌝ }
-    ensures { λ r. ⌜ r ≡ withUnits rec (rec .units) (set (rec .holder) (b - 1) u) ⌝ }
+    ensures { λ r. ⌜ recordIn (now (rec .exit)) ≡ holding b u (recordIn (now (rec .entry))) ⌝ }
 {
-    let mut next = rec;
-    let i = b - 1;
-    next.holder[i] = u;
-    next
+    sized(*rec);
+    rec[HOLDERS + (b - 1)] = u;
 }
 
 // Unit u open or closed, its journal emptied.
-pub fn empty(rec: Record, u: usize, opened: bool) -> Record
+pub fn empty(rec: &mut [u8; RECORD], u: usize, opened: bool)
     requires { ⌜ (1 ≤ u) × (u ≤ 4) ⌝ }
-    ensures { λ r. ⌜ r ≡ withUnits rec (set (rec .units) (u - 1) (emptied opened (unitAt rec u))) (rec .holder) ⌝ }
+    ensures { λ r. ⌜ recordIn (now (rec .exit)) ≡ unitTurned (flag opened) u (recordIn (now (rec .entry))) ⌝ }
 {
-    let mut next = rec;
+    sized(*rec);
     let i = u - 1;
-    let mut unit = next.units[i];
-    unit.opened = opened;
-    unit.len = 0;
-    next.units[i] = unit;
-    next
+    rec[OPENED + i] = opened as u8;
+    rec[LENGTHS + i] = 0;
 }
 
 // One conflict more, up to the limit.
-pub fn count_conflict(rec: Record) -> Record
-    ensures { λ r. ⌜ r ≡ withConflicts rec (min 65535 (rec .conflicts + 1)) ⌝ }
+pub fn count_conflict(rec: &mut [u8; RECORD])
+    ensures { λ r. ⌜ recordIn (now (rec .exit)) ≡ conflictCounted (recordIn (now (rec .entry))) ⌝ }
 {
-    let mut next = rec;
-    let n = rec.conflicts;
+    sized(*rec);
+    let n = conflicts(rec);
     if n < Record::CONFLICTS {
-        next.conflicts = n + 1;
+        let m = n + 1;
+        rec[CONFLICTS] = (m % 256) as u8;
+        rec[CONFLICTS + 1] = (m / 256) as u8;
     }
-    next
+}
+
+// The number given last.
+pub fn gave_block(rec: &mut [u8; RECORD], b: u8)
+    ensures { λ r. ⌜ recordIn (now (rec .exit)) ≡ withLastBlock (recordIn (now (rec .entry))) b ⌝ }
+{
+    sized(*rec);
+    rec[LAST_BLOCK] = b;
+}
+
+pub fn gave_list(rec: &mut [u8; RECORD], l: u8)
+    ensures { λ r. ⌜ recordIn (now (rec .exit)) ≡ withLastList (recordIn (now (rec .entry))) l ⌝ }
+{
+    sized(*rec);
+    rec[LAST_LIST] = l;
+}
+
+// The queue from another head on, with another length, and stores done of its head.
+pub fn flow(rec: &mut [u8; RECORD], head: usize, len: usize, done: usize)
+    requires { ⌜ (head < 256) × (len < 256) × (done < 65536) ⌝ }
+    ensures { λ r. ⌜ recordIn (now (rec .exit)) ≡ withFlow (recordIn (now (rec .entry))) head len done ⌝ }
+{
+    sized(*rec);
+    rec[HEAD] = head as u8;
+    rec[LEN] = len as u8;
+    rec[DONE] = (done % 256) as u8;
+    rec[DONE + 1] = (done / 256) as u8;
 }
 
 // A holder when unit u gives up what it holds.
@@ -84,15 +138,23 @@ fn freed(h: u8, u: u8) -> u8
     if h == u { 0 } else { h }
 }
 
-// The holders when unit u gives up what it holds.
-pub fn release(holder: [u8; 64], u: u8) -> [u8; 64]
-    ensures { λ r. ⌜ r ≡ released u holder ⌝ }
+// Unit u gives up what it holds.
+pub fn release(rec: &mut [u8; RECORD], u: u8)
+    ensures { λ r. ⌜ recordIn (now (rec .exit)) ≡ releasing u (recordIn (now (rec .entry))) ⌝ }
 {
-    let mut left = holder;
+    sized(*rec);
     let mut i = 0;
     while i < BLOCKS {
-        left[i] = freed(holder[i], u);
+        rec[HOLDERS + i] = freed(rec[HOLDERS + i], u);
         i += 1;
     }
-    left
+}
+
+// The record set anew.
+pub fn renew(rec: &mut [u8; RECORD])
+    ensures { λ r. ⌜ recordIn (now (rec .exit)) ≡ freshRecord ⌝ }
+{
+    let fresh = Record::fresh();
+    let bytes = fresh.bytes;
+    *rec = bytes;
 }

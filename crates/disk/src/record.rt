@@ -1,43 +1,65 @@
-// The working record that every call is given and gives back.
+// The working record that every call is lent, as bytes, and where its parts stand in them.
+//
+// An entry of the queue or of a journal is a cell of four bytes (`log::cell`). The queue is a ring of places: entry k from the head stands at
+// (head + k) % QUEUE, its data at the same place of the queue data. `done` counts the head's stores that are on the card.
+//
+//     0     queue: QUEUE cells
+//     128   journals: JOURNAL cells for each unit
+//     368   is the unit open? a byte for each
+//     372   entries in its journal: a byte for each unit
+//     376   the unit that holds the block, 0 for none: a byte for each block
+//     440   the queue's head, then its length; stores done of the head, two bytes; block and list given last; conflicts, two bytes
+use lists::tables::of_bytes;
+use log::cell::entry_in;
 use log::entry::LogEntry;
+use log::map;
 ghost use mathlib.Core.Path.{_≡_};
-ghost use Rattle.disk.specs.Record.{freshRecord};
+ghost use Prim.Native.Nat.{_<_, _≤_};
+ghost use lib.ListN.{getD};
+ghost use Rattle.log.specs.Cell.{memberIn, entryIn};
+ghost use Rattle.disk.specs.Record.{recordIn, noCell, unitAt, isOpen, holderOf, freshRecord};
 
-// An entry in the queue. A commit's `member` is not looked at.
-pub struct Queued {
-    pub member: bool,
-    pub entry: LogEntry,
-}
+// How many bytes a record has.
+pub const RECORD: usize = 448;
 
-// A change in a unit's journal.
-pub struct Journaled {
-    pub entry: LogEntry,
-}
+pub const CELL: usize = 4;
 
-// A unit: is it open, and the first `len` elements of its journal.
-pub struct Unit {
-    pub opened: bool,
-    pub len: usize,
-    pub journal: [Journaled; 15],
-}
+pub const JOURNALS: usize = 128;
+
+pub const OPENED: usize = 368;
+
+pub const LENGTHS: usize = 372;
+
+pub const HOLDERS: usize = 376;
+
+pub const HEAD: usize = 440;
+
+pub const LEN: usize = 441;
+
+pub const DONE: usize = 442;
+
+pub const LAST_BLOCK: usize = 444;
+
+pub const LAST_LIST: usize = 445;
+
+pub const CONFLICTS: usize = 446;
+
+const BLOCKS: usize = LogEntry::BLOCKS as usize;
+
+// The holder of a block that no unit holds.
+const NOBODY: u8 = 0;
+
+// A unit's journal.
+pub struct Unit {}
 
 impl Unit {
     // Entries in a unit's journal.
     pub const JOURNAL: usize = 15;
 }
 
-// The queue is a ring of places: entry k from the head stands at (head + k) % QUEUE, its data at the same place of the queue data.
-// `done` counts the head's stores that are on the card. `holder[b - 1]` is the unit that holds block b, 0 if none does.
+// A record's bytes, for who has none yet.
 pub struct Record {
-    pub queue: [Queued; 32],
-    pub head: usize,
-    pub len: usize,
-    pub done: usize,
-    pub units: [Unit; 4],
-    pub holder: [u8; 64],
-    pub last_block: u8,
-    pub last_list: u8,
-    pub conflicts: u16,
+    pub bytes: [u8; RECORD],
 }
 
 impl Record {
@@ -50,33 +72,110 @@ impl Record {
 
     // The record after an accepted mounting or formatting.
     pub fn fresh() -> Record
-        ensures { λ r. ⌜ r ≡ freshRecord ⌝ }
+        ensures { λ r. ⌜ recordIn (r .bytes) ≡ freshRecord ⌝ }
     {
-        let entry = LogEntry::Take { list: 0 };
-        let none = Journaled { entry };
-        let journal = [none; 15];
-        let closed = Unit {
-            opened: false,
-            len: 0,
-            journal,
-        };
-        let blank = Queued {
-            member: false,
-            entry,
-        };
-        let queue = [blank; 32];
-        let units = [closed; 4];
-        let holder = [0u8; 64];
-        Record {
-            queue,
-            head: 0,
-            len: 0,
-            done: 0,
-            units,
-            holder,
-            last_block: LogEntry::BLOCKS,
-            last_list: LogEntry::LISTS,
-            conflicts: 0,
-        }
+        let mut bytes = [0u8; RECORD];
+        bytes[LAST_BLOCK] = LogEntry::BLOCKS;
+        bytes[LAST_LIST] = LogEntry::LISTS;
+        Record { bytes }
     }
+}
+
+// An entry of the queue.
+pub struct Queued {
+    pub member: bool,
+    pub entry: LogEntry,
+}
+
+fn wide(byte: u8) -> usize
+    ensures { λ r. ⌜ r ≡ byte ⌝ }
+{
+    byte as usize
+}
+
+// The parts.
+
+pub fn head(rec: &[u8; RECORD]) -> usize
+    ensures { λ r. ⌜ r ≡ recordIn (now (rec .entry)) .head ⌝ }
+{
+    wide(rec[HEAD])
+}
+
+pub fn len(rec: &[u8; RECORD]) -> usize
+    ensures { λ r. ⌜ r ≡ recordIn (now (rec .entry)) .len ⌝ }
+{
+    wide(rec[LEN])
+}
+
+pub fn done(rec: &[u8; RECORD]) -> usize
+    ensures { λ r. ⌜ r ≡ recordIn (now (rec .entry)) .done ⌝ }
+{
+    of_bytes(rec[DONE], rec[DONE + 1]) as usize
+}
+
+pub fn last_block(rec: &[u8; RECORD]) -> u8
+    ensures { λ r. ⌜ r ≡ recordIn (now (rec .entry)) .lastBlock ⌝ }
+{
+    rec[LAST_BLOCK]
+}
+
+pub fn last_list(rec: &[u8; RECORD]) -> u8
+    ensures { λ r. ⌜ r ≡ recordIn (now (rec .entry)) .lastList ⌝ }
+{
+    rec[LAST_LIST]
+}
+
+pub fn conflicts(rec: &[u8; RECORD]) -> u16
+    ensures { λ r. ⌜ r ≡ recordIn (now (rec .entry)) .conflicts ⌝ }
+{
+    of_bytes(rec[CONFLICTS], rec[CONFLICTS + 1])
+}
+
+// Is unit u open?
+pub fn opened(rec: &[u8; RECORD], u: usize) -> bool
+    requires { ⌜ (1 ≤ u) × (u ≤ 4) ⌝ }
+    ensures { λ r. ⌜ r ≡ isOpen (unitAt (recordIn (now (rec .entry))) u) ⌝ }
+{
+    rec[OPENED + (u - 1)] != 0
+}
+
+// How many entries its journal has.
+pub fn journal_len(rec: &[u8; RECORD], u: usize) -> usize
+    requires { ⌜ (1 ≤ u) × (u ≤ 4) ⌝ }
+    ensures { λ r. ⌜ r ≡ unitAt (recordIn (now (rec .entry))) u .len ⌝ }
+{
+    wide(rec[LENGTHS + (u - 1)])
+}
+
+// The unit that holds a block; 0 for a number past the holders.
+pub fn holder_of(rec: &[u8; RECORD], block: u8) -> u8
+    ensures { λ r. ⌜ r ≡ holderOf (recordIn (now (rec .entry))) block ⌝ }
+{
+    let i = if block == 0 { 0 } else { block as usize - 1 };
+    if i < BLOCKS {
+        return rec[HOLDERS + i];
+    }
+    NOBODY
+}
+
+// The entry in a place of the queue.
+pub fn queue_entry(rec: &[u8; RECORD], at: usize) -> Queued
+    requires { ⌜ at < 32 ⌝ }
+    ensures { λ r. ⌜ (r .member ≡ memberIn (getD (recordIn (now (rec .entry)) .queue) at noCell)) × (r .entry ≡ entryIn (getD (recordIn (now (rec .entry)) .queue) at noCell)) ⌝ }
+{
+    let i = CELL * at;
+    let map = rec[i];
+    Queued {
+        member: map::is_member(map),
+        entry: entry_in(map, rec[i + 1], rec[i + 2], rec[i + 3]),
+    }
+}
+
+// Entry k of unit u's journal.
+pub fn journal_entry(rec: &[u8; RECORD], u: usize, k: usize) -> LogEntry
+    requires { ⌜ (1 ≤ u) × (u ≤ 4) × (k < 15) ⌝ }
+    ensures { λ r. ⌜ r ≡ entryIn (getD (unitAt (recordIn (now (rec .entry))) u .journal) k noCell) ⌝ }
+{
+    let i = JOURNALS + CELL * (Unit::JOURNAL * (u - 1) + k);
+    entry_in(rec[i], rec[i + 1], rec[i + 2], rec[i + 3])
 }

@@ -14,8 +14,7 @@ use Rattle.log.specs.Reader.{Reader, replay}
 use Rattle.log.specs.Card.{Content, slot, sound, fault, mounted, cardLength, walkCard}
 use Rattle.log.specs.promises.Location.{blank, cardLocation}
 use Rattle.log.proofs.Naturality.{mapReader, raw-map}
-use Rattle.disk.specs.declared.record.Record.{Record}
-use Rattle.disk.specs.Record.{shaped, unitAt, unitCount}
+use Rattle.disk.specs.Record.{Record, shaped, unitAt, unitCount}
 use Rattle.disk.specs.Disk.{Disk, disk, unitOf, queuedAt, queued, journalPlace, journalAt, journalOf, readerOf, committedReader, stateOf, committed}
 use Rattle.disk.specs.Sound.{isOpenUnit, putBy, journalSound, unitSound, holderSound, headStanding, recordSound}
 use Rattle.inspect.specs.promises.Located.{contents, queueHere}
@@ -89,7 +88,7 @@ module _ (d : Disk) where
       let s = isSome (committedReader d) in
       let k = headStanding (d .card) (r .done) (queued d) in
       let o = all (holderSound d) (from (λ b. b) 1 64) in
-      let ns = leb (r .len) 32 ∷ ltb (r .head) 32 ∷ isBlock (r .«last_block») ∷ isList (r .«last_list») ∷ leb (r .conflicts) 65535 ∷ [] in
+      let ns = leb (r .len) 32 ∷ ltb (r .head) 32 ∷ isBlock (r .lastBlock) ∷ isList (r .lastList) ∷ leb (r .conflicts) 65535 ∷ [] in
       ap (λ (b : Bool). b && each (ns ++ l ∷ u ∷ s ∷ k ∷ o ∷ [])) h
       ∙ each-append ns (l ∷ u ∷ s ∷ k ∷ o ∷ [])
       ∙ ap (λ (b : Bool). each ns && b) (turned l u s k o ∙ ap (λ (b : Bool). b && behindLog d) units-is)

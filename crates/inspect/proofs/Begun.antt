@@ -16,9 +16,8 @@ use Rattle.log.specs.Card.{Content, slot, segmentsIn}
 use Rattle.log.specs.Store.{home, tail, headAt}
 use Rattle.log.proofs.Within.{home-of-entry}
 use Rattle.log.proofs.LogStores.{going}
-use Rattle.disk.specs.declared.record.Queued.{Queued}
-use Rattle.disk.specs.declared.record.Record.{Record}
-use Rattle.disk.specs.Record.{noQueued}
+use Rattle.log.specs.Cell.{Cell, memberIn, entryIn}
+use Rattle.disk.specs.Record.{Record, noCell}
 use Rattle.disk.specs.Disk.{disk, queuedAt, queued}
 use Rattle.disk.specs.Sound.{headStanding}
 
@@ -27,11 +26,11 @@ module _ (c q j : List ℕ) (r : Record) where
   unfolding queued from headStanding
   head-none k h = rw h
 
-  abbrev headIn : Queued
-  headIn = getD (r .queue) (r .head) noQueued
+  abbrev headIn : Cell
+  headIn = getD (r .queue) (r .head) noCell
 
   abbrev headWith : Content → Entry Content
-  headWith d = going d (headIn .member) (headIn .entry)
+  headWith d = going d (memberIn headIn) (entryIn headIn)
 
   first : (d : Content) → r .head < 32 → r .len ≢ 0 → d ≡ slot q (r .head) → (es : List (Entry Content)) × (queued (disk c q j r) ≡ headWith d ∷ es)
   unfolding queued queuedAt
@@ -42,9 +41,9 @@ module _ (c q j : List ℕ) (r : Record) where
       (from f (0 + 1) (r .len - (0 + 1)), ap (from f 0) (sym z) ∙ from-step f 0 (r .len) (omega arith) ∙ rw (e, y))
 
   pub head-some : (k : ℕ) (d : Content) (p : Place) (o : Option Place) → r .head < 32 → r .len ≢ 0 → d ≡ slot q (r .head) → p ≡ tail c
-      → home (segmentsIn c) p (asEntry false (headIn .entry)) ≡ o → headStanding c k (queued (disk c q j r)) ≡ headAt c k o (headWith d)
+      → home (segmentsIn c) p (asEntry false (entryIn headIn)) ≡ o → headStanding c k (queued (disk c q j r)) ≡ headAt c k o (headWith d)
   unfolding headStanding
   head-some k d p o h n y t e =
       let (es, x) = first d h n y in
-      let z : home (segmentsIn c) (tail c) (headWith d) ≡ o = rw (← t) (home-of-entry (λ s. d) (headIn .member) (headIn .entry) (segmentsIn c) p ∙ e) in
+      let z : home (segmentsIn c) (tail c) (headWith d) ≡ o = rw (← t) (home-of-entry (λ s. d) (memberIn headIn) (entryIn headIn) (segmentsIn c) p ∙ e) in
       ap (headStanding c k) x ∙ ap (λ (w : Option Place). headAt c k w (headWith d)) z

@@ -19,8 +19,7 @@ use Rattle.log.specs.promises.Walk.{Sounds}
 use Rattle.log.specs.declared.place.Place.{Place}
 use Rattle.log.proofs.Naturality.{mapReader}
 use Rattle.log.proofs.Locations.{sound-at, fault-at}
-use Rattle.disk.specs.declared.record.Record.{Record}
-use Rattle.disk.specs.Record.{shaped}
+use Rattle.disk.specs.Record.{Record, shaped}
 use Rattle.disk.specs.Disk.{Disk, disk, readerOf, stateOf, persistent, committed, view}
 use Rattle.disk.specs.Sound.{lengthsRight, recordSound}
 use Rattle.inspect.specs.promises.Located.{contents, queueHere}

@@ -10,16 +10,14 @@ use lib.ListN.{getD}
 use denote.Enum.Declared.{tagOf}
 use types.Run.{OneOf}
 use Rattle.lists.specs.Basic.{all, each, from}
-use Rattle.lists.specs.Change.{Change, putFirst, putAfter, mapChange}
+use Rattle.lists.specs.Change.{Change}
 use Rattle.lists.specs.State.{Row, placed}
-use Rattle.lists.proofs.Basic.{from-step, from-none, from-shift, eqb-true, eqb-false, le-true, gt-false, leb-true, and-true}
-use Rattle.log.specs.Entry.{member, raw, legal, legalChange, hasMember, mapEntry, asChange, isBlock, isList}
+use Rattle.lists.proofs.Basic.{from-step, from-none, from-shift, eqb-true, eqb-false, le-true, gt-false}
+use Rattle.log.specs.Entry.{member, raw, legal, asChange, isBlock, isList}
 use Rattle.log.specs.declared.entry.LogEntry.{LogEntry}
 use Rattle.log.specs.declared.entry.LogEntry.the-variants.{Take, PutFirst, PutAfter, Write, DeleteBlock, DeleteList, Commit}
 use Rattle.log.proofs.entry.LogEntry.{the-type}
-use Rattle.disk.specs.declared.record.Unit.{Unit}
-use Rattle.disk.specs.declared.record.Record.{Record}
-use Rattle.disk.specs.Record.{unitAt, holderOf, unitCount}
+use Rattle.disk.specs.Record.{Unit, Record, unitAt, isOpen, holderOf, unitCount}
 use Rattle.disk.specs.Sound.{putBy}
 use Rattle.inspect.specs.promises.Clauses.{numbersRight, changeRight, changeIn, unitRight, unitsRight, openUnit, holderRight, holdersRight}
 
@@ -95,7 +93,7 @@ module _ (hs : List ℕ) (x : Unit) (u : ℕ) where
   unfolding unitRight each
   unit-long l = rw (gt-false (x .len) 15 l)
 
-  pub unit-closed : x .opened ≡ false → eqb (x .len) 0 ≡ unitRight hs x u
+  pub unit-closed : isOpen x ≡ false → eqb (x .len) 0 ≡ unitRight hs x u
   unfolding unitRight each all from
   unit-closed h = rw h (go (eqb (x .len) 0) refl)
     where
@@ -103,7 +101,7 @@ module _ (hs : List ℕ) (x : Unit) (u : ℕ) where
       go true e = let z = eqb-true (x .len) 0 e in rw z
       go false e = sym (and-no (leb (x .len) 15))
 
-  pub unit-open : x .len ≤ 15 → x .opened ≡ true → all (changeRight hs u) (from (changeIn x) 0 (x .len)) ≡ unitRight hs x u
+  pub unit-open : x .len ≤ 15 → isOpen x ≡ true → all (changeRight hs u) (from (changeIn x) 0 (x .len)) ≡ unitRight hs x u
   unfolding unitRight each
   unit-open l h = rw (h, le-true (x .len) 15 l) (sym (and-yes (all (changeRight hs u) (from (changeIn x) 0 (x .len)))))
 
@@ -124,20 +122,21 @@ module _ (r : Record) (u : ℕ) where
   unfolding openUnit
   open-high l = rw (le-true 1 u (omega arith), gt-false u 4 l)
 
-  pub open-unit : 1 ≤ u → u ≤ 4 → unitAt r u .opened ≡ openUnit r u
+  pub open-unit : 1 ≤ u → u ≤ 4 → isOpen (unitAt r u) ≡ openUnit r u
   unfolding openUnit
   open-unit a b = rw (le-true 1 u a, le-true u 4 b)
 
 -- The counts and numbers.
-pub numbers-all : (r : Record) → r .conflicts ≤ 65535 → (leb (r .len) 32 && ltb (r .head) 32) && (isBlock (r .«last_block») && isList (r .«last_list»)) ≡ numbersRight r
+pub numbers-all : (r : Record) → (leb (r .len) 32 && ltb (r .head) 32) && ((isBlock (r .lastBlock) && isList (r .lastList)) && leb (r .conflicts) 65535) ≡ numbersRight r
 unfolding numbersRight each
-numbers-all r h = rw (le-true (r .conflicts) 65535 h) (four (leb (r .len) 32) (ltb (r .head) 32) (isBlock (r .«last_block»)) (isList (r .«last_list»)))
+numbers-all r = five (leb (r .len) 32) (ltb (r .head) 32) (isBlock (r .lastBlock)) (isList (r .lastList)) (leb (r .conflicts) 65535)
   where
-    four : (a b c d : Bool) → (a && b) && (c && d) ≡ a && (b && (c && (d && true)))
-    four false b c d = refl
-    four true false c d = refl
-    four true true false d = refl
-    four true true true d = sym (and-yes d)
+    five : (a b c d e : Bool) → (a && b) && ((c && d) && e) ≡ a && (b && (c && (d && (e && true))))
+    five false b c d e = refl
+    five true false c d e = refl
+    five true true false d e = refl
+    five true true true false e = refl
+    five true true true true e = sym (and-yes e)
 
 -- The holder h of block b, over the lists rs.
 module _ (r : Record) (rs : List (Row ℕ)) (b h : ℕ) (e : holderOf r b ≡ h) where

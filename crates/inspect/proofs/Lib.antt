@@ -4,7 +4,6 @@ pub mod Queueing
 pub mod Judging
 pub mod Overlaying
 pub mod Searching
-pub mod Shaped
 pub mod Answering
 pub mod Settling
 pub mod Begun

@@ -15,12 +15,13 @@ use Rattle.lists.specs.Lookup.{contentOf, nextAfter, listNums, takenAfter}
 use Rattle.lists.specs.promises.Tables.{Tables, IsBlock, IsList, OfShown}
 use Rattle.lists.proofs.Naturality.{mapOption, taken-map, placed-map, onList-map, change-comp, applyAll-map, overlay-map, nextAfter-map, listNums-map, contentOf-map}
 use Rattle.log.specs.Entry.{mapEntry, asEntry, asChange}
+use Rattle.log.specs.Cell.{memberIn, entryIn}
 use Rattle.log.specs.Reader.{Reader, replay}
 use Rattle.log.specs.Card.{Content, zeros, sound, cardLength, walkCard}
 use Rattle.log.specs.promises.Location.{blank, cardLocation, queueLocation, journalLocation, contentAt}
 use Rattle.log.proofs.Naturality.{mapReader, entry-comp, replay-map}
 use Rattle.log.proofs.Locations.{content-queue, content-journal, sound-at}
-use Rattle.disk.specs.Record.{noQueued, noJournaled, ringPlace}
+use Rattle.disk.specs.Record.{noCell, ringPlace}
 use Rattle.disk.specs.Disk.{Disk, queuedAt, queued, unitOf, journalPlace, journalAt, journalOf, readerOf, committedReader}
 use Rattle.inspect.specs.promises.Located.{contents, Located, queuedHere, queueHere, changeHere, journalHere}
 
@@ -45,8 +46,8 @@ module _ (d : Disk) where
   unfolding queuedHere queuedAt
   entry-here k =
       let p = ringPlace (d .rec) k in
-      let q = getD (d .rec .queue) p noQueued in
-      let e = asEntry (q .member) (q .entry) in
+      let q = getD (d .rec .queue) p noCell in
+      let e = asEntry (memberIn q) (entryIn q) in
       entry-comp (contents d) (λ s. queueLocation p) e
       ∙ ap (λ (x : Content). mapEntry (λ s. x) e) (content-queue (d .card) (d .queueData) (d .journalData) p (mod-lt (d .rec .head + k) (omega arith)))
 
@@ -57,7 +58,7 @@ module _ (d : Disk) where
   change-here : (u k : ℕ) → mapChange (contents d) (changeHere (unitOf d u) u k) ≡ journalAt d u k
   unfolding changeHere journalAt
   change-here u k =
-      let c = asChange (getD (unitOf d u .journal) k noJournaled .entry) in
+      let c = asChange (entryIn (getD (unitOf d u .journal) k noCell)) in
       change-comp (contents d) (λ s. journalLocation (journalPlace u k)) c
       ∙ ap (λ (x : Content). mapChange (λ s. x) c) (content-journal (d .card) (d .queueData) (d .journalData) (journalPlace u k))
 

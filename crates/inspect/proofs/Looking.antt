@@ -12,10 +12,9 @@ use Rattle.log.specs.Entry.{member, mapEntry, raw, legal}
 use Rattle.log.specs.promises.Location.{blank}
 use Rattle.log.specs.declared.place.Place.{Place}
 use Rattle.log.proofs.Naturality.{raw-map}
-use Rattle.disk.specs.declared.record.Record.{Record}
+use Rattle.disk.specs.Record.{Record, unitAt, isOpen}
 use Rattle.disk.specs.declared.answer.Refusal.{Refusal}
 use Rattle.disk.specs.declared.answer.Refusal.the-variants.{WrongLength, RecordUnsound, StreamClosed}
-use Rattle.disk.specs.Record.{unitAt}
 use Rattle.disk.specs.Disk.{Disk, unitOf, journalAt, journalOf, committed, view}
 use Rattle.disk.specs.Sound.{lengthsRight, recordSound, isOpenUnit, journalSound}
 use Rattle.disk.specs.Questions.{streamOpen, viewOpen, ask, firstNo}
@@ -48,7 +47,7 @@ unit-lawful d u l s p q =
 pub open-range : (r : Record) (u : ℕ) → openUnit r u ≡ true → (1 ≤ u) × (u ≤ 4)
 unfolding openUnit
 open-range r u h =
-    let (a, b) = and-true (leb 1 u && leb u 4) (unitAt r u .opened) h in
+    let (a, b) = and-true (leb 1 u && leb u 4) (isOpen (unitAt r u)) h in
     let (p, q) = and-true (leb 1 u) (leb u 4) a in
     (leb-true 1 u p, leb-true u 4 q)
 

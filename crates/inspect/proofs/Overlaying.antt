@@ -15,12 +15,12 @@ use Rattle.lists.specs.promises.Tables.{Tables, Shows, Ranged, Represents, Did,
 use Rattle.lists.proofs.Basic.{and-true, leb-true, from-step, from-none, all-from}
 use Rattle.lists.proofs.Represents.{did-apply, did-overlay}
 use Rattle.log.specs.Entry.{member, mapEntry, raw, legal, legalChange, hasMember, isBlock, isList, asChange}
+use Rattle.log.specs.Cell.{entryIn}
 use Rattle.log.specs.declared.entry.LogEntry.{LogEntry}
 use Rattle.log.specs.declared.entry.LogEntry.the-variants.{Take, PutFirst, PutAfter, Write, DeleteBlock, DeleteList, Commit}
 use Rattle.log.proofs.Feeding.{fieldsChange}
 use Rattle.log.specs.promises.Location.{blank, journalLocation}
-use Rattle.disk.specs.declared.record.Unit.{Unit}
-use Rattle.disk.specs.Record.{noJournaled}
+use Rattle.disk.specs.Record.{Unit, noCell}
 use Rattle.disk.specs.Disk.{journalPlace}
 use Rattle.inspect.specs.promises.Located.{changeHere, journalHere}
 use Rattle.inspect.specs.promises.Clauses.{Overlays, changeIn}
@@ -83,11 +83,11 @@ still-all false r every′ b (inr h) = rw (h .1)
 
 module _ (x : Unit) (u : ℕ) (s : State ℕ) (lawful : all (λ c. legal (raw 0 (member c))) (from (changeIn x) 0 (x .len)) ≡ true) where
   pub laid-turn : (every r every′ : Bool) (k n : ℕ) (t t′ : Tables) → k < x .len → n ≡ journalLocation (journalPlace u k) → Still every r every′
-      → DidSome (fieldsChange (getD (x .journal) k noJournaled .entry) n) t r t′ → Laid x u s every k t → Laid x u s every′ (k + 1) t′
+      → DidSome (fieldsChange (entryIn (getD (x .journal) k noCell)) n) t r t′ → Laid x u s every k t → Laid x u s every′ (k + 1) t′
   unfolding overlay changeHere
   laid-turn every r every′ k n t t′ l e a d h =
       let c = changeHere x u k in
-      let (f, g) = member-change (getD (x .journal) k noJournaled .entry) (journalLocation (journalPlace u k)) (all-from _ (changeIn x) 0 (x .len) lawful k (omega arith) (omega arith)) in
+      let (f, g) = member-change (entryIn (getD (x .journal) k noCell)) (journalLocation (journalPlace u k)) (all-from _ (changeIn x) 0 (x .len) lawful k (omega arith) (omega arith)) in
       let w : Did c t r t′ = rw (e, f) at d in
       let q : restOf x u k ≡ c ∷ restOf x u (k + 1) = from-step (changeHere x u) k (x .len) l in
       record {

@@ -9,13 +9,12 @@ use lib.ListN.{getD}
 use Rattle.lists.specs.Basic.{isSome, all, from}
 use Rattle.lists.proofs.Basic.{from-step, from-none}
 use Rattle.log.specs.Entry.{Entry, mapEntry, raw, legal, asEntry}
+use Rattle.log.specs.Cell.{Cell, memberIn, entryIn}
 use Rattle.log.specs.Reader.{Reader, read, replay}
 use Rattle.log.specs.promises.Location.{blank, queueLocation}
 use Rattle.log.specs.promises.Feed.{Memory, Keeps}
 use Rattle.log.proofs.Naturality.{raw-map}
-use Rattle.disk.specs.declared.record.Record.{Record}
-use Rattle.disk.specs.declared.record.Queued.{Queued}
-use Rattle.disk.specs.Record.{noQueued, ringPlace}
+use Rattle.disk.specs.Record.{Record, noCell, ringPlace}
 use Rattle.inspect.specs.promises.Located.{queuedHere, queueHere}
 use Rattle.inspect.specs.promises.Clauses.{lawful, ReplayTo}
 
@@ -30,12 +29,12 @@ pub record FedUpTo (r : Record) (x : Reader ℕ) (k n : ℕ) (m : Memory) : Type
   pub replays : replay blank x (queueHere r) ≡ replay blank reader (leftOf r k)
   pub laws : lawful (queueHere r) ≡ lawful (leftOf r k)
 
-abbrev pub queuedIn : Record → ℕ → Queued
-queuedIn r k = getD (r .queue) (ringPlace r k) noQueued
+abbrev pub queuedIn : Record → ℕ → Cell
+queuedIn r k = getD (r .queue) (ringPlace r k) noCell
 
 -- the entry as it is fed
 abbrev pub fedAt : Record → ℕ → Entry ℕ
-fedAt r k = mapEntry (λ s. queueLocation (ringPlace r k)) (asEntry (queuedIn r k .member) (queuedIn r k .entry))
+fedAt r k = mapEntry (λ s. queueLocation (ringPlace r k)) (asEntry (memberIn (queuedIn r k)) (entryIn (queuedIn r k)))
 
 pub fed-none : (r : Record) (x : Reader ℕ) (n : ℕ) (m : Memory) → Keeps m n x → FedUpTo r x 0 n m
 unfolding queueHere
@@ -43,7 +42,7 @@ fed-none r x n m h = let e : r .len - 0 ≡ r .len = omega arith in record { rea
 
 module _ (r : Record) (x : Reader ℕ) (k n : ℕ) (m : Memory) (fed : FedUpTo r x k n m) where
   abbrev lawAt : Bool
-  lawAt = legal (raw 0 (asEntry (queuedIn r k .member) (queuedIn r k .entry)))
+  lawAt = legal (raw 0 (asEntry (memberIn (queuedIn r k)) (entryIn (queuedIn r k))))
 
   step : k < r .len → leftOf r k ≡ fedAt r k ∷ leftOf r (k + 1)
   unfolding queuedHere
@@ -51,7 +50,7 @@ module _ (r : Record) (x : Reader ℕ) (k n : ℕ) (m : Memory) (fed : FedUpTo r
 
   step-laws : k < r .len → lawful (queueHere r) ≡ lawAt && lawful (leftOf r (k + 1))
   unfolding all
-  step-laws l = fed .laws ∙ rw (step l) (rw (raw-map (λ s. queueLocation (ringPlace r k)) 0 (asEntry (queuedIn r k .member) (queuedIn r k .entry))))
+  step-laws l = fed .laws ∙ rw (step l) (rw (raw-map (λ s. queueLocation (ringPlace r k)) 0 (asEntry (memberIn (queuedIn r k)) (entryIn (queuedIn r k)))))
 
   step-replays : k < r .len → (o : Option (Reader ℕ)) → read blank (fed .reader) (fedAt r k) ≡ o
       → replay blank x (queueHere r) ≡ elim o [ none ↦ none | some y ↦ replay blank y (leftOf r (k + 1)) ]

@@ -9,7 +9,7 @@ use Rattle.lists.specs.promises.Tables.{Tables, OfShown}
 use Rattle.log.specs.Reader.{Reader, replay}
 use Rattle.log.specs.promises.Location.{blank}
 use Rattle.log.specs.promises.Feed.{Memory, Keeps}
-use Rattle.disk.specs.declared.record.Record.{Record}
+use Rattle.disk.specs.Record.{Record}
 use Rattle.disk.specs.Disk.{disk, queued}
 use Rattle.disk.specs.Sound.{headStanding}
 use Rattle.inspect.specs.promises.Located.{queueHere}

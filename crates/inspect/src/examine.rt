@@ -5,7 +5,7 @@ use super::lengths::lengths_right;
 use super::numbers::numbers_right;
 use super::queue::enter_queue;
 use super::units::units_right;
-use disk::record::Record;
+use disk::record::RECORD;
 use log::place::Place;
 use log::walk::Walked;
 use log::walk::walk;
@@ -19,7 +19,8 @@ ghost use Rattle.log.specs.Card.{cardLength, segmentsIn};
 ghost use Rattle.log.specs.Store.{tail};
 ghost use Rattle.log.specs.promises.Within.{Within};
 ghost use Rattle.log.specs.promises.Feed.{memory};
-ghost use Rattle.disk.specs.Disk.{disk};
+ghost use Rattle.disk.specs.Record.{recordIn};
+ghost use Rattle.disk.specs.Disk.{diskIn};
 ghost use Rattle.inspect.specs.promises.Clauses.{Settles, Settled};
 ghost use Rattle.inspect.specs.promises.Inspect.{Examines, ExaminesLog};
 
@@ -34,14 +35,14 @@ pub enum Examined {
 fn settle(
     card: &[u8],
     queue_data: &[u8],
-    rec: Record,
+    rec: &[u8; RECORD],
     behind: Place,
     run: usize,
     nodes: &mut [u8; 1280],
     members: &mut [u8; 128],
 ) -> bool
-    requires { ⌜ (cardLength (now card) ≡ true) × (length (now queue_data) ≡ 8192) × (rec .len ≤ 32) × (rec .head < 32) × (behind ≡ tail (now card)) × Within behind × (behind .segment < segmentsIn (now card)) × (run ≤ 64 * 255) ⌝ }
-    ensures { λ r. ⌜ Settles (now (card .entry)) (now (queue_data .entry)) (memory (now (nodes .entry)) (now (members .entry))) run rec r (tablesIn (now (nodes .exit))) ⌝ }
+    requires { ⌜ (cardLength (now card) ≡ true) × (length (now queue_data) ≡ 8192) × (recordIn (now rec) .len ≤ 32) × (recordIn (now rec) .head < 32) × (behind ≡ tail (now card)) × Within behind × (behind .segment < segmentsIn (now card)) × (run ≤ 64 * 255) ⌝ }
+    ensures { λ r. ⌜ Settles (now (card .entry)) (now (queue_data .entry)) (memory (now (nodes .entry)) (now (members .entry))) run (recordIn (now (rec .entry))) r (tablesIn (now (nodes .exit))) ⌝ }
 {
     if !enter_queue(nodes, members, rec, run) {
         return false;
@@ -56,14 +57,14 @@ fn settle(
 fn settle_apart(
     card: &[u8],
     queue_data: &[u8],
-    rec: Record,
+    rec: &[u8; RECORD],
     behind: Place,
     run: usize,
     nodes: &[u8; 1280],
     members: &mut [u8; 128],
 ) -> bool
-    requires { ⌜ (cardLength (now card) ≡ true) × (length (now queue_data) ≡ 8192) × (rec .len ≤ 32) × (rec .head < 32) × (behind ≡ tail (now card)) × Within behind × (behind .segment < segmentsIn (now card)) × (run ≤ 64 * 255) ⌝ }
-    ensures { λ r. ⌜ Settled (now (card .entry)) (now (queue_data .entry)) (memory (now (nodes .entry)) (now (members .entry))) run rec r ⌝ }
+    requires { ⌜ (cardLength (now card) ≡ true) × (length (now queue_data) ≡ 8192) × (recordIn (now rec) .len ≤ 32) × (recordIn (now rec) .head < 32) × (behind ≡ tail (now card)) × Within behind × (behind .segment < segmentsIn (now card)) × (run ≤ 64 * 255) ⌝ }
+    ensures { λ r. ⌜ Settled (now (card .entry)) (now (queue_data .entry)) (memory (now (nodes .entry)) (now (members .entry))) run (recordIn (now (rec .entry))) r ⌝ }
 {
     let mut nodes_then = *nodes;
     settle(card, queue_data, rec, behind, run, &mut nodes_then, members)
@@ -73,12 +74,12 @@ fn settle_apart(
 fn examine_log(
     card: &[u8],
     queue_data: &[u8],
-    rec: Record,
+    rec: &[u8; RECORD],
     persistent: bool,
     nodes: &mut [u8; 1280],
 ) -> Examined
-    requires { ⌜ (cardLength (now card) ≡ true) × (length (now queue_data) ≡ 8192) × (rec .len ≤ 32) × (rec .head < 32) ⌝ }
-    ensures { λ r. ⌜ ((j : List ℕ) → ExaminesLog (cond persistent 5 0) (disk (now (card .entry)) (now (queue_data .entry)) j rec) r (tablesIn (now (nodes .exit)))) ⌝ }
+    requires { ⌜ (cardLength (now card) ≡ true) × (length (now queue_data) ≡ 8192) × (recordIn (now rec) .len ≤ 32) × (recordIn (now rec) .head < 32) ⌝ }
+    ensures { λ r. ⌜ ((j : List ℕ) → ExaminesLog (cond persistent 5 0) (diskIn (now (card .entry)) (now (queue_data .entry)) j (now (rec .entry))) r (tablesIn (now (nodes .exit)))) ⌝ }
 {
     let mut members = [0u8; 128];
     let Walked::Sound(behind, run) = walk(card, nodes, &mut members) else {
@@ -102,11 +103,11 @@ pub fn examine(
     card: &[u8],
     queue_data: &[u8],
     journal_data: &[u8],
-    rec: Record,
+    rec: &[u8; RECORD],
     persistent: bool,
     nodes: &mut [u8; 1280],
 ) -> Examined
-    ensures { λ r. ⌜ Examines (cond persistent 5 0) (disk (now (card .entry)) (now (queue_data .entry)) (now (journal_data .entry)) rec) r (tablesIn (now (nodes .exit))) ⌝ }
+    ensures { λ r. ⌜ Examines (cond persistent 5 0) (diskIn (now (card .entry)) (now (queue_data .entry)) (now (journal_data .entry)) (now (rec .entry))) r (tablesIn (now (nodes .exit))) ⌝ }
 {
     if !lengths_right(card, queue_data, journal_data) {
         return Examined::WrongLength;

@@ -1,5 +1,9 @@
 // The stores of the queue's head that are done.
-use disk::record::Record;
+use disk::record::RECORD;
+use disk::record::done;
+use disk::record::head;
+use disk::record::len;
+use disk::record::queue_entry;
 use log::head::is_begun;
 use log::layout::SEGMENT;
 use log::layout::SLOT;
@@ -14,20 +18,22 @@ ghost use lib.ListN.{length};
 ghost use Rattle.log.specs.Card.{cardLength, segmentsIn};
 ghost use Rattle.log.specs.Store.{tail};
 ghost use Rattle.log.specs.promises.Within.{Within};
-ghost use Rattle.disk.specs.Disk.{disk, queued};
+ghost use Rattle.disk.specs.Record.{recordIn};
+ghost use Rattle.disk.specs.Disk.{diskIn, queued};
 ghost use Rattle.disk.specs.Sound.{headStanding};
 
 // Do they stand on the card, `place` being the place behind its log?
-pub fn head_stands(card: &[u8], queue_data: &[u8], rec: Record, place: Place) -> bool
-    requires { ⌜ (cardLength (now card) ≡ true) × (length (now queue_data) ≡ 8192) × (rec .len ≤ 32) × (rec .head < 32) × (place ≡ tail (now card)) × Within place × (place .segment < segmentsIn (now card)) ⌝ }
-    ensures { λ r. ⌜ ((j : List ℕ) → r ≡ headStanding (now (card .entry)) (rec .done) (queued (disk (now (card .entry)) (now (queue_data .entry)) j rec))) ⌝ }
+pub fn head_stands(card: &[u8], queue_data: &[u8], rec: &[u8; RECORD], place: Place) -> bool
+    requires { ⌜ (cardLength (now card) ≡ true) × (length (now queue_data) ≡ 8192) × (recordIn (now rec) .len ≤ 32) × (recordIn (now rec) .head < 32) × (place ≡ tail (now card)) × Within place × (place .segment < segmentsIn (now card)) ⌝ }
+    ensures { λ r. ⌜ ((j : List ℕ) → r ≡ headStanding (now (card .entry)) (recordIn (now (rec .entry)) .done) (queued (diskIn (now (card .entry)) (now (queue_data .entry)) j (now (rec .entry))))) ⌝ }
 {
-    if rec.len == 0 {
-        return rec.done == 0;
+    let stores = done(rec);
+    if len(rec) == 0 {
+        return stores == 0;
     }
-    let at = rec.head;
-    let head = rec.queue[at];
-    let e = head.entry;
+    let at = head(rec);
+    let first = queue_entry(rec, at);
+    let e = first.entry;
     let data = SLOT * at;
     match home_of(card.len() / SEGMENT, place, e) {
         Home::At(p) => is_begun(
@@ -35,9 +41,9 @@ pub fn head_stands(card: &[u8], queue_data: &[u8], rec: Record, place: Place) ->
             &queue_data[data..data + SLOT],
             p,
             e,
-            head.member,
-            rec.done,
+            first.member,
+            stores,
         ),
-        Home::Full => rec.done == 0,
+        Home::Full => stores == 0,
     }
 }

@@ -1,5 +1,8 @@
 // A unit's journal, laid over the state that lent tables show.
+use disk::record::RECORD;
 use disk::record::Unit;
+use disk::record::journal_entry;
+use disk::record::journal_len;
 use lists::tables::act;
 use log::feed::fields_of;
 use log::location::JOURNALS_AT;
@@ -9,20 +12,20 @@ ghost use Prim.Native.Nat.{_≤_};
 ghost use Rattle.lists.specs.Basic.{all, from};
 ghost use Rattle.lists.specs.promises.Tables.{tablesIn};
 ghost use Rattle.log.specs.Entry.{legal, raw, member};
+ghost use Rattle.disk.specs.Record.{recordIn, unitAt};
 ghost use Rattle.inspect.specs.promises.Clauses.{Overlays, changeIn};
 
 // Unit u's changes in order; one that does not apply is skipped. Did every one apply?
-pub fn enter_journal(nodes: &mut [u8; 1280], unit: Unit, u: usize) -> bool
-    requires { ⌜ (unit .len ≤ 15) × (1 ≤ u) × (u ≤ 4) × (all (λ c. legal (raw 0 (member c))) (from (changeIn unit) 0 (unit .len)) ≡ true) ⌝ }
-    ensures { λ r. ⌜ Overlays (tablesIn (now (nodes .entry))) unit u r (tablesIn (now (nodes .exit))) ⌝ }
+pub fn enter_journal(nodes: &mut [u8; 1280], rec: &[u8; RECORD], u: usize) -> bool
+    requires { ⌜ (unitAt (recordIn (now rec)) u .len ≤ 15) × (1 ≤ u) × (u ≤ 4) × (all (λ c. legal (raw 0 (member c))) (from (changeIn (unitAt (recordIn (now rec)) u)) 0 (unitAt (recordIn (now rec)) u .len)) ≡ true) ⌝ }
+    ensures { λ r. ⌜ Overlays (tablesIn (now (nodes .entry))) (unitAt (recordIn (now (rec .entry))) u) u r (tablesIn (now (nodes .exit))) ⌝ }
 {
     let first = JOURNALS_AT + ((u - 1) * Unit::JOURNAL) as u16;
     let mut every = true;
+    let n = journal_len(rec, u);
     let mut k = 0;
-    while k < unit.len {
-        let journaled = unit.journal[k];
-        let e = journaled.entry;
-        let f = fields_of(e);
+    while k < n {
+        let f = fields_of(journal_entry(rec, u, k));
         if !act(
             nodes,
             f.kind,

@@ -5,7 +5,7 @@ ghost use mathlib.Core.Path.{_≡_};
 ghost use mathlib.Core.Bool.{_&&_};
 ghost use lib.Dec.{eqb};
 ghost use lib.ListN.{length};
-ghost use Rattle.disk.specs.declared.record.Record.{Record};
+ghost use Rattle.disk.specs.Record.{Record};
 ghost use Rattle.disk.specs.Disk.{disk};
 ghost use Rattle.disk.specs.Sound.{lengthsRight};
 

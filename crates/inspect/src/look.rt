@@ -4,10 +4,10 @@ use super::examine::examine;
 use super::journal::enter_journal;
 use super::units::is_open;
 use disk::answer::Refusal;
-use disk::record::Record;
+use disk::record::RECORD;
 ghost use mathlib.Core.Bool.{true, false};
 ghost use Rattle.lists.specs.promises.Tables.{tablesIn};
-ghost use Rattle.disk.specs.Disk.{disk};
+ghost use Rattle.disk.specs.Disk.{diskIn};
 ghost use Rattle.inspect.specs.promises.Inspect.{Looks};
 
 // The view that is the persistent state.
@@ -24,11 +24,11 @@ pub fn look_view(
     card: &[u8],
     queue_data: &[u8],
     journal_data: &[u8],
-    rec: Record,
+    rec: &[u8; RECORD],
     view: usize,
     nodes: &mut [u8; 1280],
 ) -> Looked
-    ensures { λ r. ⌜ Looks true (disk (now (card .entry)) (now (queue_data .entry)) (now (journal_data .entry)) rec) view r (tablesIn (now (nodes .exit))) ⌝ }
+    ensures { λ r. ⌜ Looks true (diskIn (now (card .entry)) (now (queue_data .entry)) (now (journal_data .entry)) (now (rec .entry))) view r (tablesIn (now (nodes .exit))) ⌝ }
 {
     look(card, queue_data, journal_data, rec, true, view, nodes)
 }
@@ -38,11 +38,11 @@ pub fn look_stream(
     card: &[u8],
     queue_data: &[u8],
     journal_data: &[u8],
-    rec: Record,
+    rec: &[u8; RECORD],
     stream: usize,
     nodes: &mut [u8; 1280],
 ) -> Looked
-    ensures { λ r. ⌜ Looks false (disk (now (card .entry)) (now (queue_data .entry)) (now (journal_data .entry)) rec) stream r (tablesIn (now (nodes .exit))) ⌝ }
+    ensures { λ r. ⌜ Looks false (diskIn (now (card .entry)) (now (queue_data .entry)) (now (journal_data .entry)) (now (rec .entry))) stream r (tablesIn (now (nodes .exit))) ⌝ }
 {
     look(card, queue_data, journal_data, rec, false, stream, nodes)
 }
@@ -52,10 +52,10 @@ pub fn look_committed(
     card: &[u8],
     queue_data: &[u8],
     journal_data: &[u8],
-    rec: Record,
+    rec: &[u8; RECORD],
     nodes: &mut [u8; 1280],
 ) -> Looked
-    ensures { λ r. ⌜ Looks false (disk (now (card .entry)) (now (queue_data .entry)) (now (journal_data .entry)) rec) 0 r (tablesIn (now (nodes .exit))) ⌝ }
+    ensures { λ r. ⌜ Looks false (diskIn (now (card .entry)) (now (queue_data .entry)) (now (journal_data .entry)) (now (rec .entry))) 0 r (tablesIn (now (nodes .exit))) ⌝ }
 {
     look(card, queue_data, journal_data, rec, false, 0, nodes)
 }
@@ -65,12 +65,12 @@ fn look(
     card: &[u8],
     queue_data: &[u8],
     journal_data: &[u8],
-    rec: Record,
+    rec: &[u8; RECORD],
     looked: bool,
     v: usize,
     nodes: &mut [u8; 1280],
 ) -> Looked
-    ensures { λ r. ⌜ Looks looked (disk (now (card .entry)) (now (queue_data .entry)) (now (journal_data .entry)) rec) v r (tablesIn (now (nodes .exit))) ⌝ }
+    ensures { λ r. ⌜ Looks looked (diskIn (now (card .entry)) (now (queue_data .entry)) (now (journal_data .entry)) (now (rec .entry))) v r (tablesIn (now (nodes .exit))) ⌝ }
 {
     let persistent = v == PERSISTENT;
     match examine(card, queue_data, journal_data, rec, persistent, nodes) {
@@ -94,6 +94,6 @@ fn look(
     if !is_open(rec, v) {
         return Looked::Refused(Refusal::StreamClosed);
     }
-    enter_journal(nodes, rec.units[v - 1], v);
+    enter_journal(nodes, rec, v);
     Looked::Seen
 }

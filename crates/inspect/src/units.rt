@@ -1,83 +1,65 @@
 // The units and their journals.
+use disk::record::RECORD;
 use disk::record::Record;
 use disk::record::Unit;
+use disk::record::holder_of;
+use disk::record::journal_entry;
+use disk::record::journal_len;
+use disk::record::opened;
 use log::entry::LogEntry;
 use log::legal::is_member;
 ghost use mathlib.Core.Path.{_≡_};
-ghost use Prim.Native.Nat.{_-_};
-ghost use lib.ListN.{length, getD};
+ghost use Prim.Native.Nat.{_≤_};
 ghost use Rattle.log.specs.Entry.{asChange};
+ghost use Rattle.disk.specs.Record.{recordIn, unitAt};
 ghost use Rattle.inspect.specs.promises.Clauses.{changeRight, unitRight, unitsRight, openUnit};
 
-// The holder of a block that no unit holds.
-const NOBODY: u8 = 0;
-
-const BLOCKS: usize = LogEntry::BLOCKS as usize;
-
-// Nothing is done, and the compiler drops the copy: how many holders there are the proof learns of a value, not of a reference.
-fn counted(holder: [u8; 64])
-    ensures { λ r. ⌜ length holder ≡ 64 ⌝ }
-{}
-
-// The unit that holds a block, by the holders; 0 for a number past them.
-pub fn holder_of(holder: &[u8; 64], block: u8) -> u8
-    ensures { λ r. ⌜ r ≡ getD (now (holder .entry)) (block - 1) 0 ⌝ }
-{
-    let i = if block == 0 { 0 } else { block as usize - 1 };
-    if i < BLOCKS {
-        return holder[i];
-    }
-    counted(*holder);
-    NOBODY
-}
-
 // May the entry stand in unit u's journal?
-fn entry_right(holder: &[u8; 64], u: u8, e: LogEntry) -> bool
-    ensures { λ r. ⌜ r ≡ changeRight (now (holder .entry)) u (asChange e) ⌝ }
+fn entry_right(rec: &[u8; RECORD], u: u8, e: LogEntry) -> bool
+    ensures { λ r. ⌜ r ≡ changeRight (recordIn (now (rec .entry)) .holder) u (asChange e) ⌝ }
 {
     if !is_member(e) {
         return false;
     }
     match e {
-        LogEntry::PutFirst { block, list: _ } => holder_of(holder, block) == u,
+        LogEntry::PutFirst { block, list: _ } => holder_of(rec, block) == u,
         LogEntry::PutAfter {
             block,
             list: _,
             predecessor: _,
-        } => holder_of(holder, block) == u,
+        } => holder_of(rec, block) == u,
         _ => true,
     }
 }
 
-fn unit_right(holder: &[u8; 64], unit: Unit, u: u8) -> bool
-    ensures { λ r. ⌜ r ≡ unitRight (now (holder .entry)) unit u ⌝ }
+fn unit_right(rec: &[u8; RECORD], u: usize) -> bool
+    requires { ⌜ (1 ≤ u) × (u ≤ 4) ⌝ }
+    ensures { λ r. ⌜ r ≡ unitRight (recordIn (now (rec .entry)) .holder) (unitAt (recordIn (now (rec .entry))) u) u ⌝ }
 {
-    if Unit::JOURNAL < unit.len {
+    let n = journal_len(rec, u);
+    if Unit::JOURNAL < n {
         return false;
     }
-    if !unit.opened {
-        return unit.len == 0;
+    if !opened(rec, u) {
+        return n == 0;
     }
-    let mut i = 0;
-    while i < unit.len {
-        let journaled = unit.journal[i];
-        let e = journaled.entry;
-        if !entry_right(holder, u, e) {
+    let mut k = 0;
+    while k < n {
+        if !entry_right(rec, u as u8, journal_entry(rec, u, k)) {
             return false;
         }
-        i += 1;
+        k += 1;
     }
     true
 }
 
 // Are all four right?
-pub fn units_right(rec: Record) -> bool
-    ensures { λ r. ⌜ r ≡ unitsRight rec ⌝ }
+pub fn units_right(rec: &[u8; RECORD]) -> bool
+    ensures { λ r. ⌜ r ≡ unitsRight (recordIn (now (rec .entry))) ⌝ }
 {
-    let holder = rec.holder;
     let mut i = 0;
     while i < Record::UNITS {
-        if !unit_right(&holder, rec.units[i], (i + 1) as u8) {
+        if !unit_right(rec, i + 1) {
             return false;
         }
         i += 1;
@@ -86,8 +68,8 @@ pub fn units_right(rec: Record) -> bool
 }
 
 // Is unit u open? No other number is a unit.
-pub fn is_open(rec: Record, u: usize) -> bool
-    ensures { λ r. ⌜ r ≡ openUnit rec u ⌝ }
+pub fn is_open(rec: &[u8; RECORD], u: usize) -> bool
+    ensures { λ r. ⌜ r ≡ openUnit (recordIn (now (rec .entry))) u ⌝ }
 {
     if u < 1 {
         return false;
@@ -95,5 +77,5 @@ pub fn is_open(rec: Record, u: usize) -> bool
     if Record::UNITS < u {
         return false;
     }
-    rec.units[u - 1].opened
+    opened(rec, u)
 }

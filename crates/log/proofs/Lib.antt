@@ -1,6 +1,7 @@
 pub mod Slot
 pub mod Naturality
 pub mod Decode
+pub mod Cells
 pub mod Replay
 pub mod Segment
 pub mod EntryStores

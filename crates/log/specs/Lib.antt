@@ -1,4 +1,5 @@
 pub mod Entry
+pub mod Cell
 pub mod Reader
 pub mod Card
 pub mod Store

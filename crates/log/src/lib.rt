@@ -1,4 +1,5 @@
 // The log on the card: entries and their bytes, the layout of segments, the reader's walk, formatting and the stores of a flush.
+pub mod cell;
 pub mod content;
 pub mod copy;
 pub mod encode;

@@ -2,6 +2,7 @@
 ghost use mathlib.Core.Path.{_≡_};
 ghost use mathlib.Core.Bool.{cond};
 ghost use Prim.Native.Nat.{_+_, _/_, _%_, _<_};
+ghost use lib.Dec.{leb};
 ghost use Rattle.log.specs.Entry.{sizeOf};
 
 pub const BLOCK: u8 = 1 << 0;
@@ -21,6 +22,21 @@ pub const MEMBER: u32 = 7;
 
 // The fields that have a byte.
 pub const FIELDS: u8 = BLOCK | LIST | PREDECESSOR | SLOT | COUNT;
+
+// The maps of the kinds, without the mark of a member.
+pub const TAKE: u8 = LIST;
+
+pub const PUT_FIRST: u8 = BLOCK | LIST;
+
+pub const PUT_AFTER: u8 = BLOCK | LIST | PREDECESSOR;
+
+pub const WRITE: u8 = BLOCK | SLOT;
+
+pub const DELETE_BLOCK: u8 = BLOCK | REMOVAL;
+
+pub const DELETE_LIST: u8 = LIST | REMOVAL;
+
+pub const COMMIT: u8 = COUNT;
 
 // The length of an entry: its map, and one byte for each field.
 pub fn length(map: u8) -> usize
@@ -42,4 +58,11 @@ pub fn marked(kind: u8, member: bool) -> u8
     ensures { λ r. ⌜ r ≡ cond member (128 + kind) kind ⌝ }
 {
     kind | (member as u8) << MEMBER
+}
+
+// Does the map have the mark of a member?
+pub fn is_member(map: u8) -> bool
+    ensures { λ r. ⌜ r ≡ leb 128 map ⌝ }
+{
+    128 <= map
 }

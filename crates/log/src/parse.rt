@@ -4,6 +4,13 @@ use super::legal::both;
 use super::legal::is_block;
 use super::legal::is_list;
 use super::map;
+use super::map::COMMIT;
+use super::map::DELETE_BLOCK;
+use super::map::DELETE_LIST;
+use super::map::PUT_AFTER;
+use super::map::PUT_FIRST;
+use super::map::TAKE;
+use super::map::WRITE;
 ghost use mathlib.Core.Path.{_≡_};
 ghost use mathlib.Core.Logic.{_≢_};
 ghost use Prim.Native.Nat.{_+_, _-_, _<_, _≤_};
@@ -13,21 +20,6 @@ ghost use lib.Dec.{leb};
 ghost use lib.ListN.{length};
 ghost use Rattle.log.specs.Entry.{isSlot, isCount, sizeOf};
 ghost use Rattle.log.specs.promises.Parse.{byteAt, Inside, parsedOf, decodedAt};
-
-// The maps of the kinds, without the mark of a member.
-const TAKE: u8 = map::LIST;
-
-const PUT_FIRST: u8 = map::BLOCK | map::LIST;
-
-const PUT_AFTER: u8 = map::BLOCK | map::LIST | map::PREDECESSOR;
-
-const WRITE: u8 = map::BLOCK | map::SLOT;
-
-const DELETE_BLOCK: u8 = map::BLOCK | map::REMOVAL;
-
-const DELETE_LIST: u8 = map::LIST | map::REMOVAL;
-
-const COMMIT: u8 = map::COUNT;
 
 // An entry and the place behind it; or none: the map is not legal, a number is out of range, the slot is not the next one or the bytes end too soon.
 pub enum Parsed {

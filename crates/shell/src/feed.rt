@@ -1,5 +1,5 @@
 // A script's bytes, taken line by line.
-ghost use Prim.Native.Nat.{_≤_, _<_};
+ghost use Prim.Native.Nat.{_<_};
 ghost use lib.ListN.{length as Len};
 
 // A line that is too long keeps one byte more than the longest.

@@ -1,10 +1,10 @@
 -- What End adds to the queue and leaves of the unit.
 use mathlib.Core.Path.{_≡_}
-use mathlib.Core.Bool.{Bool, true, false}
+use mathlib.Core.Bool.{Bool, true}
 use mathlib.Core.List.{List, [], _∷_}
-use Prim.Native.Nat.{ℕ, _+_, _-_, _≤_, _<_}
+use Prim.Native.Nat.{ℕ, _+_, _≤_, _<_}
 use lib.Dec.{leb}
-use lib.ListN.{length, set}
+use lib.ListN.{length}
 use Rattle.lists.specs.Basic.{isSome, all, from}
 use Rattle.lists.specs.Change.{mapChange}
 use Rattle.lists.specs.State.{State, applyAll}
@@ -13,10 +13,9 @@ use Rattle.log.specs.declared.entry.LogEntry.{LogEntry}
 use Rattle.log.specs.Card.{slot}
 use Rattle.log.specs.Entry.{member, raw, legal, asChange}
 use Rattle.log.specs.promises.Location.{blank}
-use Rattle.disk.specs.declared.record.Record.{Record}
+use Rattle.disk.specs.Record.{Record, unitAt, unitTurned, releasing}
 use Rattle.disk.specs.declared.answer.Reply.{Reply}
 use Rattle.disk.specs.declared.answer.Reply.the-variants.{Accepted, Refused}
-use Rattle.disk.specs.Record.{unitAt, withUnits, emptied, released}
 use Rattle.disk.specs.Disk.{disk, journalOf}
 use Rattle.disk.specs.Call.{end}
 use Rattle.disk.specs.Questions.{firstNo}
@@ -27,7 +26,7 @@ use Rattle.inspect.specs.promises.Clauses.{changeIn}
 
 -- "the unit closes, its journal goes, its held numbers are released"
 abbrev pub closed : ℕ → Record → Record
-closed u r = withUnits r (set (r .units) (u - 1) (emptied false (unitAt r u))) (released u (r .holder))
+closed u r = releasing u (unitTurned 0 u r)
 
 -- entry e of a journal, its data at place k of the journal data j, joins queue data q and record r; the card is not looked at
 abbrev pub QueuesMember : List ℕ → List ℕ → Record → LogEntry → ℕ → List ℕ → Record → Type 0

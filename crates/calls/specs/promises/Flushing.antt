@@ -12,7 +12,7 @@ use Rattle.log.specs.Store.{doStores, after, home, tail, entryStores}
 use Rattle.log.specs.Flush.{Flow, full, spent, flushFrom}
 use Rattle.log.specs.promises.Within.{Within}
 use Rattle.log.specs.Turns.{AllInTurn}
-use Rattle.disk.specs.declared.record.Record.{Record}
+use Rattle.disk.specs.Record.{Record}
 use Rattle.disk.specs.declared.answer.FlushReply.{FlushReply}
 use Rattle.disk.specs.Disk.{disk, queuedAt}
 use Rattle.disk.specs.Sound.{lengthsRight, recordSound}
@@ -49,7 +49,8 @@ abbrev pub Heads : List ℕ → Place → Entry Content → ℕ → ℕ → Head
 Heads c p e k a Full c′ =
     (q : List (Entry Content)) (m : ℕ) → flushFrom (segmentsIn c) a m (flow c p (e ∷ q) k) ≡ record { flow = flow c′ p (e ∷ q) k; stores = m; ending = full }
 Heads c p e k a (Spent k′) c′ =
-    (q : List (Entry Content)) (m : ℕ) → flushFrom (segmentsIn c) a m (flow c p (e ∷ q) k) ≡ record { flow = flow c′ p (e ∷ q) k′; stores = m + a; ending = spent }
+    (k′ < length (entryStores p e))
+    × ((q : List (Entry Content)) (m : ℕ) → flushFrom (segmentsIn c) a m (flow c p (e ∷ q) k) ≡ record { flow = flow c′ p (e ∷ q) k′; stores = m + a; ending = spent })
 Heads c p e k a (Drained p′ n) c′ = HeadDrained c p e k a p′ n c′
 
 -- a disk with a sound record, p being the place behind its log

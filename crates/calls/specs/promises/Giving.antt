@@ -3,20 +3,19 @@ use mathlib.Core.Path.{_≡_}
 use mathlib.Core.Bool.{Bool, true, false, _&&_, _||_, not, cond}
 use mathlib.Core.Option.{Option, some}
 use mathlib.Core.List.{List, [], _∷_, _++_}
-use Prim.Native.Nat.{ℕ, _+_, _-_}
+use Prim.Native.Nat.{ℕ, _+_}
 use lib.Dec.{leb, eqb}
-use lib.ListN.{set}
 use Rattle.lists.specs.Basic.{isSome, orElse}
 use Rattle.lists.specs.State.{Row, State, taken, placed, onList, overlay}
 use Rattle.lists.specs.promises.Tables.{Tables, Shows}
 use Rattle.log.specs.declared.entry.LogEntry.{LogEntry}
 use Rattle.log.specs.declared.entry.LogEntry.the-variants.{Take, PutFirst, PutAfter}
-use Rattle.log.specs.Entry.{isList}
+use Rattle.log.specs.Entry.{isList, asEntry}
+use Rattle.log.specs.Cell.{cellOf}
 use Rattle.log.specs.promises.Location.{blank}
-use Rattle.disk.specs.declared.record.Record.{Record}
+use Rattle.disk.specs.Record.{Record, unitAt, holderOf, appended, holding, withLastBlock, withLastList}
 use Rattle.disk.specs.declared.answer.NumberReply.{NumberReply}
 use Rattle.disk.specs.declared.answer.NumberReply.the-variants.{Number, Refused}
-use Rattle.disk.specs.Record.{ringPlace, unitAt, holderOf, withQueue, withUnits, withLastBlock, withLastList}
 use Rattle.disk.specs.Disk.{Disk}
 use Rattle.disk.specs.Questions.{freeFrom, firstNo}
 use Rattle.disk.specs.Answers.{number}
@@ -25,14 +24,14 @@ use Rattle.calls.specs.promises.Adds.{added, rooms}
 
 -- of committed lists rs
 abbrev pub freeListIn : {D : Type 0} → Record → List (Row D) → Option ℕ
-freeListIn r rs = freeFrom (λ l. taken l rs) 16 16 (r .«last_list»)
+freeListIn r rs = freeFrom (λ l. taken l rs) 16 16 (r .lastList)
 
 abbrev pub freeBlockIn : {D : Type 0} → Record → List (Row D) → Option ℕ
-freeBlockIn r rs = freeFrom (λ b. placed b rs || not (eqb (holderOf r b) 0)) 64 64 (r .«last_block»)
+freeBlockIn r rs = freeFrom (λ b. placed b rs || not (eqb (holderOf r b) 0)) 64 64 (r .lastBlock)
 
 -- NewList behind question 4
 abbrev pub takenList : Record → ℕ → Record
-takenList r l = withLastList (withQueue r (set (r .queue) (ringPlace r (r .len)) (record { member = false; entry = Take l })) (r .len + 1)) l
+takenList r l = withLastList (appended (cellOf (asEntry false (Take l))) r) l
 
 abbrev pub Takes : Record → List (Row ℕ) → NumberReply → Record → Type 0
 Takes r rs (Refused x) r′ = (r′ ≡ r) × (firstNo ((10, isSome (freeListIn r rs)) ∷ (13, leb (r .len + 1) 32) ∷ []) ≡ number x)
@@ -43,7 +42,7 @@ abbrev pub putEntry : ℕ → ℕ → ℕ → LogEntry
 putEntry b l p = cond (eqb p 0) (PutFirst b l) (PutAfter b l p)
 
 abbrev pub heldBy : ℕ → ℕ → Record → Record
-heldBy s b r = cond (eqb s 0) r (withUnits r (r .units) (set (r .holder) (b - 1) s))
+heldBy s b r = cond (eqb s 0) r (holding b s r)
 
 unfoldable pub putBlock : ℕ → ℕ → ℕ → ℕ → Record → Record
 putBlock s l p b r = withLastBlock (heldBy s b (added s (putEntry b l p) r)) b

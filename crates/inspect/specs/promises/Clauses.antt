@@ -11,19 +11,18 @@ use Rattle.lists.specs.Change.{Change}
 use Rattle.lists.specs.State.{Row, State, placed, applyAll, overlay}
 use Rattle.lists.specs.promises.Tables.{Tables, Shows}
 use Rattle.log.specs.Entry.{Entry, member, raw, legal, isBlock, isList, asChange}
+use Rattle.log.specs.Cell.{entryIn}
 use Rattle.log.specs.Reader.{Reader, replay}
 use Rattle.log.specs.promises.Location.{blank}
 use Rattle.log.specs.promises.Feed.{Memory, Keeps}
-use Rattle.disk.specs.declared.record.Unit.{Unit}
-use Rattle.disk.specs.declared.record.Record.{Record}
-use Rattle.disk.specs.Record.{noJournaled, unitAt, holderOf, queuePlaces, journalPlaces, unitCount}
+use Rattle.disk.specs.Record.{Unit, Record, noCell, unitAt, isOpen, holderOf, queuePlaces, journalPlaces, unitCount}
 use Rattle.disk.specs.Disk.{disk, queued}
 use Rattle.disk.specs.Sound.{putBy, headStanding}
 use Rattle.inspect.specs.promises.Located.{queueHere, journalHere}
 
 -- "counts and numbers in range"
 unfoldable pub numbersRight : Record → Bool
-numbersRight r = each (leb (r .len) queuePlaces ∷ ltb (r .head) queuePlaces ∷ isBlock (r .«last_block») ∷ isList (r .«last_list») ∷ leb (r .conflicts) 65535 ∷ [])
+numbersRight r = each (leb (r .len) queuePlaces ∷ ltb (r .head) queuePlaces ∷ isBlock (r .lastBlock) ∷ isList (r .lastList) ∷ leb (r .conflicts) 65535 ∷ [])
 
 -- may change c stand in unit u's journal, hs being the holders?
 unfoldable pub changeRight : List ℕ → ℕ → Change ℕ → Bool
@@ -31,11 +30,11 @@ changeRight hs u c = legal (raw 0 (member c)) && all (λ b. eqb (getD hs (b - 1)
 
 -- change k of a journal, a write's slot as it stands there
 abbrev pub changeIn : Unit → ℕ → Change ℕ
-changeIn x k = asChange (getD (x .journal) k noJournaled .entry)
+changeIn x k = asChange (entryIn (getD (x .journal) k noCell))
 
 -- unit u of the record, x: its count, a journal only if it is open, and each change of it
 unfoldable pub unitRight : List ℕ → Unit → ℕ → Bool
-unitRight hs x u = each (leb (x .len) journalPlaces ∷ (x .opened || eqb (x .len) 0) ∷ all (changeRight hs u) (from (changeIn x) 0 (x .len)) ∷ [])
+unitRight hs x u = each (leb (x .len) journalPlaces ∷ (isOpen x || eqb (x .len) 0) ∷ all (changeRight hs u) (from (changeIn x) 0 (x .len)) ∷ [])
 
 -- all four
 unfoldable pub unitsRight : Record → Bool
@@ -43,7 +42,7 @@ unitsRight r = all (λ u. unitRight (r .holder) (unitAt r u) u) (from (λ u. u) 
 
 -- is u the number of an open unit?
 unfoldable pub openUnit : Record → ℕ → Bool
-openUnit r u = leb 1 u && leb u unitCount && unitAt r u .opened
+openUnit r u = leb 1 u && leb u unitCount && isOpen (unitAt r u)
 
 -- block b has no holder, or an open unit holds it and it is on no list of rs, those of the committed state
 unfoldable pub holderRight : {D : Type 0} → Record → List (Row D) → ℕ → Bool

@@ -8,11 +8,10 @@ use Rattle.lists.specs.Change.{Change, mapChange}
 use Rattle.lists.specs.State.{State, mapState}
 use Rattle.lists.specs.promises.Tables.{Tables, Shows}
 use Rattle.log.specs.Entry.{Entry, mapEntry, asEntry, asChange}
+use Rattle.log.specs.Cell.{memberIn, entryIn}
 use Rattle.log.specs.Card.{Content}
 use Rattle.log.specs.promises.Location.{contentAt, queueLocation, journalLocation}
-use Rattle.disk.specs.declared.record.Unit.{Unit}
-use Rattle.disk.specs.declared.record.Record.{Record}
-use Rattle.disk.specs.Record.{noQueued, noJournaled, ringPlace}
+use Rattle.disk.specs.Record.{Unit, Record, noCell, ringPlace}
 use Rattle.disk.specs.Disk.{Disk, journalPlace}
 
 -- the content that stands at a location of the disk
@@ -27,14 +26,14 @@ pub record Located (d : Disk) (t : Tables) (s : State Content) : Type 0 where
 
 -- the queue's entry k
 unfoldable pub queuedHere : Record → ℕ → Entry ℕ
-queuedHere r k = let p = ringPlace r k in let q = getD (r .queue) p noQueued in mapEntry (λ s. queueLocation p) (asEntry (q .member) (q .entry))
+queuedHere r k = let p = ringPlace r k in let q = getD (r .queue) p noCell in mapEntry (λ s. queueLocation p) (asEntry (memberIn q) (entryIn q))
 
 unfoldable pub queueHere : Record → List (Entry ℕ)
 queueHere r = from (queuedHere r) 0 (r .len)
 
 -- change k of unit u's journal
 unfoldable pub changeHere : Unit → ℕ → ℕ → Change ℕ
-changeHere x u k = mapChange (λ s. journalLocation (journalPlace u k)) (asChange (getD (x .journal) k noJournaled .entry))
+changeHere x u k = mapChange (λ s. journalLocation (journalPlace u k)) (asChange (entryIn (getD (x .journal) k noCell)))
 
 unfoldable pub journalHere : Unit → ℕ → List (Change ℕ)
 journalHere x u = from (changeHere x u) 0 (x .len)

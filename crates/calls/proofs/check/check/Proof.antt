@@ -1,7 +1,7 @@
 -- `look_committed` asks nothing more. Assumes nothing.
 use borrow.Author.Needs.{needs}
 use Rattle.calls.proofs.check.check.Statement.{statement}
-use Rattle.disk.specs.Disk.{disk}
+use Rattle.disk.specs.Disk.{diskIn}
 use Rattle.calls.proofs.Checking.{looks-checks}
 use Rattle.calls.proofs.check.check.Tie as tie
 
@@ -11,7 +11,7 @@ look-committed-requires c κs = search needs
 returns : tie.Need-returns
 returns c =
     let a = c .before .before .before .before .before .args in
-    looks-checks (disk (a .card .now) (a .queue-data .now) (a .journal-data .now) (a .rec)) (c .look-committed .result) _ (c .look-committed .ensures)
+    looks-checks (diskIn (a .card .now) (a .queue-data .now) (a .journal-data .now) (a .rec .now)) (c .look-committed .result) _ (c .look-committed .ensures)
 
 pub check-spec : {M : Type 1} → statement M
 check-spec = tie.close (tie.spec look-committed-requires returns)

@@ -8,6 +8,7 @@ use Rattle.calls.proofs.delete_block.delete_placed.Statement.{statement
 use Rattle.lists.specs.State.{placed}
 use Rattle.log.specs.declared.entry.LogEntry.the-variants.{DeleteBlock}
 use Rattle.log.specs.Entry.{isBlock}
+use Rattle.disk.specs.Record.{recordIn}
 use Rattle.disk.specs.declared.answer.Refusal.the-variants.{OutOfRange, BlockNotPlaced}
 use Rattle.disk.specs.Answers.{number}
 use Rattle.calls.proofs.Refusing.{inside}
@@ -21,7 +22,7 @@ returns : tie.Need-returns
 unfolding number
 returns c = λ rs h.
     let a = c .before .before .args in
-    first-no 5 8 (isBlock (a .b)) (placed (a .b) rs) (a .s) (DeleteBlock (a .b)) (a .rec) OutOfRange refl (sym (c .before .is-block .ensures) ∙ not-true (c .before .is-block .result) (c .if1 .taken))
+    first-no 5 8 (isBlock (a .b)) (placed (a .b) rs) (a .s) (DeleteBlock (a .b)) (recordIn (a .rec .now)) OutOfRange refl (sym (c .before .is-block .ensures) ∙ not-true (c .before .is-block .result) (c .if1 .taken))
 
 cast-block : tie.Need-cast-block
 cast-block c =
@@ -36,7 +37,7 @@ unfolding number
 returns-2 c = λ rs h.
     let a = c .before .before .before .before .args in
     let w = sym (c .before .before .before .is-block .ensures) ∙ not-false (c .before .before .before .is-block .result) (c .before .before .if1 .left) in
-    second-no 5 8 (isBlock (a .b)) (placed (a .b) rs) (a .s) (DeleteBlock (a .b)) (a .rec) BlockNotPlaced refl w
+    second-no 5 8 (isBlock (a .b)) (placed (a .b) rs) (a .s) (DeleteBlock (a .b)) (recordIn (a .rec .now)) BlockNotPlaced refl w
     (sym (placed-said (c .before .is-placed .ensures) rs h (inside 64 (a .b) w)) ∙ not-true (c .before .is-placed .result) (c .if2 .taken))
 
 add-requires : tie.Need-add-requires
@@ -44,10 +45,10 @@ add-requires c κs = search needs
 
 returns-3 : tie.Need-returns-3
 returns-3 c = λ rs h.
-    let a = c .before .before .before .before .before .args in
-    let w = sym (c .before .before .before .before .is-block .ensures) ∙ not-false (c .before .before .before .before .is-block .result) (c .before .before .before .if1 .left) in
-    both-yes 5 8 (isBlock (a .b)) (placed (a .b) rs) (a .s) (DeleteBlock (a .b)) (a .rec) (c .add .result .reply) (c .add .result .rec) w
-    (sym (placed-said (c .before .before .is-placed .ensures) rs h (inside 64 (a .b) w)) ∙ not-false (c .before .before .is-placed .result) (c .before .if2 .left))
+    let a = c .before .before .before .before .before .before .args in
+    let w = sym (c .before .before .before .before .before .is-block .ensures) ∙ not-false (c .before .before .before .before .before .is-block .result) (c .before .before .before .before .if1 .left) in
+    both-yes 5 8 (isBlock (a .b)) (placed (a .b) rs) (a .s) (DeleteBlock (a .b)) (recordIn (a .rec .now)) (c .add .result) (recordIn (c .add .last .0)) w
+    (sym (placed-said (c .before .before .before .is-placed .ensures) rs h (inside 64 (a .b) w)) ∙ not-false (c .before .before .before .is-placed .result) (c .before .before .if2 .left))
     (c .add .ensures)
 
 pub delete-placed-spec : {M : Type 1} → statement M

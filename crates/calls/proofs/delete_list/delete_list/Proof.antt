@@ -1,7 +1,8 @@
 -- Questions 1, 3 and 4 are those of `look_stream`; behind them the tables show the stream's view. Assumes nothing.
 use borrow.Author.Needs.{needs}
 use Rattle.calls.proofs.delete_list.delete_list.Statement.{statement}
-use Rattle.disk.specs.Disk.{disk}
+use Rattle.disk.specs.Record.{recordIn}
+use Rattle.disk.specs.Disk.{diskIn}
 use Rattle.disk.specs.Call.{deleteList}
 use Rattle.disk.specs.Answers.{replyAnswer}
 use Rattle.calls.proofs.Refusing.{edit-unseen, seen-ranges}
@@ -17,20 +18,20 @@ enum-known-x c = search needs
 returns : tie.Need-returns
 unfolding replyAnswer
 returns c =
-    let a = c .before .before .before .before .before .before .before .before .args in
-    let d = (disk (a .card .now) (a .queue-data .now) (a .journal-data .now) (a .rec)) in
+    let a = c .before .before .before .before .before .before .before .before .before .args in
+    let d = diskIn (a .card .now) (a .queue-data .now) (a .journal-data .now) (a .rec .now) in
     edit-unseen d (a .stream) (deleteList (a .list)) _ (rw (c .before .x .given .1) at (c .before .before .before .look-stream .ensures))
 
 enum-told : tie.Need-enum-told
 enum-told c = search needs
 
 delete-taken-requires : tie.Need-delete-taken-requires
-delete-taken-requires c κs = seen-ranges (rw (c .before .enum-told .given .1) at (c .before .before .before .look-stream .ensures))
+delete-taken-requires c κs = seen-ranges (rw (c .before .before .enum-told .given .1) at (c .before .before .before .before .look-stream .ensures))
 
 returns-2 : tie.Need-returns-2
 returns-2 c =
-    let a = c .before .before .before .before .before .before .before .before .before .args in
-    deletes-list (disk (a .card .now) (a .queue-data .now) (a .journal-data .now) (a .rec)) (a .stream) (a .list) _ _ _ (rw (c .before .before .enum-told .given .1) at (c .before .before .before .before .look-stream .ensures)) (c .delete-taken .ensures)
+    let a = c .before .before .before .before .before .before .before .before .before .before .before .args in
+    deletes-list (diskIn (a .card .now) (a .queue-data .now) (a .journal-data .now) (a .rec .now)) (a .stream) (a .list) _ (c .delete-taken .result) (recordIn (c .delete-taken .last .0)) (rw (c .before .before .before .enum-told .given .1) at (c .before .before .before .before .before .look-stream .ensures)) (c .delete-taken .ensures)
 
 pub delete-list-spec : {M : Type 1} → statement M
 delete-list-spec =

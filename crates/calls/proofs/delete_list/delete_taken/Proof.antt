@@ -8,6 +8,7 @@ use Rattle.calls.proofs.delete_list.delete_taken.Statement.{statement}
 use Rattle.lists.specs.State.{taken}
 use Rattle.log.specs.declared.entry.LogEntry.the-variants.{DeleteList}
 use Rattle.log.specs.Entry.{isList}
+use Rattle.disk.specs.Record.{recordIn}
 use Rattle.disk.specs.declared.answer.Refusal.the-variants.{OutOfRange, ListNotTaken}
 use Rattle.disk.specs.Answers.{number}
 use Rattle.calls.proofs.Refusing.{inside}
@@ -21,7 +22,7 @@ returns : tie.Need-returns
 unfolding number
 returns c = λ rs h.
     let a = c .before .before .args in
-    first-no 5 7 (isList (a .l)) (taken (a .l) rs) (a .s) (DeleteList (a .l)) (a .rec) OutOfRange refl (sym (c .before .is-list .ensures) ∙ not-true (c .before .is-list .result) (c .if1 .taken))
+    first-no 5 7 (isList (a .l)) (taken (a .l) rs) (a .s) (DeleteList (a .l)) (recordIn (a .rec .now)) OutOfRange refl (sym (c .before .is-list .ensures) ∙ not-true (c .before .is-list .result) (c .if1 .taken))
 
 cast-list : tie.Need-cast-list
 cast-list c =
@@ -36,7 +37,7 @@ unfolding number
 returns-2 c = λ rs h.
     let a = c .before .before .before .before .args in
     let w = sym (c .before .before .before .is-list .ensures) ∙ not-false (c .before .before .before .is-list .result) (c .before .before .if1 .left) in
-    second-no 5 7 (isList (a .l)) (taken (a .l) rs) (a .s) (DeleteList (a .l)) (a .rec) ListNotTaken refl w
+    second-no 5 7 (isList (a .l)) (taken (a .l) rs) (a .s) (DeleteList (a .l)) (recordIn (a .rec .now)) ListNotTaken refl w
     (sym (taken-said (c .before .is-taken .ensures) rs h (inside 16 (a .l) w)) ∙ not-true (c .before .is-taken .result) (c .if2 .taken))
 
 add-requires : tie.Need-add-requires
@@ -44,10 +45,10 @@ add-requires c κs = search needs
 
 returns-3 : tie.Need-returns-3
 returns-3 c = λ rs h.
-    let a = c .before .before .before .before .before .args in
-    let w = sym (c .before .before .before .before .is-list .ensures) ∙ not-false (c .before .before .before .before .is-list .result) (c .before .before .before .if1 .left) in
-    both-yes 5 7 (isList (a .l)) (taken (a .l) rs) (a .s) (DeleteList (a .l)) (a .rec) (c .add .result .reply) (c .add .result .rec) w
-    (sym (taken-said (c .before .before .is-taken .ensures) rs h (inside 16 (a .l) w)) ∙ not-false (c .before .before .is-taken .result) (c .before .if2 .left))
+    let a = c .before .before .before .before .before .before .args in
+    let w = sym (c .before .before .before .before .before .is-list .ensures) ∙ not-false (c .before .before .before .before .before .is-list .result) (c .before .before .before .before .if1 .left) in
+    both-yes 5 7 (isList (a .l)) (taken (a .l) rs) (a .s) (DeleteList (a .l)) (recordIn (a .rec .now)) (c .add .result) (recordIn (c .add .last .0)) w
+    (sym (taken-said (c .before .before .before .is-taken .ensures) rs h (inside 16 (a .l) w)) ∙ not-false (c .before .before .before .is-taken .result) (c .before .before .if2 .left))
     (c .add .ensures)
 
 pub delete-taken-spec : {M : Type 1} → statement M

@@ -1,5 +1,6 @@
 -- Questions 1, 3 and 4 are those of `enter`; behind them the tables show the committed state. Assumes nothing.
-use Rattle.disk.specs.Disk.{disk}
+use Rattle.disk.specs.Record.{recordIn}
+use Rattle.disk.specs.Disk.{diskIn}
 use Rattle.disk.specs.Answers.{replyAnswer}
 use Rattle.calls.proofs.Ending.{stands-ready, ends-performs, end-not-entered}
 use borrow.Author.Needs.{needs}
@@ -18,31 +19,25 @@ same-length c = search needs
 returns : tie.Need-returns
 unfolding replyAnswer
 returns c =
-    let l = c .before .before .before in
-    let a = l .before .before .before .before .before .before .args in
-    let d = disk (a .card .now) (a .queue-data .now) (a .journal-data .now) (a .rec) in
-    end-not-entered (a .unit) d _ (rw (c .before .x .given .1) at (l .enter .ensures))
+    let a = c .before .before .before .before .before .before .before .before .before .before .args in
+    end-not-entered (a .unit) (diskIn (a .card .now) (a .queue-data .now) (a .journal-data .now) (a .rec .now)) _ (rw (c .before .x .given .1) at (c .before .before .before .enter .ensures))
 
 enum-told : tie.Need-enum-told
 enum-told c = search needs
 
 end-unit-requires : tie.Need-end-unit-requires
 end-unit-requires c κs =
-    let l = c .before .before .before .before in
-    let a = l .before .before .before .before .before .before .args in
-    let d = disk (a .card .now) (a .queue-data .now) (a .journal-data .now) (a .rec) in
-    stands-ready (a .unit) d _ (rw (c .before .before .enum-told .given .1) at (l .enter .ensures))
+    let a = c .before .before .before .before .before .before .before .before .before .before .before .before .args in
+    stands-ready (a .unit) (diskIn (a .card .now) (a .queue-data .now) (a .journal-data .now) (a .rec .now)) _ (rw (c .before .before .before .enum-told .given .1) at (c .before .before .before .before .before .enter .ensures))
 
 same-length-2 : tie.Need-same-length-2
 same-length-2 c = search needs
 
 returns-2 : tie.Need-returns-2
 returns-2 c =
-    let e = c .before .before in
-    let l = e .before .before .before .before .before in
-    let a = l .before .before .before .before .before .before .args in
-    let d = disk (a .card .now) (a .queue-data .now) (a .journal-data .now) (a .rec) in
-    ends-performs (a .unit) d _ (rw (e .before .before .before .enum-told .given .1) at (l .enter .ensures)) (e .end-unit .result .reply) _ (e .end-unit .result .rec) (e .end-unit .ensures)
+    let a = c .before .before .before .before .before .before .before .before .before .before .before .before .before .before .before .args in
+    let e = c .before .before .end-unit in
+    ends-performs (a .unit) (diskIn (a .card .now) (a .queue-data .now) (a .journal-data .now) (a .rec .now)) _ (rw (c .before .before .before .before .before .before .enum-told .given .1) at (c .before .before .before .before .before .before .before .before .enter .ensures)) (e .result) _ (recordIn (e .last .1 .1 .1 .0)) (e .ensures)
 
 pub end-spec : {M : Type 1} → statement M
 end-spec =

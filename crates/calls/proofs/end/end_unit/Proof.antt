@@ -1,22 +1,12 @@
 -- The journal laid over the committed state tells whether every entry applies. Assumes nothing.
 use mathlib.Core.Path.{sym, ap, _∙_}
 use borrow.Author.Tests.{not-true, not-false}
-use Prim.Native.Nat.{_+_, min}
-use Rattle.disk.specs.declared.record.Record.{Record}
-use Rattle.disk.specs.Record.{withConflicts}
+use native.Mathlib.Omega.{arith}
+use Rattle.disk.specs.Record.{Record, recordIn, conflictCounted}
 use Rattle.calls.proofs.Ending.{ends-conflict, ends-full, ends-accepted}
 use borrow.Author.Needs.{needs}
 use Rattle.calls.proofs.end.end_unit.Statement.{statement}
 use Rattle.calls.proofs.end.end_unit.Tie as tie
-
-sub-unit : tie.Need-sub-unit
-sub-unit c = search needs
-
-mul-unit : tie.Need-mul-unit
-mul-unit c = search needs
-
-element-copy-out-unit : tie.Need-element-copy-out-unit
-element-copy-out-unit c = search needs
 
 enter-journal-requires : tie.Need-enter-journal-requires
 enter-journal-requires c κs = search needs
@@ -29,22 +19,28 @@ count-conflict-requires c κs = search needs
 
 returns : tie.Need-returns
 returns c st sh =
-    let j = c .before .before .before in
-    let a = j .before .before .before .before .before .args in
-    ends-conflict (a .queue-data .now) (a .journal-data .now) (a .t4) (a .u) _ (c .count-conflict .result) (sym (j .enter-journal .ensures .answer st sh) ∙ not-true (j .enter-journal .result) (c .before .before .if1 .taken))
-    (c .count-conflict .ensures ∙ ap (λ (r : Record). withConflicts r (min 65535 (r .conflicts + 1))) (c .before .close .ensures))
+    let a = c .before .before .before .before .before .before .before .before .before .before .args in
+    let j = c .before .before .before .before .before .enter-journal in
+    ends-conflict (a .queue-data .now) (a .journal-data .now) (recordIn (a .rec .now)) (a .u) _ (recordIn (c .count-conflict .last .0)) (sym (j .ensures .answer st sh) ∙ not-true (j .result) (c .before .before .before .before .if1 .taken))
+    (c .count-conflict .ensures ∙ ap (λ (r : Record). conflictCounted r) (c .before .before .close .ensures))
+
+len-requires : tie.Need-len-requires
+len-requires c κs = search needs
+
+journal-len-requires : tie.Need-journal-len-requires
+journal-len-requires c κs = search needs
 
 add-if2 : tie.Need-add-if2
-add-if2 c = search needs
+add-if2 c = omega (arith, c .before .before .len .ensures, c .journal-len .ensures, c .before .before .before .before .before .before .before .before .before .before .pre .queue, c .before .before .before .before .before .before .before .before .before .before .pre .room)
 
 returns-2 : tie.Need-returns-2
 returns-2 c st sh =
-    let j = c .before .before .before in
-    let a = j .before .before .before .before .before .args in
-    ends-full (a .queue-data .now) (a .journal-data .now) (a .t4) (a .u) _ (sym (j .enter-journal .ensures .answer st sh) ∙ not-false (j .enter-journal .result) (c .before .before .if1 .left)) (search needs)
+    let a = c .before .before .before .before .before .before .before .before .before .before .before .args in
+    let j = c .before .before .before .before .before .before .enter-journal in
+    ends-full (a .queue-data .now) (a .journal-data .now) (recordIn (a .rec .now)) (a .u) _ (sym (j .ensures .answer st sh) ∙ not-false (j .result) (c .before .before .before .before .before .if1 .left)) (omega (arith, c .before .before .before .len .ensures, c .before .journal-len .ensures, c .if2 .taken))
 
 queue-unit-requires : tie.Need-queue-unit-requires
-queue-unit-requires c κs = search needs
+queue-unit-requires c κs = (c .before .before .before .before .before .before .before .before .before .before .before .before .before .pre, omega (arith, c .before .before .before .before .before .len .ensures, c .before .before .before .journal-len .ensures, c .before .before .if2 .left))
 
 close-requires-2 : tie.Need-close-requires-2
 close-requires-2 c κs = search needs
@@ -54,22 +50,22 @@ same-length c = search needs
 
 returns-3 : tie.Need-returns-3
 returns-3 c st sh =
-    let q = c .before .before .before in
-    let j = q .before .before .before .before .before in
-    let a = j .before .before .before .before .before .args in
-    ends-accepted (a .queue-data .now) (a .journal-data .now) (a .t4) (a .u) _ (sym (j .enter-journal .ensures .answer st sh) ∙ not-false (j .enter-journal .result) (q .before .before .before .before .if1 .left)) _ (q .queue-unit .result) (c .close2 .result) (search needs) (q .queue-unit .ensures) (c .close2 .ensures)
+    let a = c .before .before .before .before .before .before .before .before .before .before .before .before .before .before .before .before .before .before .args in
+    let j = c .before .before .before .before .before .before .before .before .before .before .before .before .before .enter-journal in
+    let q = c .before .before .before .before .queue-unit in
+    ends-accepted (a .queue-data .now) (a .journal-data .now) (recordIn (a .rec .now)) (a .u) _ (sym (j .ensures .answer st sh) ∙ not-false (j .result) (c .before .before .before .before .before .before .before .before .before .before .before .before .if1 .left)) _ (recordIn (q .last .1 .1 .0)) (recordIn (c .close2 .last .0))
+    (omega (arith, c .before .before .before .before .before .before .before .before .before .before .len .ensures, c .before .before .before .before .before .before .before .before .journal-len .ensures, c .before .before .before .before .before .before .before .if2 .left)) (q .ensures) (c .close2 .ensures)
 
 pub end-unit-spec : {M : Type 1} → statement M
 end-unit-spec =
     tie.close
     (tie.spec
-    sub-unit
-    mul-unit
-    element-copy-out-unit
     enter-journal-requires
     close-requires
     count-conflict-requires
     returns
+    len-requires
+    journal-len-requires
     add-if2
     returns-2
     queue-unit-requires

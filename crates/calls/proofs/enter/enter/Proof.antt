@@ -2,7 +2,7 @@
 use borrow.Author.Needs.{needs}
 use mathlib.Core.Path.{_∙_, sym}
 use mathlib.Core.Logic.{⊎-elim}
-use Rattle.disk.specs.Disk.{disk}
+use Rattle.disk.specs.Disk.{diskIn}
 use Rattle.disk.specs.Answers.{number}
 use Rattle.calls.proofs.Entering.{open-zero, open-stream, open-unit, stands, stands-closed, unsound}
 use Rattle.calls.proofs.enter.enter.Statement.{statement}
@@ -17,7 +17,7 @@ enum-known-x c = search needs
 returns : tie.Need-returns
 returns c =
     let a = c .before .before .before .before .before .before .before .before .args in
-    unsound (a .stream) (disk (a .card .now) (a .queue-data .now) (a .journal-data .now) (a .rec)) (a .s) _ (rw (c .before .x .given .1) at (c .before .before .before .look-committed .ensures))
+    unsound (a .stream) (diskIn (a .card .now) (a .queue-data .now) (a .journal-data .now) (a .rec .now)) (a .s) _ (rw (c .before .x .given .1) at (c .before .before .before .look-committed .ensures))
 
 enum-told : tie.Need-enum-told
 enum-told c = search needs
@@ -32,7 +32,7 @@ returns-3 : tie.Need-returns-3
 returns-3 c =
     let j = c .before .before in
     let a = j .before .before .before .before .before .before .before .before .args in
-    let d = disk (a .card .now) (a .queue-data .now) (a .journal-data .now) (a .rec) in
+    let d = diskIn (a .card .now) (a .queue-data .now) (a .journal-data .now) (a .rec .now) in
     stands (a .stream) d (a .s) _ (rw (j .before .enum-told .given .1) at (j .before .before .before .look-committed .ensures))
     (⊎-elim (λ w. open-stream (a .stream) d (a .s) (w .1 .left)) (λ w. open-unit (a .stream) d (a .s) (w .left)) (j .if1 .came) ∙ sym (c .before .is-open .ensures) ∙ c .if3 .taken)
 
@@ -41,7 +41,7 @@ unfolding number
 returns-4 c =
     let j = c .before .before in
     let a = j .before .before .before .before .before .before .before .before .args in
-    let d = disk (a .card .now) (a .queue-data .now) (a .journal-data .now) (a .rec) in
+    let d = diskIn (a .card .now) (a .queue-data .now) (a .journal-data .now) (a .rec .now) in
     stands-closed (a .stream) d (a .s) _ (rw (j .before .enum-told .given .1) at (j .before .before .before .look-committed .ensures))
     (⊎-elim (λ w. open-stream (a .stream) d (a .s) (w .1 .left)) (λ w. open-unit (a .stream) d (a .s) (w .left)) (j .if1 .came) ∙ sym (c .before .is-open .ensures) ∙ c .if3 .left)
 

@@ -9,7 +9,7 @@ use Rattle.lists.proofs.Basic.{le-true, gt-false}
 use Rattle.disk.specs.declared.answer.Refusal.{Refusal}
 use Rattle.disk.specs.declared.answer.Refusal.the-variants.{WrongLength, RecordUnsound, OutOfRange}
 use Rattle.disk.specs.declared.answer.FlushReply.the-variants.{Refused}
-use Rattle.disk.specs.Disk.{Disk, disk}
+use Rattle.disk.specs.Disk.{Disk, diskIn}
 use Rattle.disk.specs.Sound.{lengthsRight, recordSound}
 use Rattle.disk.specs.Call.{flush, destination}
 use Rattle.disk.specs.Questions.{questions, refusal, firstNo}
@@ -58,42 +58,42 @@ same-length c = search needs
 
 returns : tie.Need-returns
 returns c =
-    let a = c .before .before .before .before .before .before .before .before .before .before .args in
+    let a = c .before .before .before .before .before .before .before .before .before .before .before .args in
     let x = rw (c .before .before .behind .given .1) at (c .before .before .before .before .examine .ensures) in
-    outside (a .allowance) (disk (a .card .now) (a .queue-data .now) (a .journal-data .now) (a .rec)) (x .lengths) (x .sound) (c .if1 .taken)
+    outside (a .allowance) (diskIn (a .card .now) (a .queue-data .now) (a .journal-data .now) (a .rec .now)) (x .lengths) (x .sound) (c .if1 .taken)
 
 drain-requires : tie.Need-drain-requires
 drain-requires c κs =
-    let a = c .before .before .before .before .before .before .before .before .before .before .before .args in
-    let x = rw (c .before .before .before .behind .given .1) at (c .before .before .before .before .before .examine .ensures) in
-    flushable (disk (a .card .now) (a .queue-data .now) (a .journal-data .now) (a .rec)) _ (x .lengths) (x .sound) (x .place)
+    let a = c .before .before .before .before .before .before .before .before .before .before .before .before .before .args in
+    let x = rw (c .before .before .before .before .behind .given .1) at (c .before .before .before .before .before .before .examine .ensures) in
+    flushable (diskIn (a .card .now) (a .queue-data .now) (a .journal-data .now) (a .rec .now)) _ (x .lengths) (x .sound) (x .place)
 
 same-length-2 : tie.Need-same-length-2
 same-length-2 c = search needs
 
 returns-2 : tie.Need-returns-2
 returns-2 c =
-    let a = c .before .before .before .before .before .before .before .before .args in
-    wrong-length (a .allowance) (disk (a .card .now) (a .queue-data .now) (a .journal-data .now) (a .rec)) (rw (c .enum-told .given .1) at (c .before .before .examine .ensures))
+    let a = c .before .before .before .before .before .before .before .before .before .args in
+    wrong-length (a .allowance) (diskIn (a .card .now) (a .queue-data .now) (a .journal-data .now) (a .rec .now)) (rw (c .enum-told .given .1) at (c .before .before .examine .ensures))
 
 same-length-3 : tie.Need-same-length-3
 same-length-3 c = search needs
 
 returns-3 : tie.Need-returns-3
 returns-3 c =
-    let a = c .before .before .before .before .before .before .before .before .args in
+    let a = c .before .before .before .before .before .before .before .before .before .args in
     let x = rw (c .enum-told2 .given .1) at (c .before .before .examine .ensures) in
-    unsound (a .allowance) (disk (a .card .now) (a .queue-data .now) (a .journal-data .now) (a .rec)) (x .0) (x .1)
+    unsound (a .allowance) (diskIn (a .card .now) (a .queue-data .now) (a .journal-data .now) (a .rec .now)) (x .0) (x .1)
 
 same-length-4 : tie.Need-same-length-4
 same-length-4 c = search needs
 
 returns-4 : tie.Need-returns-4
 returns-4 c =
-    let a = c .before .before .before .before .before .before .before .before .before .before .before .before .before .before .args in
-    let x = rw (c .before .before .before .before .before .before .behind .given .1) at (c .before .before .before .before .before .before .before .before .examine .ensures) in
-    let d = disk (a .card .now) (a .queue-data .now) (a .journal-data .now) (a .rec) in
-    performs-accepted (flush (a .allowance)) d _ (inside (a .allowance) d (x .lengths) (x .sound) (c .before .before .before .before .if1 .left)) (c .before .before .drain .ensures (a .journal-data .now))
+    let a = c .before .before .before .before .before .before .before .before .before .before .before .before .before .before .before .before .args in
+    let x = rw (c .before .before .before .before .before .before .before .behind .given .1) at (c .before .before .before .before .before .before .before .before .before .examine .ensures) in
+    let d = diskIn (a .card .now) (a .queue-data .now) (a .journal-data .now) (a .rec .now) in
+    performs-accepted (flush (a .allowance)) d _ (inside (a .allowance) d (x .lengths) (x .sound) (c .before .before .before .before .before .if1 .left)) (c .before .before .drain .ensures (a .journal-data .now))
 
 pub flush-spec : {M : Type 1} → statement M
 flush-spec =

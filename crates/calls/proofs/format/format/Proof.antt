@@ -7,7 +7,7 @@ use borrow.Author.Tests.{not-true, not-false}
 use Rattle.log.specs.Card.{segmentsIn}
 use Rattle.disk.specs.declared.answer.Refusal.the-variants.{WrongLength}
 use Rattle.disk.specs.declared.answer.Reply.the-variants.{Accepted, Refused}
-use Rattle.disk.specs.Record.{freshRecord}
+use Rattle.disk.specs.Record.{recordIn, freshRecord}
 use Rattle.disk.specs.Disk.{Disk, disk}
 use Rattle.disk.specs.Sound.{lengthsRight}
 use Rattle.disk.specs.Call.{format, destination}
@@ -35,15 +35,13 @@ same-length : tie.Need-same-length
 same-length c = search needs
 
 returns : tie.Need-returns
-returns c =
-    let s = c .before .before .before .before .before .before in
-    format-refused _ (sym (c .before .lengths-right .ensures (s .args .rec)) ∙ not-true (c .before .lengths-right .result) (c .if1 .taken))
+returns c = format-refused _ (sym (c .before .lengths-right .ensures (recordIn (c .before .before .before .before .before .before .args .rec .now))) ∙ not-true (c .before .lengths-right .result) (c .if1 .taken))
 
 format-stores-requires : tie.Need-format-stores-requires
 format-stores-requires c κs = search needs
 
-fresh-requires : tie.Need-fresh-requires
-fresh-requires c κs = search needs
+renew-requires : tie.Need-renew-requires
+renew-requires c κs = search needs
 
 same-length-2 : tie.Need-same-length-2
 same-length-2 c = search needs
@@ -51,10 +49,8 @@ same-length-2 c = search needs
 returns-2 : tie.Need-returns-2
 unfolding formatted
 returns-2 c =
-    let f = c .before .before .before in
-    let l = f .before .before .before in
-    let a = l .before .before .before .before .before .args in
-    rw (f .format-stores .ensures, c .fresh .ensures) (format-accepted _ (sym (l .lengths-right .ensures (a .rec)) ∙ not-false (l .lengths-right .result) (f .before .before .if1 .left)))
+    let l = c .before .before .before .before .before .before .before .lengths-right in
+    rw (c .before .before .before .before .format-stores .ensures, c .renew .ensures) (format-accepted _ (sym (l .ensures (recordIn (c .before .before .before .before .before .before .before .before .before .before .before .before .args .rec .now))) ∙ not-false (l .result) (c .before .before .before .before .before .before .if1 .left)))
 
 pub format-spec : {M : Type 1} → statement M
 format-spec =
@@ -64,6 +60,6 @@ format-spec =
     same-length
     returns
     format-stores-requires
-    fresh-requires
+    renew-requires
     same-length-2
     returns-2)

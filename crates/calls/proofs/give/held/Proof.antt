@@ -14,7 +14,7 @@ hold-requires : tie.Need-hold-requires
 hold-requires c κs = search needs
 
 returns-2 : tie.Need-returns-2
-returns-2 c = rw (eqb-false _ 0 (c .before .if1 .left)) (c .hold .ensures)
+returns-2 c = rw (eqb-false _ 0 (c .before .before .if1 .left)) (c .hold .ensures)
 
 pub held-spec : {M : Type 1} → statement M
 held-spec = tie.close (tie.spec returns cast-hold hold-requires returns-2)

@@ -7,28 +7,11 @@ use Rattle.calls.proofs.give.lay_stream.Tie as tie
 returns : tie.Need-returns
 returns c st sh = rw (eq-true _ 0 (c .if1 .taken)) sh
 
-sub-enter-journal : tie.Need-sub-enter-journal
-sub-enter-journal c = search needs
-
-mul-enter-journal : tie.Need-mul-enter-journal
-mul-enter-journal c = search needs
-
-element-copy-out-enter-journal : tie.Need-element-copy-out-enter-journal
-element-copy-out-enter-journal c = search needs
-
 enter-journal-requires : tie.Need-enter-journal-requires
 enter-journal-requires c κs = search needs
 
 returns-2 : tie.Need-returns-2
-returns-2 c st sh = rw (eqb-false _ 0 (c .before .before .before .if1 .left)) (c .enter-journal .ensures .shows st sh)
+returns-2 c st sh = rw (eqb-false _ 0 (c .before .before .if1 .left)) (c .enter-journal .ensures .shows st sh)
 
 pub lay-stream-spec : {M : Type 1} → statement M
-lay-stream-spec =
-    tie.close
-    (tie.spec
-    returns
-    sub-enter-journal
-    mul-enter-journal
-    element-copy-out-enter-journal
-    enter-journal-requires
-    returns-2)
+lay-stream-spec = tie.close (tie.spec returns enter-journal-requires returns-2)

@@ -1,7 +1,6 @@
 -- The change is added, then the block held and counted as given last. Assumes nothing.
 use mathlib.Core.Path.{ap, _∙_}
-use Rattle.disk.specs.declared.record.Record.{Record}
-use Rattle.disk.specs.Record.{withLastBlock}
+use Rattle.disk.specs.Record.{Record, recordIn, withLastBlock}
 use Rattle.calls.proofs.Giving.{puts-full, puts-block}
 use borrow.Author.Needs.{needs}
 use Rattle.calls.proofs.give.put_block.Statement.{statement}
@@ -13,8 +12,8 @@ entry-of-requires c κs = search needs
 add-requires : tie.Need-add-requires
 add-requires c κs = search needs
 
-enum-known-answer : tie.Need-enum-known-answer
-enum-known-answer c = search needs
+enum-known-x : tie.Need-enum-known-x
+enum-known-x c = search needs
 
 enum-told : tie.Need-enum-told
 enum-told c = search needs
@@ -27,16 +26,14 @@ gave-block-requires c κs = search needs
 
 returns : tie.Need-returns
 returns c =
-    let a = c .before .before .before in
-    let x = a .before .before .args in
-    puts-full (x .s) (x .l) (x .p) (x .b) (x .rec) _ (a .add .result .rec) (rw (c .before .answer .given .1) at (a .add .ensures))
+    let x = c .before .before .before .before .before .before .args in
+    puts-full (x .s) (x .l) (x .p) (x .b) (recordIn (x .rec .now)) _ (recordIn (c .before .before .before .add .last .0)) (rw (c .before .x .given .1) at (c .before .before .before .add .ensures))
 
 returns-2 : tie.Need-returns-2
 returns-2 c =
-    let a = c .before .before .before .before in
-    let x = a .before .before .args in
-    puts-block (x .s) (x .l) (x .p) (x .b) (x .rec) (a .add .result .rec) _ (rw (c .before .before .enum-told .given .1, a .before .entry-of .ensures) at (a .add .ensures))
-    (c .gave-block .ensures ∙ ap (λ (r : Record). withLastBlock r (x .b)) (c .before .held .ensures))
+    let x = c .before .before .before .before .before .before .before .before .before .args in
+    puts-block (x .s) (x .l) (x .p) (x .b) (recordIn (x .rec .now)) (recordIn (c .before .before .before .before .before .before .add .last .0)) _ (rw (c .before .before .before .before .enum-told .given .1, c .before .before .before .before .before .before .before .entry-of .ensures) at (c .before .before .before .before .before .before .add .ensures))
+    (c .gave-block .ensures ∙ ap (λ (r : Record). withLastBlock r (x .b)) (c .before .before .held .ensures))
 
 pub put-block-spec : {M : Type 1} → statement M
 put-block-spec =
@@ -44,7 +41,7 @@ put-block-spec =
     (tie.spec
     entry-of-requires
     add-requires
-    enum-known-answer
+    enum-known-x
     enum-told
     held-requires
     gave-block-requires

@@ -2,6 +2,7 @@
 use Rattle.calls.proofs.Giving.{free-block-limit}
 use Rattle.calls.specs.promises.Giving.{viewHere}
 use Rattle.calls.proofs.Putting.{puts-number}
+use Rattle.disk.specs.Record.{recordIn}
 use borrow.Author.Needs.{needs}
 use Rattle.calls.proofs.give.put_free.Statement.{statement}
 use Rattle.calls.proofs.give.put_free.Tie as tie
@@ -14,16 +15,16 @@ lay-stream-requires c κs = search needs
 
 put-ranged-requires : tie.Need-put-ranged-requires
 put-ranged-requires c κs =
-    let f = c .before .before .before in
-    let s = f .before .before .before .before in
-    (s .pre .1, s .pre .2, free-block-limit (s .args .rec) (s .pre .0 .lists) _ (f .free-block .ensures (s .pre .0 .lists) (s .pre .0 .shows)))
+    let p = c .before .before .before .before .before .before .before .before .pre in
+    (p .1, p .2, free-block-limit (recordIn (c .before .before .before .before .before .before .before .before .args .rec .now)) (p .0 .lists) _ (c .before .before .before .before .before .free-block .ensures (p .0 .lists) (p .0 .shows)))
 
 returns : tie.Need-returns
 returns c st sh =
-    let f = c .before .before .before .before in
-    let a = f .before .before .before .before .args in
-    puts-number (viewHere (a .rec) (a .s) st .lists) (a .s) (a .l) (a .p) (f .free-block .result) _ (a .rec) (c .put-ranged .result .reply) (c .put-ranged .result .rec)
-    (f .free-block .ensures (st .lists) sh) (c .put-ranged .ensures (viewHere (a .rec) (a .s) st .lists) (c .before .before .lay-stream .ensures st sh))
+    let a = c .before .before .before .before .before .before .before .before .before .args in
+    let f = c .before .before .before .before .before .before .free-block in
+    let r = recordIn (a .rec .now) in
+    puts-number (viewHere r (a .s) st .lists) (a .s) (a .l) (a .p) (f .result) _ r (c .put-ranged .result) (recordIn (c .put-ranged .last .1 .0))
+    (f .ensures (st .lists) sh) (c .put-ranged .ensures (viewHere r (a .s) st .lists) (c .before .before .before .lay-stream .ensures st sh))
 
 pub put-free-spec : {M : Type 1} → statement M
 put-free-spec =

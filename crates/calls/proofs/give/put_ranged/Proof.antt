@@ -1,6 +1,7 @@
 -- The range first, then what `put_on` asks. Assumes nothing.
 use mathlib.Core.Path.{sym, _∙_}
 use native.Mathlib.Omega.{arith}
+use Rattle.disk.specs.Record.{recordIn}
 use borrow.Author.Needs.{needs}
 use borrow.Author.Tests.{not-true, not-false}
 use Rattle.calls.proofs.Refusing.{position-range}
@@ -14,26 +15,27 @@ is-position-requires c κs = search needs
 returns : tie.Need-returns
 returns c rs sh =
     let x = c .before .before .args in
-    put-outside (x .s) (x .l) (x .p) (x .b) (x .rec) rs (sym (c .before .is-position .ensures) ∙ not-true (c .before .is-position .result) (c .if1 .taken))
+    put-outside (x .s) (x .l) (x .p) (x .b) (recordIn (x .rec .now)) rs (sym (c .before .is-position .ensures) ∙ not-true (c .before .is-position .result) (c .if1 .taken))
 
 cast-put-on : tie.Need-cast-put-on
-cast-put-on c = omega (arith, position-range (c .before .before .args .l) (c .before .before .args .p) (sym (c .before .is-position .ensures) ∙ not-false (c .before .is-position .result) (c .if1 .left)) .0 .1)
+cast-put-on c = omega (arith, position-range (c .before .before .before .args .l) (c .before .before .before .args .p) (sym (c .before .before .is-position .ensures) ∙ not-false (c .before .before .is-position .result) (c .before .if1 .left)) .0 .1)
 
 cast-put-on-2 : tie.Need-cast-put-on-2
-cast-put-on-2 c = omega (arith, position-range (c .before .before .args .l) (c .before .before .args .p) (sym (c .before .is-position .ensures) ∙ not-false (c .before .is-position .result) (c .if1 .left)) .1)
+cast-put-on-2 c = omega (arith, position-range (c .before .before .before .args .l) (c .before .before .before .args .p) (sym (c .before .before .is-position .ensures) ∙ not-false (c .before .before .is-position .result) (c .before .if1 .left)) .1)
 
 put-on-requires : tie.Need-put-on-requires
 put-on-requires c κs =
-    let x = c .before .before in
-    let (l, p) = position-range (x .args .l) (x .args .p) (sym (c .before .is-position .ensures) ∙ not-false (c .before .is-position .result) (c .if1 .left)) in
-    (x .pre .0, x .pre .1, l, p, x .pre .2)
+    let p = c .before .before .before .pre in
+    let (l, q) = position-range (c .before .before .before .args .l) (c .before .before .before .args .p) (sym (c .before .before .is-position .ensures) ∙ not-false (c .before .before .is-position .result) (c .before .if1 .left)) in
+    (p .0, p .1, l, q, p .2)
 
 returns-2 : tie.Need-returns-2
 returns-2 c rs sh =
-    let k = c .before in
-    let x = k .before .before .args in
-    put-inside (x .s) (x .l) (x .p) (x .b) (x .rec) rs (c .put-on .result .reply) (c .put-on .result .rec)
-    (sym (k .before .is-position .ensures) ∙ not-false (k .before .is-position .result) (k .if1 .left)) (c .put-on .ensures rs sh)
+    let x = c .before .before .before .before .args in
+    put-inside (x .s) (x .l) (x .p) (x .b) (recordIn (x .rec .now)) rs (c .put-on .result) (recordIn (c .put-on .last .1 .0))
+    (sym (c .before .before .before .is-position .ensures) ∙ not-false (c .before .before .before .is-position .result) (c .before .before .if1 .left)) (c .put-on .ensures rs sh)
 
 pub put-ranged-spec : {M : Type 1} → statement M
-put-ranged-spec = tie.close (tie.spec is-position-requires returns cast-put-on cast-put-on-2 put-on-requires returns-2)
+put-ranged-spec =
+    tie.close
+    (tie.spec is-position-requires returns cast-put-on cast-put-on-2 put-on-requires returns-2)

@@ -72,24 +72,23 @@ enum-known-segment c = search needs
 enum-told-2 : tie.Need-enum-told-2
 enum-told-2 c = search needs
 
-fresh-requires : tie.Need-fresh-requires
-fresh-requires c κs = search needs
+renew-requires : tie.Need-renew-requires
+renew-requires c κs = search needs
 
 returns-2 : tie.Need-returns-2
 returns-2 c = mount-refused _ (lengths-card _ (rw (c .enum-told .given .1) at (c .before .before .mount .ensures)))
 
 returns-3 : tie.Need-returns-3
 returns-3 c =
-    let l = c .before .before .before .before .before in
+    let l = c .before .before .before .before .before .data-right in
     let w = rw (c .before .segment .given .1) at (c .before .before .before .mount .ensures) in
-    mount-fault _ _ _ (lengths-all _ (sym (l .data-right .ensures) ∙ not-false (l .data-right .result) (c .before .before .before .before .if1 .left)) (w .0)) (w .1)
+    mount-fault _ _ _ (lengths-all _ (sym (l .ensures) ∙ not-false (l .result) (c .before .before .before .before .if1 .left)) (w .0)) (w .1)
 
 returns-4 : tie.Need-returns-4
 returns-4 c =
-    let l = c .before .before .before .before .before in
-    let w = rw (c .before .enum-told2 .given .1) at (c .before .before .before .mount .ensures) in
-    rw (c .fresh .ensures)
-    (mount-accepted _ (w .reader) (lengths-all _ (sym (l .data-right .ensures) ∙ not-false (l .data-right .result) (c .before .before .before .before .if1 .left)) (w .right)) (w .walked))
+    let l = c .before .before .before .before .before .before .data-right in
+    let w = rw (c .before .before .enum-told2 .given .1) at (c .before .before .before .before .mount .ensures) in
+    rw (c .renew .ensures) (mount-accepted _ (w .reader) (lengths-all _ (sym (l .ensures) ∙ not-false (l .result) (c .before .before .before .before .before .if1 .left)) (w .right)) (w .walked))
 
 pub mount-spec : {M : Type 1} → statement M
 mount-spec =
@@ -101,7 +100,7 @@ mount-spec =
     enum-told
     enum-known-segment
     enum-told-2
-    fresh-requires
+    renew-requires
     returns-2
     returns-3
     returns-4)

@@ -1,5 +1,6 @@
 -- Questions 1, 3 and 4 are those of `enter`; behind them the tables show the committed state. Assumes nothing.
-use Rattle.disk.specs.Disk.{disk}
+use Rattle.disk.specs.Record.{recordIn}
+use Rattle.disk.specs.Disk.{diskIn}
 use Rattle.disk.specs.Call.{newBlock}
 use Rattle.disk.specs.Answers.{numberAnswer}
 use Rattle.calls.proofs.Refusing.{edit-unseen}
@@ -17,28 +18,24 @@ enum-known-x c = search needs
 returns : tie.Need-returns
 unfolding numberAnswer
 returns c =
-    let l = c .before .before .before in
-    let a = l .before .before .before .before .before .args in
-    let d = disk (a .card .now) (a .queue-data .now) (a .journal-data .now) (a .rec) in
-    edit-unseen d (a .stream) (newBlock (a .list) (a .predecessor)) _ (rw (c .before .x .given .1) at (l .enter .ensures))
+    let a = c .before .before .before .before .before .before .before .before .before .args in
+    let d = diskIn (a .card .now) (a .queue-data .now) (a .journal-data .now) (a .rec .now) in
+    edit-unseen d (a .stream) (newBlock (a .list) (a .predecessor)) _ (rw (c .before .x .given .1) at (c .before .before .before .enter .ensures))
 
 enum-told : tie.Need-enum-told
 enum-told c = search needs
 
 put-free-requires : tie.Need-put-free-requires
 put-free-requires c κs =
-    let l = c .before .before .before in
-    let a = l .before .before .before .before .before .args in
-    let d = disk (a .card .now) (a .queue-data .now) (a .journal-data .now) (a .rec) in
-    stands-put (a .stream) d _ (rw (c .before .enum-told .given .1) at (l .enter .ensures))
+    let a = c .before .before .before .before .before .before .before .before .before .before .args in
+    stands-put (a .stream) (diskIn (a .card .now) (a .queue-data .now) (a .journal-data .now) (a .rec .now)) _ (rw (c .before .before .enum-told .given .1) at (c .before .before .before .before .enter .ensures))
 
 returns-2 : tie.Need-returns-2
 returns-2 c =
-    let l = c .before .before .before .before in
-    let a = l .before .before .before .before .before .args in
-    let d = disk (a .card .now) (a .queue-data .now) (a .journal-data .now) (a .rec) in
-    let k = rw (c .before .before .enum-told .given .1) at (l .enter .ensures) in
-    puts-performs (a .stream) d _ k (a .list) (a .predecessor) (c .put-free .result .reply) (c .put-free .result .rec) (c .put-free .ensures)
+    let a = c .before .before .before .before .before .before .before .before .before .before .before .args in
+    let d = diskIn (a .card .now) (a .queue-data .now) (a .journal-data .now) (a .rec .now) in
+    let k = rw (c .before .before .before .enum-told .given .1) at (c .before .before .before .before .before .enter .ensures) in
+    puts-performs (a .stream) d _ k (a .list) (a .predecessor) (c .put-free .result) (recordIn (c .put-free .last .1 .0)) (c .put-free .ensures)
 
 pub new-block-spec : {M : Type 1} → statement M
 new-block-spec =

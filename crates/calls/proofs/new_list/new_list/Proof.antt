@@ -1,5 +1,6 @@
 -- Questions 1, 3 and 4 are those of `enter`; behind them the tables show the committed state. Assumes nothing.
-use Rattle.disk.specs.Disk.{disk}
+use Rattle.disk.specs.Record.{recordIn}
+use Rattle.disk.specs.Disk.{diskIn}
 use Rattle.disk.specs.Call.{newList}
 use Rattle.disk.specs.Answers.{numberAnswer}
 use Rattle.disk.proofs.Clauses.{right}
@@ -18,26 +19,24 @@ enum-known-x c = search needs
 returns : tie.Need-returns
 unfolding numberAnswer
 returns c =
-    let l = c .before .before .before in
-    let a = l .before .before .before .before .before .args in
-    let d = disk (a .card .now) (a .queue-data .now) (a .journal-data .now) (a .rec) in
-    edit-unseen d (a .stream) newList _ (rw (c .before .x .given .1) at (l .enter .ensures))
+    let a = c .before .before .before .before .before .before .before .before .before .args in
+    let d = diskIn (a .card .now) (a .queue-data .now) (a .journal-data .now) (a .rec .now) in
+    edit-unseen d (a .stream) newList _ (rw (c .before .x .given .1) at (c .before .before .before .enter .ensures))
 
 enum-told : tie.Need-enum-told
 enum-told c = search needs
 
 take-list-requires : tie.Need-take-list-requires
 take-list-requires c κs =
-    let k = rw (c .before .enum-told .given .1) at (c .before .before .before .enter .ensures) in
+    let k = rw (c .before .before .enum-told .given .1) at (c .before .before .before .before .enter .ensures) in
     right _ (k .lengths) (k .sound) .log .head
 
 returns-2 : tie.Need-returns-2
 returns-2 c =
-    let l = c .before .before .before .before in
-    let a = l .before .before .before .before .before .args in
-    let d = disk (a .card .now) (a .queue-data .now) (a .journal-data .now) (a .rec) in
-    let k = rw (c .before .before .enum-told .given .1) at (l .enter .ensures) in
-    takes-performs (a .stream) d _ k (c .take-list .result .reply) (c .take-list .result .rec) (c .take-list .ensures (k .located .here .lists) (k .located .shows))
+    let a = c .before .before .before .before .before .before .before .before .before .before .before .args in
+    let d = diskIn (a .card .now) (a .queue-data .now) (a .journal-data .now) (a .rec .now) in
+    let k = rw (c .before .before .before .enum-told .given .1) at (c .before .before .before .before .before .enter .ensures) in
+    takes-performs (a .stream) d _ k (c .take-list .result) (recordIn (c .take-list .last .1 .0)) (c .take-list .ensures (k .located .here .lists) (k .located .shows))
 
 pub new-list-spec : {M : Type 1} → statement M
 new-list-spec =

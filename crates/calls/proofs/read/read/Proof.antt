@@ -2,7 +2,7 @@
 use mathlib.Core.Path.{sym, _∙_}
 use native.Mathlib.Omega.{arith}
 use lib.ListN.{length}
-use Rattle.disk.specs.Disk.{disk}
+use Rattle.disk.specs.Disk.{diskIn}
 use Rattle.disk.specs.Call.{lentTo}
 use Rattle.disk.specs.Answers.{replyAnswer}
 use Rattle.lists.proofs.Lookup.{location-said, placed-said}
@@ -68,7 +68,7 @@ copy-content-requires c κs =
     let r = rw (q .before .before .is-block .ensures) at (q .before .both .ensures) in
     let w = sym r ∙ not-false (q .before .both .result) (q .if1 .left) in
     let s = rw (e .enum-told .given .1) at (e .before .before .look-view .ensures) in (
-      read-sized (disk (a .card .now) (a .queue-data .now) (a .journal-data .now) (a .rec)) (a .view) (a .block) (a .dest .now) _ s w
+      read-sized (diskIn (a .card .now) (a .queue-data .now) (a .journal-data .now) (a .rec .now)) (a .view) (a .block) (a .dest .now) _ s w
           _ (placed-said (m .before .is-placed .ensures)) (not-false (m .before .is-placed .result) (m .if2 .left)) (c .before .location-of .result) (location-said (c .before .location-of .ensures)),
       read-range (a .block) (length (a .dest .now)) w .1,
     )

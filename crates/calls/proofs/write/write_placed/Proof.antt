@@ -11,6 +11,7 @@ use Rattle.lists.proofs.Basic.{and-true}
 use Rattle.lists.specs.State.{placed}
 use Rattle.log.specs.declared.entry.LogEntry.the-variants.{Write}
 use Rattle.log.specs.Entry.{isBlock}
+use Rattle.disk.specs.Record.{recordIn}
 use Rattle.disk.specs.declared.answer.Refusal.the-variants.{OutOfRange, BlockNotPlaced}
 use Rattle.disk.specs.Answers.{number}
 use Rattle.calls.proofs.Refusing.{inside}
@@ -27,7 +28,7 @@ returns : tie.Need-returns
 unfolding number
 returns c = λ rs h.
     let a = c .before .before .before .args in
-    first-no 5 8 (isBlock (a .b) && eqb (a .n) 256) (placed (a .b) rs) (a .s) (Write (a .b) 0) (a .rec) OutOfRange refl (sym (rw (c .before .before .is-block .ensures) at (c .before .both .ensures)) ∙ not-true (c .before .both .result) (c .if1 .taken))
+    first-no 5 8 (isBlock (a .b) && eqb (a .n) 256) (placed (a .b) rs) (a .s) (Write (a .b) 0) (recordIn (a .rec .now)) OutOfRange refl (sym (rw (c .before .before .is-block .ensures) at (c .before .both .ensures)) ∙ not-true (c .before .both .result) (c .if1 .taken))
 
 cast-block : tie.Need-cast-block
 cast-block c =
@@ -42,7 +43,7 @@ unfolding number
 returns-2 c = λ rs h.
     let a = c .before .before .before .before .before .args in
     let w = sym (rw (c .before .before .before .before .is-block .ensures) at (c .before .before .before .both .ensures)) ∙ not-false (c .before .before .before .both .result) (c .before .before .if1 .left) in
-    second-no 5 8 (isBlock (a .b) && eqb (a .n) 256) (placed (a .b) rs) (a .s) (Write (a .b) 0) (a .rec) BlockNotPlaced refl w
+    second-no 5 8 (isBlock (a .b) && eqb (a .n) 256) (placed (a .b) rs) (a .s) (Write (a .b) 0) (recordIn (a .rec .now)) BlockNotPlaced refl w
     (sym (placed-said (c .before .is-placed .ensures) rs h (inside 64 (a .b) (and-true (isBlock (a .b)) (eqb (a .n) 256) w .0))) ∙ not-true (c .before .is-placed .result) (c .if2 .taken))
 
 add-requires : tie.Need-add-requires
@@ -50,10 +51,10 @@ add-requires c κs = search needs
 
 returns-3 : tie.Need-returns-3
 returns-3 c = λ rs h.
-    let a = c .before .before .before .before .before .before .args in
-    let w = sym (rw (c .before .before .before .before .before .is-block .ensures) at (c .before .before .before .before .both .ensures)) ∙ not-false (c .before .before .before .before .both .result) (c .before .before .before .if1 .left) in
-    both-yes 5 8 (isBlock (a .b) && eqb (a .n) 256) (placed (a .b) rs) (a .s) (Write (a .b) 0) (a .rec) (c .add .result .reply) (c .add .result .rec) w
-    (sym (placed-said (c .before .before .is-placed .ensures) rs h (inside 64 (a .b) (and-true (isBlock (a .b)) (eqb (a .n) 256) w .0))) ∙ not-false (c .before .before .is-placed .result) (c .before .if2 .left))
+    let a = c .before .before .before .before .before .before .before .args in
+    let w = sym (rw (c .before .before .before .before .before .before .is-block .ensures) at (c .before .before .before .before .before .both .ensures)) ∙ not-false (c .before .before .before .before .before .both .result) (c .before .before .before .before .if1 .left) in
+    both-yes 5 8 (isBlock (a .b) && eqb (a .n) 256) (placed (a .b) rs) (a .s) (Write (a .b) 0) (recordIn (a .rec .now)) (c .add .result) (recordIn (c .add .last .0)) w
+    (sym (placed-said (c .before .before .before .is-placed .ensures) rs h (inside 64 (a .b) (and-true (isBlock (a .b)) (eqb (a .n) 256) w .0))) ∙ not-false (c .before .before .before .is-placed .result) (c .before .before .if2 .left))
     (c .add .ensures)
 
 pub write-placed-spec : {M : Type 1} → statement M

@@ -1,7 +1,4 @@
 -- Each arm is one call and its line, or those of an edit or a look-up. Assumes nothing.
-use mathlib.Core.Path.{refl}
-use Rattle.disk.specs.Disk.{disk}
-use Rattle.disk.specs.Call.{format, mount, begin, end, flush, conflictCount}
 use Rattle.commands.specs.Replies.{lineOf}
 use Rattle.commands.specs.Called.{callOf}
 use Rattle.commands.proofs.Calling.{calls}
@@ -15,8 +12,8 @@ enum-told c = search needs
 format-requires : tie.Need-format-requires
 format-requires c κs = search needs
 
-answered-requires : tie.Need-answered-requires
-answered-requires c κs = search needs
+put-answer-requires : tie.Need-put-answer-requires
+put-answer-requires c κs = search needs
 
 enum-told-2 : tie.Need-enum-told-2
 enum-told-2 c = search needs
@@ -24,8 +21,8 @@ enum-told-2 c = search needs
 mount-requires : tie.Need-mount-requires
 mount-requires c κs = search needs
 
-mounted-requires : tie.Need-mounted-requires
-mounted-requires c κs = search needs
+put-mounted-requires : tie.Need-put-mounted-requires
+put-mounted-requires c κs = search needs
 
 enum-known-q : tie.Need-enum-known-q
 enum-known-q c = search needs
@@ -33,8 +30,8 @@ enum-known-q c = search needs
 begin-requires : tie.Need-begin-requires
 begin-requires c κs = search needs
 
-answered-requires-2 : tie.Need-answered-requires-2
-answered-requires-2 c κs = search needs
+put-answer-requires-2 : tie.Need-put-answer-requires-2
+put-answer-requires-2 c κs = search needs
 
 enum-known-q-2 : tie.Need-enum-known-q-2
 enum-known-q-2 c = search needs
@@ -42,8 +39,8 @@ enum-known-q-2 c = search needs
 end-requires : tie.Need-end-requires
 end-requires c κs = search needs
 
-answered-requires-3 : tie.Need-answered-requires-3
-answered-requires-3 c κs = search needs
+put-answer-requires-3 : tie.Need-put-answer-requires-3
+put-answer-requires-3 c κs = search needs
 
 enum-known-q-3 : tie.Need-enum-known-q-3
 enum-known-q-3 c = search needs
@@ -51,8 +48,8 @@ enum-known-q-3 c = search needs
 flush-requires : tie.Need-flush-requires
 flush-requires c κs = search needs
 
-flushed-requires : tie.Need-flushed-requires
-flushed-requires c κs = search needs
+put-flushed-requires : tie.Need-put-flushed-requires
+put-flushed-requires c κs = search needs
 
 enum-told-3 : tie.Need-enum-told-3
 enum-told-3 c = search needs
@@ -90,8 +87,7 @@ same-length-4 c = search needs
 returns : tie.Need-returns
 unfolding callOf lineOf
 returns c =
-    let a = c .before .before .before .before .before .before .before .before .before .before .before .before .before .before .before .before .before .args in
-    rw (c .before .before .before .before .before .before .before .before .before .before .enum-told .given .1) (calls format (disk (a .card .now) (a .queue .now) (a .journal .now) (a .rec)) (c .before .before .before .before .before .before .format .ensures) (c .before .before .answered .ensures))
+    rw (c .before .before .before .before .before .before .before .before .before .before .before .enum-told .given .1) (calls (c .before .before .before .before .before .before .format .ensures) (c .before .before .put-answer .ensures))
 
 same-length-5 : tie.Need-same-length-5
 same-length-5 c = search needs
@@ -108,8 +104,7 @@ same-length-8 c = search needs
 returns-2 : tie.Need-returns-2
 unfolding callOf lineOf
 returns-2 c =
-    let a = c .before .before .before .before .before .before .before .before .before .before .before .before .before .before .before .args in
-    rw (c .before .before .before .before .before .before .before .before .enum-told2 .given .1) (calls mount (disk (a .card .now) (a .queue .now) (a .journal .now) (a .rec)) (c .before .before .before .before .mount .ensures) (c .before .before .mounted .ensures))
+    rw (c .before .before .before .before .before .before .before .before .before .enum-told2 .given .1) (calls (c .before .before .before .before .mount .ensures) (c .before .before .put-mounted .ensures))
 
 same-length-9 : tie.Need-same-length-9
 same-length-9 c = search needs
@@ -126,8 +121,7 @@ same-length-12 c = search needs
 returns-3 : tie.Need-returns-3
 unfolding callOf lineOf
 returns-3 c =
-    let a = c .before .before .before .before .before .before .before .before .before .before .before .before .before .before .before .before .args in
-    rw (c .before .before .before .before .before .before .before .before .before .q .given .1) (calls (begin _) (disk (a .card .now) (a .queue .now) (a .journal .now) (a .rec)) (c .before .before .before .before .begin .ensures) (c .before .before .answered2 .ensures))
+    rw (c .before .before .before .before .before .before .before .before .before .before .q .given .1) (calls (c .before .before .before .before .begin .ensures) (c .before .before .put-answer2 .ensures))
 
 same-length-13 : tie.Need-same-length-13
 same-length-13 c = search needs
@@ -144,8 +138,7 @@ same-length-16 c = search needs
 returns-4 : tie.Need-returns-4
 unfolding callOf lineOf
 returns-4 c =
-    let a = c .before .before .before .before .before .before .before .before .before .before .before .before .before .before .before .before .before .before .args in
-    rw (c .before .before .before .before .before .before .before .before .before .before .before .q2 .given .1) (calls (end _) (disk (a .card .now) (a .queue .now) (a .journal .now) (a .rec)) (c .before .before .before .before .before .before .end .ensures) (c .before .before .answered3 .ensures))
+    rw (c .before .before .before .before .before .before .before .before .before .before .before .before .q2 .given .1) (calls (c .before .before .before .before .before .before .end .ensures) (c .before .before .put-answer3 .ensures))
 
 same-length-17 : tie.Need-same-length-17
 same-length-17 c = search needs
@@ -162,8 +155,7 @@ same-length-20 c = search needs
 returns-5 : tie.Need-returns-5
 unfolding callOf lineOf
 returns-5 c =
-    let a = c .before .before .before .before .before .before .before .before .before .before .before .before .before .before .before .before .before .before .args in
-    rw (c .before .before .before .before .before .before .before .before .before .before .before .q3 .given .1) (calls (flush _) (disk (a .card .now) (a .queue .now) (a .journal .now) (a .rec)) (c .before .before .before .before .before .before .flush .ensures) (c .before .before .flushed .ensures))
+    rw (c .before .before .before .before .before .before .before .before .before .before .before .before .q3 .given .1) (calls (c .before .before .before .before .before .before .flush .ensures) (c .before .before .put-flushed .ensures))
 
 same-length-21 : tie.Need-same-length-21
 same-length-21 c = search needs
@@ -180,8 +172,7 @@ same-length-24 c = search needs
 returns-6 : tie.Need-returns-6
 unfolding callOf lineOf
 returns-6 c =
-    let a = c .before .before .before .before .before .before .before .before .before .before .before .before .before .before .before .args in
-    rw (c .before .before .before .before .before .before .before .before .enum-told3 .given .1) (calls conflictCount (disk (a .card .now) (a .queue .now) (a .journal .now) (a .rec)) (c .before .before .before .before .conflicts .ensures) (refl, c .before .before .put-numbered .ensures))
+    rw (c .before .before .before .before .before .before .before .before .before .enum-told3 .given .1) (calls (c .before .before .before .before .conflicts .ensures) (c .before .before .put-numbered .ensures))
 
 same-length-25 : tie.Need-same-length-25
 same-length-25 c = search needs
@@ -197,7 +188,7 @@ same-length-28 c = search needs
 
 returns-7 : tie.Need-returns-7
 unfolding callOf
-returns-7 c = rw (c .before .before .before .before .before .before .before .before .before .before .before .before .q4 .given .1) (c .before .before .before .before .before .before .edit .ensures)
+returns-7 c = rw (c .before .before .before .before .before .before .before .before .before .before .before .before .before .q4 .given .1) (c .before .before .before .before .before .before .edit .ensures)
 
 same-length-29 : tie.Need-same-length-29
 same-length-29 c = search needs
@@ -213,7 +204,7 @@ same-length-32 c = search needs
 
 returns-8 : tie.Need-returns-8
 unfolding callOf
-returns-8 c = rw (c .before .before .before .before .before .before .before .before .q5 .given .1) (c .before .before .look .ensures)
+returns-8 c = rw (c .before .before .before .before .before .before .before .before .before .q5 .given .1) (c .before .before .look .ensures)
 
 pub call-spec : {M : Type 1} → statement M
 call-spec =
@@ -221,19 +212,19 @@ call-spec =
     (tie.spec
     enum-told
     format-requires
-    answered-requires
+    put-answer-requires
     enum-told-2
     mount-requires
-    mounted-requires
+    put-mounted-requires
     enum-known-q
     begin-requires
-    answered-requires-2
+    put-answer-requires-2
     enum-known-q-2
     end-requires
-    answered-requires-3
+    put-answer-requires-3
     enum-known-q-3
     flush-requires
-    flushed-requires
+    put-flushed-requires
     enum-told-3
     conflicts-requires
     put-numbered-requires

@@ -1,6 +1,4 @@
 -- Each arm is one edit and its line. Assumes nothing.
-use Rattle.disk.specs.Disk.{disk}
-use Rattle.disk.specs.Call.{newList, newBlock, deleteBlock, deleteList, onStream}
 use Rattle.commands.specs.Replies.{lineOf, editLine}
 use Rattle.commands.specs.Called.{editOf}
 use Rattle.commands.proofs.Calling.{calls}
@@ -14,8 +12,8 @@ enum-told c = search needs
 new-list-requires : tie.Need-new-list-requires
 new-list-requires c κs = search needs
 
-numbered-requires : tie.Need-numbered-requires
-numbered-requires c κs = search needs
+put-numbered-requires : tie.Need-put-numbered-requires
+put-numbered-requires c κs = search needs
 
 enum-known-e : tie.Need-enum-known-e
 enum-known-e c = search needs
@@ -23,8 +21,8 @@ enum-known-e c = search needs
 new-block-requires : tie.Need-new-block-requires
 new-block-requires c κs = search needs
 
-numbered-requires-2 : tie.Need-numbered-requires-2
-numbered-requires-2 c κs = search needs
+put-numbered-requires-2 : tie.Need-put-numbered-requires-2
+put-numbered-requires-2 c κs = search needs
 
 enum-known-e-2 : tie.Need-enum-known-e-2
 enum-known-e-2 c = search needs
@@ -38,8 +36,8 @@ enum-known-e-3 c = search needs
 delete-block-requires : tie.Need-delete-block-requires
 delete-block-requires c κs = search needs
 
-answered-requires : tie.Need-answered-requires
-answered-requires c κs = search needs
+put-answer-requires : tie.Need-put-answer-requires
+put-answer-requires c κs = search needs
 
 enum-known-e-4 : tie.Need-enum-known-e-4
 enum-known-e-4 c = search needs
@@ -47,8 +45,8 @@ enum-known-e-4 c = search needs
 delete-list-requires : tie.Need-delete-list-requires
 delete-list-requires c κs = search needs
 
-answered-requires-2 : tie.Need-answered-requires-2
-answered-requires-2 c κs = search needs
+put-answer-requires-2 : tie.Need-put-answer-requires-2
+put-answer-requires-2 c κs = search needs
 
 same-length : tie.Need-same-length
 same-length c = search needs
@@ -62,8 +60,7 @@ same-length-3 c = search needs
 returns : tie.Need-returns
 unfolding editOf lineOf editLine
 returns c =
-    let a = c .before .before .before .before .before .before .before .before .before .before .before .before .before .before .args in
-    rw (c .before .before .before .before .before .before .before .enum-told .given .1) (calls (onStream _ newList) (disk (a .card .now) (a .queue .now) (a .journal .now) (a .rec)) (c .before .before .before .before .new-list .ensures) (c .before .before .numbered .ensures))
+    rw (c .before .before .before .before .before .before .before .before .enum-told .given .1) (calls (c .before .before .before .before .new-list .ensures) (c .before .before .put-numbered .ensures))
 
 same-length-4 : tie.Need-same-length-4
 same-length-4 c = search needs
@@ -77,8 +74,7 @@ same-length-6 c = search needs
 returns-2 : tie.Need-returns-2
 unfolding editOf lineOf editLine
 returns-2 c =
-    let a = c .before .before .before .before .before .before .before .before .before .before .before .before .before .before .before .args in
-    rw (c .before .before .before .before .before .before .before .before .e .given .1) (calls (onStream _ (newBlock _ _)) (disk (a .card .now) (a .queue .now) (a .journal .now) (a .rec)) (c .before .before .before .before .new-block .ensures) (c .before .before .numbered2 .ensures))
+    rw (c .before .before .before .before .before .before .before .before .before .e .given .1) (calls (c .before .before .before .before .new-block .ensures) (c .before .before .put-numbered2 .ensures))
 
 same-length-7 : tie.Need-same-length-7
 same-length-7 c = search needs
@@ -91,7 +87,7 @@ same-length-9 c = search needs
 
 returns-3 : tie.Need-returns-3
 unfolding editOf
-returns-3 c = rw (c .before .before .before .before .before .before .before .before .before .before .before .e2 .given .1) (c .before .before .before .before .before .before .write .ensures)
+returns-3 c = rw (c .before .before .before .before .before .before .before .before .before .before .before .before .e2 .given .1) (c .before .before .before .before .before .before .write .ensures)
 
 same-length-10 : tie.Need-same-length-10
 same-length-10 c = search needs
@@ -105,8 +101,7 @@ same-length-12 c = search needs
 returns-4 : tie.Need-returns-4
 unfolding editOf lineOf editLine
 returns-4 c =
-    let a = c .before .before .before .before .before .before .before .before .before .before .before .before .before .before .before .args in
-    rw (c .before .before .before .before .before .before .before .before .e3 .given .1) (calls (onStream _ (deleteBlock _)) (disk (a .card .now) (a .queue .now) (a .journal .now) (a .rec)) (c .before .before .before .before .delete-block .ensures) (c .before .before .answered .ensures))
+    rw (c .before .before .before .before .before .before .before .before .before .e3 .given .1) (calls (c .before .before .before .before .delete-block .ensures) (c .before .before .put-answer .ensures))
 
 same-length-13 : tie.Need-same-length-13
 same-length-13 c = search needs
@@ -120,8 +115,7 @@ same-length-15 c = search needs
 returns-5 : tie.Need-returns-5
 unfolding editOf lineOf editLine
 returns-5 c =
-    let a = c .before .before .before .before .before .before .before .before .before .before .before .before .before .before .before .args in
-    rw (c .before .before .before .before .before .before .before .before .e4 .given .1) (calls (onStream _ (deleteList _)) (disk (a .card .now) (a .queue .now) (a .journal .now) (a .rec)) (c .before .before .before .before .delete-list .ensures) (c .before .before .answered2 .ensures))
+    rw (c .before .before .before .before .before .before .before .before .before .e4 .given .1) (calls (c .before .before .before .before .delete-list .ensures) (c .before .before .put-answer2 .ensures))
 
 pub edit-spec : {M : Type 1} → statement M
 edit-spec =
@@ -129,18 +123,18 @@ edit-spec =
     (tie.spec
     enum-told
     new-list-requires
-    numbered-requires
+    put-numbered-requires
     enum-known-e
     new-block-requires
-    numbered-requires-2
+    put-numbered-requires-2
     enum-known-e-2
     write-requires
     enum-known-e-3
     delete-block-requires
-    answered-requires
+    put-answer-requires
     enum-known-e-4
     delete-list-requires
-    answered-requires-2
+    put-answer-requires-2
     same-length
     same-length-2
     same-length-3

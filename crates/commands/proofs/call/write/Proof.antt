@@ -1,7 +1,4 @@
 -- The digits' bytes are written, and the answer put. Assumes nothing.
-use Rattle.disk.specs.Disk.{disk}
-use Rattle.disk.specs.Call.{writeBlock, onStream}
-use Rattle.script.specs.Arguments.{textOf}
 use Rattle.commands.specs.Replies.{lineOf, editLine}
 use Rattle.commands.specs.Called.{dataLent}
 use Rattle.commands.proofs.Calling.{calls}
@@ -21,8 +18,8 @@ hex-requires c κs = search needs
 write-part-requires : tie.Need-write-part-requires
 write-part-requires c κs = search needs
 
-answered-requires : tie.Need-answered-requires
-answered-requires c κs = search needs
+put-answer-requires : tie.Need-put-answer-requires
+put-answer-requires c κs = search needs
 
 same-length : tie.Need-same-length
 same-length c = search needs
@@ -36,8 +33,7 @@ same-length-3 c = search needs
 returns : tie.Need-returns
 unfolding dataLent lineOf editLine
 returns c =
-    let a = c .before .before .before .before .before .before .before .before .before .before .before .before .before .before .before .before .before .before .before .before .before .args in
-    calls (onStream (a .stream) (writeBlock (a .block) (dataLent (textOf (a .line .now) (a .digits)) (a .lent)))) (disk (a .card .now) (a .queue .now) (a .journal .now) (a .rec)) (rw (c .before .before .before .before .before .before .before .before .before .before .before .before .before .hex .ensures, c .before .before .before .before .before .before .before .before .before .before .before .before .before .before .before .part .ensures) at (c .before .before .before .before .before .before .before .before .write-part .ensures)) (c .before .before .answered .ensures)
+    calls (rw (c .before .before .before .before .before .before .before .before .before .before .before .before .before .before .hex .ensures, c .before .before .before .before .before .before .before .before .before .before .before .before .before .before .before .before .part .ensures) at (c .before .before .before .before .before .before .before .before .write-part .ensures)) (c .before .before .put-answer .ensures)
 
 pub write-spec : {M : Type 1} → statement M
 write-spec =
@@ -47,7 +43,7 @@ write-spec =
     slice-aggregate-hex
     hex-requires
     write-part-requires
-    answered-requires
+    put-answer-requires
     same-length
     same-length-2
     same-length-3

@@ -29,9 +29,9 @@ same-length-2 c = search needs
 
 returns : tie.Need-returns
 returns c =
-    let a = c .before .before .before .before .before .before .before .before .before .before .before .before .before .before .before .before .args in
+    let a = c .before .before .before .before .before .before .before .before .before .before .before .before .before .before .before .before .before .args in
     let e : length (a .bytes .now) ≡ 256 = search needs in
-    rw (← (padded (a .bytes .now) e)) (rw (c .before .before .before .before .before .part .ensures, c .before .before .before .before .before .before .before .before .before .before .put-bytes .ensures .bytes) at (c .before .before .before .before .write .ensures))
+    rw (← (padded (a .bytes .now) e)) (rw (c .before .before .before .before .before .part .ensures, c .before .before .before .before .before .before .before .before .before .before .before .put-bytes .ensures .bytes) at (c .before .before .before .before .write .ensures))
 
 pub write-part-spec : {M : Type 1} → statement M
 write-part-spec =

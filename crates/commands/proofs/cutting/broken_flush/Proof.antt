@@ -11,17 +11,17 @@ cut-allowance-requires c κs = search needs
 flush-requires : tie.Need-flush-requires
 flush-requires c κs = search needs
 
-enum-known-reply : tie.Need-enum-known-reply
-enum-known-reply c = search needs
+enum-known-k : tie.Need-enum-known-k
+enum-known-k c = search needs
 
-enum-known-reply-2 : tie.Need-enum-known-reply-2
-enum-known-reply-2 c = search needs
+enum-known-k-2 : tie.Need-enum-known-k-2
+enum-known-k-2 c = search needs
 
-enum-known-reply-3 : tie.Need-enum-known-reply-3
-enum-known-reply-3 c = search needs
+enum-known-k-3 : tie.Need-enum-known-k-3
+enum-known-k-3 c = search needs
 
-enum-known-reply-4 : tie.Need-enum-known-reply-4
-enum-known-reply-4 c = search needs
+enum-known-x : tie.Need-enum-known-x
+enum-known-x c = search needs
 
 same-length : tie.Need-same-length
 same-length c = search needs
@@ -30,7 +30,7 @@ returns : tie.Need-returns
 unfolding flushAnswer
 returns c =
     let f = c .before .before .before .before .before in
-    flush-broken _ _ _ _ _ _ _ (rw (f .before .cut-allowance .ensures, c .before .reply .given .1) at (f .flush .ensures))
+    flush-broken _ _ _ _ _ _ _ (rw (f .before .cut-allowance .ensures, c .before .k .given .1) at (f .flush .ensures))
 
 same-length-2 : tie.Need-same-length-2
 same-length-2 c = search needs
@@ -39,7 +39,7 @@ returns-2 : tie.Need-returns-2
 unfolding flushAnswer
 returns-2 c =
     let f = c .before .before .before .before .before in
-    flush-broken _ _ _ _ _ _ _ (rw (f .before .cut-allowance .ensures, c .before .reply2 .given .1) at (f .flush .ensures))
+    flush-broken _ _ _ _ _ _ _ (rw (f .before .cut-allowance .ensures, c .before .k2 .given .1) at (f .flush .ensures))
 
 same-length-3 : tie.Need-same-length-3
 same-length-3 c = search needs
@@ -48,7 +48,7 @@ returns-3 : tie.Need-returns-3
 unfolding flushAnswer
 returns-3 c =
     let f = c .before .before .before .before .before in
-    flush-broken _ _ _ _ _ _ _ (rw (f .before .cut-allowance .ensures, c .before .reply3 .given .1) at (f .flush .ensures))
+    flush-broken _ _ _ _ _ _ _ (rw (f .before .cut-allowance .ensures, c .before .k3 .given .1) at (f .flush .ensures))
 
 same-length-4 : tie.Need-same-length-4
 same-length-4 c = search needs
@@ -57,7 +57,7 @@ returns-4 : tie.Need-returns-4
 unfolding flushAnswer
 returns-4 c =
     let f = c .before .before .before .before .before in
-    flush-not-broken _ _ _ _ _ _ (rw (f .before .cut-allowance .ensures, c .before .reply4 .given .1) at (f .flush .ensures))
+    flush-not-broken _ _ _ _ _ _ (rw (f .before .cut-allowance .ensures, c .before .x .given .1) at (f .flush .ensures))
 
 pub broken-flush-spec : {M : Type 1} → statement M
 broken-flush-spec =
@@ -65,10 +65,10 @@ broken-flush-spec =
     (tie.spec
     cut-allowance-requires
     flush-requires
-    enum-known-reply
-    enum-known-reply-2
-    enum-known-reply-3
-    enum-known-reply-4
+    enum-known-k
+    enum-known-k-2
+    enum-known-k-3
+    enum-known-x
     same-length
     returns
     same-length-2

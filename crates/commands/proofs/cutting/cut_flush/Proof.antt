@@ -53,14 +53,14 @@ returns : tie.Need-returns
 unfolding cutFlush
 returns c =
     let b = c .before .before .before .before .before .before .before .before .before .before .before .before in
-    let w = b .before .before .before .before .before .before .before in
+    let w = b .before .before .before .before .before .before .before .before in
     let s = w .before .before .before .before .before .before .before in
     let a = s .args in
     let many : w .within .result ≡ min (min (a .state .card) (a .state .size)) (length (a .card .now)) =
     w .within .ensures ∙ ap (λ (m : ℕ). min m (length (a .card .now))) (w .before .before .least .ensures) in
     let card = a .card .now in
     let n = w .within .result in
-    rw (disk-lent card (a .state) (s .pre) n many (a .queue .now) (a .journal .now), ← (b .before .before .before .part .ensures), ← (b .before .part2 .ensures))
+    rw (disk-lent card (a .state) (s .pre) n many (a .queue .now) (a .journal .now), ← (b .before .before .before .before .part .ensures), ← (b .before .before .part2 .ensures))
     (cut-runs card (a .state) (s .pre) n many _ (b .broken-flush .kept .0) _ (a .queue .now) (a .journal .now) (a .out .now) (a .at) _ _ _ _ _
     (b .broken-flush .ensures) (c .before .before .before .before .before .before .cut-short .ensures))
 

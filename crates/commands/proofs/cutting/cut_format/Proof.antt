@@ -4,6 +4,7 @@ use Prim.Native.Nat.{ℕ, min}
 use native.Mathlib.Omega.{arith}
 use lib.ListN.{length}
 use lib.Seq.{length-take-le}
+use Rattle.disk.specs.Record.{recordIn}
 use Rattle.commands.specs.Cut.{cutFormat}
 use Rattle.commands.proofs.Breaking.{disk-lent, cut-runs}
 use borrow.Author.Needs.{needs}
@@ -62,7 +63,7 @@ returns c =
     let n = w .within .result in
     rw (disk-lent card (a .state) (s .pre) n many (a .queue .now) (a .journal .now), ← (b .before .before .before .part .ensures), ← (b .before .part2 .ensures))
     (cut-runs card (a .state) (s .pre) n many _ (b .broken-format .kept .0) _ (a .queue .now) (a .journal .now) (a .out .now) (a .at) _ _ _ _ _
-    (b .broken-format .ensures (a .state .rec)) (c .before .before .before .before .before .before .cut-short .ensures))
+    (b .broken-format .ensures (recordIn (a .state .rec))) (c .before .before .before .before .before .before .cut-short .ensures))
 
 pub cut-format-spec : {M : Type 1} → statement M
 cut-format-spec =

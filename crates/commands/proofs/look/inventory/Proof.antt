@@ -1,7 +1,4 @@
 -- The call on the lent bytes, and its line. Assumes nothing.
-use mathlib.Core.Path.{refl}
-use Rattle.disk.specs.Disk.{disk}
-use Rattle.disk.specs.Call.{inventory, inView}
 use Rattle.commands.specs.Replies.{lineOf, lookLine}
 use Rattle.commands.specs.Called.{bytesLent}
 use Rattle.commands.proofs.Calling.{calls}
@@ -30,8 +27,7 @@ same-length c = search needs
 returns : tie.Need-returns
 unfolding bytesLent lineOf lookLine
 returns c =
-    let a = c .before .before .before .before .before .before .before .before .before .before .before .before .before .args in
-    calls (inView (a .view) (inventory (bytesLent (a .lent)))) (disk (a .card .now) (a .queue .now) (a .journal .now) (a .rec)) (c .before .before .before .before .before .before .before .inventory-part .ensures) (refl, rw (c .before .before .before .part .ensures) at (c .before .before .put-inventory .ensures))
+    calls (c .before .before .before .before .before .before .before .inventory-part .ensures) (rw (c .before .before .before .part .ensures) at (c .before .before .put-inventory .ensures))
 
 pub inventory-spec : {M : Type 1} → statement M
 inventory-spec =

@@ -1,7 +1,4 @@
 -- Each arm is one look-up and its line. Assumes nothing.
-use mathlib.Core.Path.{refl}
-use Rattle.disk.specs.Disk.{disk}
-use Rattle.disk.specs.Call.{blockAfter, inView}
 use Rattle.commands.specs.Replies.{lineOf, lookLine}
 use Rattle.commands.specs.Called.{lookOf}
 use Rattle.commands.proofs.Calling.{calls}
@@ -43,8 +40,7 @@ same-length-2 c = search needs
 returns-2 : tie.Need-returns-2
 unfolding lookOf lineOf lookLine
 returns-2 c =
-    let a = c .before .before .before .before .before .before .before .before .before .before .before .before .args in
-    rw (c .before .before .before .before .before .before .l2 .given .1) (calls (inView _ (blockAfter _ _)) (disk (a .card .now) (a .queue .now) (a .journal .now) (a .rec)) (c .before .before .before .before .next .ensures) (refl, c .before .before .put-numbered .ensures))
+    rw (c .before .before .before .before .before .before .l2 .given .1) (calls (c .before .before .before .before .next .ensures) (c .before .before .put-numbered .ensures))
 
 same-length-3 : tie.Need-same-length-3
 same-length-3 c = search needs

@@ -1,7 +1,4 @@
 -- The call on the lent bytes, and its line. Assumes nothing.
-use mathlib.Core.Path.{refl}
-use Rattle.disk.specs.Disk.{disk}
-use Rattle.disk.specs.Call.{readBlock, inView}
 use Rattle.commands.specs.Replies.{lineOf, lookLine}
 use Rattle.commands.specs.Called.{bytesLent}
 use Rattle.commands.proofs.Calling.{calls}
@@ -30,8 +27,7 @@ same-length c = search needs
 returns : tie.Need-returns
 unfolding bytesLent lineOf lookLine
 returns c =
-    let a = c .before .before .before .before .before .before .before .before .before .before .before .before .before .args in
-    calls (inView (a .view) (readBlock (a .block) (bytesLent (a .lent)))) (disk (a .card .now) (a .queue .now) (a .journal .now) (a .rec)) (c .before .before .before .before .before .before .before .read-part .ensures) (refl, rw (c .before .before .before .part .ensures) at (c .before .before .put-read .ensures))
+    calls (c .before .before .before .before .before .before .before .read-part .ensures) (rw (c .before .before .before .part .ensures) at (c .before .before .put-read .ensures))
 
 pub read-spec : {M : Type 1} → statement M
 read-spec =

@@ -59,13 +59,14 @@ same-length-4 c = search needs
 
 returns : tie.Need-returns
 returns c =
-    let a = c .before .before .before .before .before .before .before .before .before .before .before .before .before .before .before .before .before .before .before .before .before .before .before .before .before .before .before .before .args in
+    let w = c .before .before .before .before .before .before .before .before .before .before .before .before .before .before .before .before .before .before .before .before in
+    let a = w .before .before .before .before .before .before .before .before .args in
     let s = a .state in
-    let n : c .before .before .before .before .before .before .before .before .before .before .before .before .before .before .before .before .before .before .before .before .within .result ≡ min (min (s .card) (s .size)) (length (a .card .now)) = c .before .before .before .before .before .before .before .before .before .before .before .before .before .before .before .before .before .before .before .before .within .ensures ∙ rw (c .before .before .before .before .before .before .before .before .before .before .before .before .before .before .before .before .before .before .before .before .before .before .least .ensures) in
+    let n : w .within .result ≡ min (min (s .card) (s .size)) (length (a .card .now)) = w .within .ensures ∙ rw (w .before .before .least .ensures) in
     let q = c .before .before .before .before .before .before .before .before .before .before .before .before .before .before .before .before .before .before .within2 .ensures in
     let j = c .before .before .before .before .before .before .before .before .before .before .before .before .before .before .before .before .within3 .ensures in
     rw (n, q, j)
-    (lent-runs (a .card .now) (a .queue .now) (a .journal .now) s (c .before .before .before .before .before .before .before .before .before .before .before .before .before .before .before .before .before .before .before .before .before .before .before .before .before .before .before .before .pre) _ _ _ _ (callOf (a .line .now) (a .q)) _ (rw n at (c .before .before .before .before .before .before .before .before .before .card .given .0)) (c .with-record .ensures) (rw (n, q, j) at (c .before .before .before .before .before .before .before .before .before .before .call .ensures)))
+    (lent-runs (a .card .now) (a .queue .now) (a .journal .now) s (w .before .before .before .before .before .before .before .before .pre) _ _ _ _ (callOf (a .line .now) (a .q)) _ (rw n at (c .before .before .before .before .before .before .before .before .card .given .0)) (c .with-record .ensures) (rw (n, q, j) at (c .before .before .before .before .before .before .before .before .before .call .ensures)))
 
 pub lent-spec : {M : Type 1} → statement M
 lent-spec =

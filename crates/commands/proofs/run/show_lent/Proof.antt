@@ -24,8 +24,8 @@ same-length c = search needs
 
 returns : tie.Need-returns
 returns c =
-    let a = c .before .before .before .before .before .before .before .before .before .before .before .before .before .args in
-    rw (lent-disk (a .card .now) (a .queue .now) (a .journal .now) (a .state)) (rw (c .before .before .before .before .before .before .part .ensures, c .before .before .before .before .before .part2 .ensures, c .before .before .before .before .part3 .ensures, c .before .before .before .before .before .before .before .least .ensures) at (c .before .before .show .ensures))
+    let a = c .before .before .before .before .before .before .before .before .before .before .before .before .before .before .args in
+    rw (lent-disk (a .card .now) (a .queue .now) (a .journal .now) (a .state)) (rw (c .before .before .before .before .before .before .before .part .ensures, c .before .before .before .before .before .before .part2 .ensures, c .before .before .before .before .before .part3 .ensures, c .before .before .before .before .before .before .before .before .least .ensures) at (c .before .before .show .ensures))
 
 pub show-lent-spec : {M : Type 1} → statement M
 show-lent-spec =

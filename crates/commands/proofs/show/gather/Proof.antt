@@ -1,13 +1,13 @@
 -- Each turn stores the next block of the list. Assumes nothing.
 use Prim.Native.Nat.{_-_}
 use native.Mathlib.Omega.{arith}
-use Rattle.disk.specs.Disk.{disk}
+use Rattle.disk.specs.Disk.{diskIn}
 use Rattle.commands.proofs.Showing.{Gathered, gathered-none, gathered-more, gathered-end, gathered-full}
 use Rattle.commands.proofs.show.gather.Statement.{statement}
 use Rattle.commands.proofs.show.gather.Tie as tie
 
 abbrev Inv-loop : tie.InvT-loop
-Inv-loop card queue journal rec view list blocks₀ block₀ n₀ blocks block n = Gathered (disk card queue journal rec) view list blocks n block
+Inv-loop card queue journal rec view list blocks₀ block₀ n₀ blocks block n = Gathered (diskIn card queue journal rec) view list blocks n block
 
 abbrev μ-loop : tie.MeasureT-loop
 μ-loop card queue journal rec view list blocks₀ block₀ n₀ blocks block n = 64 - n

@@ -1,5 +1,5 @@
 -- By the cases of the inventory's reply. Assumes nothing.
-use Rattle.disk.specs.Disk.{disk}
+use Rattle.disk.specs.Disk.{diskIn}
 use Rattle.commands.proofs.Showing.{view-seen, view-unseen}
 use borrow.Author.Needs.{needs}
 use Rattle.commands.proofs.show.show.Statement.{statement}
@@ -41,7 +41,7 @@ returns c =
     let n = p .before .before .before in
     let i = n .before .before .before in
     let a = i .before .before .before .before .before .before .args in
-    let d = disk (a .card .now) (a .queue .now) (a .journal .now) (a .rec) in
+    let d = diskIn (a .card .now) (a .queue .now) (a .journal .now) (a .rec .now) in
     rw (view-seen d (a .view) _ _ (rw (n .n .given .1) at (i .inventory .ensures)), ← (p .part .ensures)) (c .before .before .show-view .ensures)
 
 same-length-2 : tie.Need-same-length-2
@@ -53,7 +53,7 @@ returns-2 c =
     let x = p .before .before .before in
     let i = x .before .before .before in
     let a = i .before .before .before .before .before .before .args in
-    let d = disk (a .card .now) (a .queue .now) (a .journal .now) (a .rec) in
+    let d = diskIn (a .card .now) (a .queue .now) (a .journal .now) (a .rec .now) in
     rw (view-unseen d (a .view) _ _ (rw (x .x .given .1) at (i .inventory .ensures)), ← (p .number-of .ensures)) (c .before .before .put-number .ensures)
 
 pub show-spec : {M : Type 1} → statement M

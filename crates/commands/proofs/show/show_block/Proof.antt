@@ -1,6 +1,6 @@
 -- By the cases of the reply. Assumes nothing.
 use Rattle.log.specs.Card.{zeros}
-use Rattle.disk.specs.Disk.{disk}
+use Rattle.disk.specs.Disk.{diskIn}
 use Rattle.text.proofs.Writing.{puts-none}
 use Rattle.commands.proofs.Showing.{block-read, block-unread}
 use borrow.Author.Needs.{needs}
@@ -34,7 +34,7 @@ returns c =
     let e = c .before .before .before .before .before in
     let r = e .before .before .before in
     let a = r .before .before .before .before .before .before .args in
-    let d = disk (a .card .now) (a .queue .now) (a .journal .now) (a .rec) in
+    let d = diskIn (a .card .now) (a .queue .now) (a .journal .now) (a .rec .now) in
     rw (block-read d (a .view) (a .block) _ (rw (e .enum-told .given .1) at (r .read .ensures))) (c .before .before .put-block .ensures)
 
 returns-2 : tie.Need-returns-2
@@ -42,7 +42,7 @@ unfolding zeros
 returns-2 c =
     let r = c .before .before .before in
     let a = r .before .before .before .before .before .before .args in
-    let d = disk (a .card .now) (a .queue .now) (a .journal .now) (a .rec) in
+    let d = diskIn (a .card .now) (a .queue .now) (a .journal .now) (a .rec .now) in
     rw (block-unread d (a .view) (a .block) _ _ (rw (c .enum-told2 .given .1) at (r .read .ensures))) (puts-none (a .out .now) (a .at))
 
 pub show-block-spec : {M : Type 1} → statement M

@@ -6,7 +6,7 @@ use lib.Seq.{take-all}
 use Rattle.lists.specs.Basic.{joined}
 use Rattle.text.specs.Written.{Puts}
 use Rattle.text.proofs.Writing.{puts-none, puts-more, puts-length}
-use Rattle.disk.specs.Disk.{disk}
+use Rattle.disk.specs.Disk.{diskIn}
 use Rattle.commands.specs.Shown.{eachOf, contentsOn}
 use Rattle.commands.proofs.Showing.{each-more}
 use Rattle.commands.proofs.show.show_contents.Statement.{statement}
@@ -14,7 +14,7 @@ use Rattle.commands.proofs.show.show_contents.Tie as tie
 
 abbrev Inv-loop : tie.InvT-loop
 Inv-loop card queue journal rec view lists out₀ at position₀ i₀ out position i =
-    (i ≤ length lists) × Puts out₀ at (eachOf (contentsOn (disk card queue journal rec) view) (take i lists)) out position
+    (i ≤ length lists) × Puts out₀ at (eachOf (contentsOn (diskIn card queue journal rec) view) (take i lists)) out position
 
 abbrev μ-loop : tie.MeasureT-loop
 μ-loop card queue journal rec view lists out₀ at position₀ i₀ out position i = length lists - i
@@ -40,7 +40,7 @@ loop-again c =
     let s = c .before .before .before .before .before .before in
     let a = s .before .before .before .before .before .before .args in (
       omega arith,
-      rw (each-more (contentsOn (disk (a .card .now) (a .queue .now) (a .journal .now) (a .rec)) (a .view)) (a .lists .now) (s .loop .i) (omega arith))
+      rw (each-more (contentsOn (diskIn (a .card .now) (a .queue .now) (a .journal .now) (a .rec .now)) (a .view)) (a .lists .now) (s .loop .i) (omega arith))
           (puts-more (s .loop .inv .1) (c .before .before .show-contents-on .ensures)),
     )
 

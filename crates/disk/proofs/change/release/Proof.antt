@@ -1,84 +1,49 @@
--- Each turn pastes one holder more of the definition's list. Assumes nothing.
-use mathlib.Core.Path.{_≡_, refl, sym, ap, _∙_}
-use mathlib.Core.Bool.{cond}
-use mathlib.Core.List.{List, [], _++_, map, append-nil}
-use Prim.Native.Nat.{ℕ, suc, _+_, _-_, _≤_, _<_}
+-- The invariant: the holders passed are given up, and nothing else has changed (Freed). The measure is what is left of them. Assumes nothing.
+use Prim.Native.Nat.{_-_, _≤_}
 use native.Mathlib.Omega.{arith}
-use native.Mathlib.Numerals.{add-one}
-use native.Mathlib.Nat.{zero-add}
 use borrow.Author.Needs.{needs}
-use lib.Dec.{eqb}
-use lib.ListN.{length, take, drop, getD, set, List·getD-map, length-map, drop-of-length-le}
-use lib.Seq.{paste, paste-suc, take-all}
-use Rattle.disk.specs.Record.{released}
+use Rattle.disk.proofs.Bytes.{Freed, freed-none, freed-more, freed-all}
 use Rattle.disk.proofs.change.release.Statement.{statement}
 use Rattle.disk.proofs.change.release.Tie as tie
-use Rattle.disk.proofs.change.release.Reads as reads
-use Rattle.disk.proofs.change.release.Lts as lts
-use Rattle.disk.proofs.change.freed.Reads as freed-reads
 
 abbrev Inv-loop : tie.InvT-loop
-Inv-loop u holder left₀ i₀ left i = (i ≤ 64) × (length holder ≡ 64) × (left ≡ paste holder 0 (released u holder) i)
+Inv-loop rec₀ u i₀ rec i = (i ≤ 64) × Freed u rec₀ rec i
 
 abbrev μ-loop : tie.MeasureT-loop
-μ-loop u holder left₀ i₀ left i = 64 - i
+μ-loop rec₀ u i₀ rec i = 64 - i
 
--- src/change.rt:91:5
+sized-requires : tie.Need-sized-requires Inv-loop μ-loop
+sized-requires c κs = search needs
+
 loop-holds : tie.Need-loop-holds Inv-loop μ-loop
-loop-holds c = (omega arith, search needs, refl)
+loop-holds c = (omega arith, freed-none _ _ (c .sized .ensures))
 
--- src/change.rt:92:25
-array-read-freed : tie.Need-array-read-freed Inv-loop μ-loop
-array-read-freed c = omega arith
+add-freed : tie.Need-add-freed Inv-loop μ-loop
+add-freed c = search needs
 
--- src/change.rt:92:19
+element-copy-out-freed : tie.Need-element-copy-out-freed Inv-loop μ-loop
+element-copy-out-freed c = omega arith
+
 freed-requires : tie.Need-freed-requires Inv-loop μ-loop
 freed-requires c κs = search needs
 
--- src/change.rt:92:9
-array-write-left : tie.Need-array-write-left Inv-loop μ-loop
-array-write-left c = omega arith
+add-rec : tie.Need-add-rec Inv-loop μ-loop
+add-rec c = search needs
 
--- src/change.rt:93:9
+element-write-rec : tie.Need-element-write-rec Inv-loop μ-loop
+element-write-rec c = omega arith
+
 add-i : tie.Need-add-i Inv-loop μ-loop
-add-i c = omega arith
+add-i c = search needs
 
--- src/change.rt:91:5
 loop-less : tie.Need-loop-less Inv-loop μ-loop
 loop-less c = omega arith
 
--- src/change.rt:91:5
 loop-again : tie.Need-loop-again Inv-loop μ-loop
-unfolding released
-loop-again c =
-    let s = c .before .before in
-    let u = s .before .args .u in
-    let h = s .before .args .t1 in
-    let f : ℕ → ℕ = λ x. cond (eqb x u) 0 x in
-    let p : List ℕ = map f h in
-    let v : c .freed .result ≡ getD p (s .loop .i) (f 0) = c .freed .ensures ∙ sym (List·getD-map f h (s .loop .i) 0) in (
-      omega arith,
-      s .loop .inv .1,
-      ap (λ (x : ℕ). set (s .loop .left) (s .loop .i) x) v
-          ∙ ap (λ (l : List ℕ). set l (s .loop .i) (getD p (s .loop .i) (f 0))) (s .loop .inv .2)
-          ∙ ap (λ (k : ℕ). set (paste h 0 p (s .loop .i)) k (getD p (s .loop .i) (f 0))) (sym (zero-add (s .loop .i)))
-          ∙ paste-suc h 0 p (s .loop .i) (f 0) (omega arith) (omega (arith, length-map h f))
-          ∙ ap (paste h 0 p) (sym (add-one (s .loop .i))),
-    )
+loop-again c = let l = c .before .before .before .loop in (omega arith, freed-more _ _ (l .rec) (l .i) _ (omega arith) (l .inv .1) (c .freed .ensures))
 
--- src/change.rt:86:1
 returns : tie.Need-returns Inv-loop μ-loop
-unfolding released
-returns c =
-    let u = c .before .before .args .u in
-    let h = c .before .before .args .t1 in
-    let f : ℕ → ℕ = λ x. cond (eqb x u) 0 x in
-    let e : c .before .loop .i ≡ 64 = omega arith in
-    c .before .loop .inv .2 ∙ ap (paste h 0 (map f h)) e ∙ whole h (map f h) (c .before .loop .inv .1) (length-map h f ∙ c .before .loop .inv .1)
-  where
-    whole : (h p : List ℕ) → length h ≡ 64 → length p ≡ 64 → paste h 0 p 64 ≡ p
-    whole h p n m =
-        ap (λ (l : List ℕ). take 64 p ++ l) (drop-of-length-le h {i = 0 + 64} (omega arith)) ∙ append-nil (take 64 p) ∙ take-all 64 p (omega arith)
+returns c = let l = c .before .loop in freed-all _ _ _ (l .i) (l .inv .0) (omega arith) (l .inv .1)
 
 pub release-spec : {M : Type 1} → statement M
 release-spec =
@@ -86,10 +51,13 @@ release-spec =
     (tie.spec
     Inv-loop
     μ-loop
+    sized-requires
     loop-holds
-    array-read-freed
+    add-freed
+    element-copy-out-freed
     freed-requires
-    array-write-left
+    add-rec
+    element-write-rec
     add-i
     loop-less
     loop-again

@@ -1,6 +1,7 @@
 -- The queue, the holders and the head are asked in turn, each over the tables that the one before left. Assumes nothing.
 use Rattle.lists.specs.promises.Tables.{tablesIn}
 use Rattle.log.specs.promises.Feed.{memory}
+use Rattle.disk.specs.Record.{recordIn}
 use Rattle.inspect.proofs.Settling.{settles-refused, settles-held, settles-last}
 use borrow.Author.Needs.{needs}
 use borrow.Author.Tests.{not-true, not-false}
@@ -17,7 +18,7 @@ returns c =
     let q = c .before .enter-queue in
     let m = memory (s .nodes .now) (s .members .now) in
     let t = tablesIn (q .last .0) in
-    settles-refused (s .card .now) (s .queue-data .now) m (s .run) (s .rec) (q .result) t (q .ensures) (not-true _ (c .if1 .taken))
+    settles-refused (s .card .now) (s .queue-data .now) m (s .run) (recordIn (s .rec .now)) (q .result) t (q .ensures) (not-true _ (c .if1 .taken))
 
 holders-right-requires : tie.Need-holders-right-requires
 holders-right-requires c κs = search needs
@@ -28,7 +29,7 @@ returns-2 c =
     let q = c .before .before .before .before .enter-queue in
     let m = memory (s .nodes .now) (s .members .now) in
     let t = tablesIn (q .last .0) in
-    settles-held (s .card .now) (s .queue-data .now) m (s .run) (s .rec) (q .result) t (q .ensures) (not-false _ (c .before .before .before .if1 .left)) (c .before .holders-right .result) (c .before .holders-right .ensures) (not-true _ (c .if2 .taken))
+    settles-held (s .card .now) (s .queue-data .now) m (s .run) (recordIn (s .rec .now)) (q .result) t (q .ensures) (not-false _ (c .before .before .before .if1 .left)) (c .before .holders-right .result) (c .before .holders-right .ensures) (not-true _ (c .if2 .taken))
 
 head-stands-requires : tie.Need-head-stands-requires
 head-stands-requires c κs = search needs
@@ -39,7 +40,7 @@ returns-3 c =
     let q = c .before .before .before .before .before .enter-queue in
     let m = memory (s .nodes .now) (s .members .now) in
     let t = tablesIn (q .last .0) in
-    settles-last (s .card .now) (s .queue-data .now) m (s .run) (s .rec) (q .result) t (q .ensures) (not-false _ (c .before .before .before .before .if1 .left)) (c .before .before .holders-right .result) (c .before .before .holders-right .ensures) (not-false _ (c .before .if2 .left)) (c .head-stands .result) (c .head-stands .ensures [])
+    settles-last (s .card .now) (s .queue-data .now) m (s .run) (recordIn (s .rec .now)) (q .result) t (q .ensures) (not-false _ (c .before .before .before .before .if1 .left)) (c .before .before .holders-right .result) (c .before .before .holders-right .ensures) (not-false _ (c .before .if2 .left)) (c .head-stands .result) (c .head-stands .ensures [])
 
 pub settle-spec : {M : Type 1} → statement M
 settle-spec =

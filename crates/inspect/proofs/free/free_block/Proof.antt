@@ -6,31 +6,34 @@ use mathlib.Core.List.{List}
 use Prim.Native.Nat.{ℕ, _+_, _-_, _%_, _≤_}
 use native.Mathlib.Omega.{arith}
 use lib.Dec.{eqb}
-use lib.ListN.{getD}
 use borrow.Author.Tests.{not-true, not-false}
 use Rattle.lists.specs.State.{Row, placed}
 use Rattle.lists.specs.promises.Tables.{OfShown, tablesIn}
 use Rattle.lists.proofs.Basic.{eqb-false}
 use Rattle.lists.proofs.Lookup.{placed-said}
+use Rattle.disk.specs.Record.{Record, recordIn, holderOf}
 use Rattle.inspect.proofs.Searching.{Left, none-tried, found, passed, nowhere}
 use borrow.Author.Needs.{needs}
 use Rattle.inspect.proofs.free.free_block.Statement.{statement}
 use Rattle.inspect.proofs.free.free_block.Tie as tie
 
-abbrev used : List ℕ → List (Row ℕ) → ℕ → Bool
-used hs rs b = placed b rs || not (eqb (getD hs (b - 1) 0) 0)
+abbrev used : Record → List (Row ℕ) → ℕ → Bool
+used r rs b = placed b rs || not (eqb (holderOf r b) 0)
 
-held : (hs : List ℕ) (rs : List (Row ℕ)) (b : ℕ) → getD hs (b - 1) 0 ≢ 0 → used hs rs b ≡ true
-held hs rs b h = rw (eqb-false (getD hs (b - 1) 0) 0 h) (or-true (placed b rs))
+held : (r : Record) (rs : List (Row ℕ)) (b : ℕ) → holderOf r b ≢ 0 → used r rs b ≡ true
+held r rs b h = rw (eqb-false (holderOf r b) 0 h) (or-true (placed b rs))
 
 abbrev Inv-loop : tie.InvT-loop
-Inv-loop nodes holder last b₀ i₀ b i = (i ≤ 64) × OfShown (tablesIn nodes) (λ rs. Left (used holder rs) 64 last i b)
+Inv-loop nodes rec b₀ i₀ b i = (i ≤ 64) × OfShown (tablesIn nodes) (λ rs. Left (used (recordIn rec) rs) 64 (recordIn rec .lastBlock) i b)
 
 abbrev μ-loop : tie.MeasureT-loop
-μ-loop nodes holder last b₀ i₀ b i = 64 - i
+μ-loop nodes rec b₀ i₀ b i = 64 - i
+
+last-block-requires : tie.Need-last-block-requires Inv-loop μ-loop
+last-block-requires c κs = search needs
 
 loop-holds : tie.Need-loop-holds Inv-loop μ-loop
-loop-holds c = (omega arith, λ rs h. none-tried (used (c .args .holder .now) rs) 64 _)
+loop-holds c = (omega arith, λ rs h. rw (c .last-block .ensures) (none-tried (used (recordIn (c .before .args .rec .now)) rs) 64 _))
 
 add-b : tie.Need-add-b Inv-loop μ-loop
 add-b c = search needs
@@ -48,7 +51,7 @@ returns c =
     let t = c .before .before .before .is-placed in
     let a = sym (placed-said (t .ensures) rs h (omega arith)) ∙ not-true (t .result) (c .before .before .if1 .taken) in
     let z = sym (c .before .holder-of .ensures) ∙ c .if2 .taken in
-    found (used (o .before .args .holder .now) rs) 64 _ (o .loop .i) (o .loop .b) (o .loop .inv .1 rs h) (omega arith) (rw (a, z))
+    found (used (recordIn (o .before .before .args .rec .now)) rs) 64 _ (o .loop .i) (o .loop .b) (o .loop .inv .1 rs h) (omega arith) (rw (a, z))
 
 add-i : tie.Need-add-i Inv-loop μ-loop
 add-i c = search needs
@@ -59,12 +62,13 @@ loop-less c = search needs
 loop-again : tie.Need-loop-again Inv-loop μ-loop
 loop-again c =
     let o = c .before .before .before in
-    let t = c .before .is-placed in (
+    let t = c .before .is-placed in
+    let r = recordIn (o .before .before .args .rec .now) in (
       omega arith,
       λ rs h.
-          passed (used (o .before .args .holder .now) rs) 64 _ (o .loop .i) (o .loop .b) (o .loop .inv .1 rs h) (omega arith)
+          passed (used r rs) 64 _ (o .loop .i) (o .loop .b) (o .loop .inv .1 rs h) (omega arith)
           (⊎-elim
-          (λ w. held (o .before .args .holder .now) rs (o .loop .b % 64 + 1) (λ e. w .2 .left (w .1 .ensures ∙ e)))
+          (λ w. held r rs (o .loop .b % 64 + 1) (λ e. w .2 .left (w .1 .ensures ∙ e)))
           (λ w. rw (sym (placed-said (t .ensures) rs h (omega arith)) ∙ not-false (t .result) (w .left)))
           (c .if1 .came)),
     )
@@ -72,7 +76,7 @@ loop-again c =
 returns-2 : tie.Need-returns-2 Inv-loop μ-loop
 returns-2 c =
     λ rs h.
-    nowhere (used (c .before .before .args .holder .now) rs) 64 _ (c .before .loop .i) (c .before .loop .b) (c .before .loop .inv .1 rs h) (omega arith)
+    nowhere (used (recordIn (c .before .before .before .args .rec .now)) rs) 64 _ (c .before .loop .i) (c .before .loop .b) (c .before .loop .inv .1 rs h) (omega arith)
 
 pub free-block-spec : {M : Type 1} → statement M
 free-block-spec =
@@ -80,6 +84,7 @@ free-block-spec =
     (tie.spec
     Inv-loop
     μ-loop
+    last-block-requires
     loop-holds
     add-b
     is-placed-requires

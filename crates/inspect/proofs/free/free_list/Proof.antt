@@ -6,19 +6,23 @@ use borrow.Author.Tests.{not-true, not-false}
 use Rattle.lists.specs.State.{taken}
 use Rattle.lists.specs.promises.Tables.{OfShown, tablesIn}
 use Rattle.lists.proofs.Lookup.{taken-said}
+use Rattle.disk.specs.Record.{recordIn}
 use Rattle.inspect.proofs.Searching.{Left, none-tried, found, passed, nowhere}
 use borrow.Author.Needs.{needs}
 use Rattle.inspect.proofs.free.free_list.Statement.{statement}
 use Rattle.inspect.proofs.free.free_list.Tie as tie
 
 abbrev Inv-loop : tie.InvT-loop
-Inv-loop nodes last l₀ i₀ l i = (i ≤ 16) × OfShown (tablesIn nodes) (λ rs. Left (λ x. taken x rs) 16 last i l)
+Inv-loop nodes rec l₀ i₀ l i = (i ≤ 16) × OfShown (tablesIn nodes) (λ rs. Left (λ x. taken x rs) 16 (recordIn rec .lastList) i l)
 
 abbrev μ-loop : tie.MeasureT-loop
-μ-loop nodes last l₀ i₀ l i = 16 - i
+μ-loop nodes rec l₀ i₀ l i = 16 - i
+
+last-list-requires : tie.Need-last-list-requires Inv-loop μ-loop
+last-list-requires c κs = search needs
 
 loop-holds : tie.Need-loop-holds Inv-loop μ-loop
-loop-holds c = (omega arith, λ rs h. none-tried (λ x. taken x rs) 16 _)
+loop-holds c = (omega arith, λ rs h. rw (c .last-list .ensures) (none-tried (λ x. taken x rs) 16 _))
 
 add-l : tie.Need-add-l Inv-loop μ-loop
 add-l c = search needs
@@ -58,6 +62,7 @@ free-list-spec =
     (tie.spec
     Inv-loop
     μ-loop
+    last-list-requires
     loop-holds
     add-l
     is-taken-requires

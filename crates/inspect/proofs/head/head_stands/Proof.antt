@@ -3,7 +3,7 @@ use mathlib.Core.Path.{refl, sym, ap, _∙_}
 use mathlib.Core.Bool.{false}
 use mathlib.Core.Option.{none, some}
 use native.Mathlib.Omega.{arith}
-use lib.ListN.{length, getD}
+use lib.ListN.{length}
 use Rattle.log.specs.Entry.{asEntry}
 use Rattle.log.specs.Card.{segmentsIn}
 use Rattle.log.specs.Store.{headAt}
@@ -11,22 +11,30 @@ use Rattle.log.specs.promises.Within.{asPlace}
 use Rattle.log.proofs.Slot.{length-slot}
 use Rattle.log.proofs.Copying.{slot-part}
 use Rattle.log.proofs.Within.{within-home}
-use Rattle.disk.specs.Record.{noQueued}
+use Rattle.disk.specs.Record.{recordIn}
 use Rattle.inspect.proofs.Begun.{head-none, head-some}
 use borrow.Author.Needs.{needs}
 use Rattle.inspect.proofs.head.head_stands.Statement.{statement}
 use Rattle.inspect.proofs.head.head_stands.Tie as tie
 
+done-requires : tie.Need-done-requires
+done-requires c κs = search needs
+
+len-requires : tie.Need-len-requires
+len-requires c κs = search needs
+
 returns : tie.Need-returns
 returns c =
-    let a = c .before .before .before .args in
-    λ j. sym (head-none (a .card .now) (a .queue-data .now) j (a .t3) (a .t3 .done) (c .if1 .taken))
+    let d = c .before .before in
+    let a = d .before .before .before .args in
+    let r = recordIn (a .rec .now) in
+    λ j. rw (d .done .ensures) (sym (head-none (a .card .now) (a .queue-data .now) j r (r .done) (sym (c .before .len .ensures) ∙ c .if1 .taken)))
 
-mul-head : tie.Need-mul-head
-mul-head c = search needs
+head-requires : tie.Need-head-requires
+head-requires c κs = search needs
 
-element-copy-out-head : tie.Need-element-copy-out-head
-element-copy-out-head c = search needs
+queue-entry-requires : tie.Need-queue-entry-requires
+queue-entry-requires c κs = search needs
 
 mul-data : tie.Need-mul-data
 mul-data c = search needs
@@ -53,13 +61,13 @@ is-begun-requires : tie.Need-is-begun-requires
 unfolding asPlace
 is-begun-requires c κs =
     let o = c .before .before .before .before in
-    let s = o .before .before .before .before .before in
+    let h = o .before .before in
+    let s = h .before .before .before .before .before .before in
     let a = s .args in
-    let h = a .t3 .head in
-    let e = asEntry false (getD (a .t3 .queue) h noQueued .entry) in
+    let e = asEntry false (o .before .queue-entry .result .entry) in
     let (w, i, f) =
     within-home (segmentsIn (a .card .now)) (a .place) (c .before .before .p .given .0 .0) e (s .pre .5) (s .pre .6) (sym (rw (c .before .before .p .given .1) at (o .home-of .ensures))) in
-    (s .pre .0, ap length (slot-part (a .queue-data .now) h) ∙ length-slot (a .queue-data .now) h (omega (arith, s .pre .1, s .pre .3)), w, i, f)
+    (s .pre .0, ap length (slot-part (a .queue-data .now) (h .head .result)) ∙ length-slot (a .queue-data .now) (h .head .result) (omega (arith, s .pre .1, s .pre .3, h .head .ensures)), w, i, f)
 
 enum-told : tie.Need-enum-told
 enum-told c = search needs
@@ -68,28 +76,44 @@ returns-2 : tie.Need-returns-2
 unfolding asPlace
 returns-2 c =
     let o = c .before .before .before .before .before in
-    let s = o .before .before .before .before .before in
+    let q = o .before .queue-entry in
+    let h = o .before .before .head in
+    let i = o .before .before .before in
+    let s = i .before .before .before .before .before in
     let a = s .args in
+    let r = recordIn (a .rec .now) in
+    let g = c .before .before .before .p .given in
     λ j.
-    c .is-begun .ensures
-    ∙ sym (head-some (a .card .now) (a .queue-data .now) j (a .t3) (a .t3 .done) _ (a .place) (some (c .before .before .before .p .given .0 .0)) (s .pre .3)
-    (o .before .before .if1 .left) (slot-part (a .queue-data .now) (a .t3 .head)) (s .pre .4) (sym (rw (c .before .before .before .p .given .1) at (o .home-of .ensures))))
+    rw (head-some (a .card .now) (a .queue-data .now) j r (r .done) _ (a .place) (some (g .0 .0)) (s .pre .3)
+    (λ z. i .if1 .left (i .before .len .ensures ∙ z)) (slot-part (a .queue-data .now) (r .head)) (s .pre .4)
+    (sym (rw (g .1, q .ensures .1, h .ensures) at (o .home-of .ensures))))
+    (rw (q .ensures .0, q .ensures .1, h .ensures, i .before .before .done .ensures) at (c .is-begun .ensures))
 
 returns-3 : tie.Need-returns-3
 unfolding asPlace headAt
 returns-3 c =
     let o = c .before .before in
-    let s = o .before .before .before .before .before in
+    let q = o .before .queue-entry in
+    let h = o .before .before .head in
+    let i = o .before .before .before in
+    let s = i .before .before .before .before .before in
     let a = s .args in
-    λ j. sym (head-some (a .card .now) (a .queue-data .now) j (a .t3) (a .t3 .done) _ (a .place) none (s .pre .3) (o .before .before .if1 .left) refl (s .pre .4) (sym (rw (c .enum-told .given .1) at (o .home-of .ensures))))
+    let r = recordIn (a .rec .now) in
+    λ j.
+    rw (i .before .before .done .ensures)
+    (sym (head-some (a .card .now) (a .queue-data .now) j r (r .done) _ (a .place) none (s .pre .3)
+    (λ z. i .if1 .left (i .before .len .ensures ∙ z)) refl (s .pre .4)
+    (sym (rw (c .enum-told .given .1, q .ensures .1, h .ensures) at (o .home-of .ensures)))))
 
 pub head-stands-spec : {M : Type 1} → statement M
 head-stands-spec =
     tie.close
     (tie.spec
+    done-requires
+    len-requires
     returns
-    mul-head
-    element-copy-out-head
+    head-requires
+    queue-entry-requires
     mul-data
     home-of-requires
     enum-known-p

@@ -1,22 +1,25 @@
 -- The invariant: the changes from number k on lead from the state that the tables show to where all of them led, and so far every one applied if
 -- `every` says so. Assumes nothing.
+use mathlib.Core.Path.{_≡_}
 use mathlib.Core.Logic.{inl, inr, ⊎-elim}
 use Prim.Native.Nat.{ℕ, _+_, _-_, _*_, _≤_}
 use native.Mathlib.Omega.{arith}
 use borrow.Author.Tests.{not-true, not-false}
 use Rattle.lists.specs.State.{State}
 use Rattle.lists.specs.promises.Tables.{Shows, tablesIn}
+use Rattle.disk.specs.Record.{recordIn, unitAt}
 use Rattle.inspect.proofs.Overlaying.{Laid, laid-none, laid-turn, laid-all}
 use borrow.Author.Needs.{needs}
 use Rattle.inspect.proofs.journal.enter_journal.Statement.{statement}
 use Rattle.inspect.proofs.journal.enter_journal.Tie as tie
 
 abbrev Inv-loop : tie.InvT-loop
-Inv-loop nodes₀ u unit first every₀ k₀ nodes every k =
-    (k ≤ unit .len) × ((s : State ℕ) → Shows (tablesIn nodes₀) (s .lists) → Laid unit u s every k (tablesIn nodes))
+Inv-loop nodes₀ rec u first every₀ n k₀ nodes every k =
+    let x = unitAt (recordIn rec) u in
+    (k ≤ n) × (n ≡ x .len) × ((s : State ℕ) → Shows (tablesIn nodes₀) (s .lists) → Laid x u s every k (tablesIn nodes))
 
 abbrev μ-loop : tie.MeasureT-loop
-μ-loop nodes₀ u unit first every₀ k₀ nodes every k = unit .len - k
+μ-loop nodes₀ rec u first every₀ n k₀ nodes every k = n - k
 
 sub-first : tie.Need-sub-first Inv-loop μ-loop
 sub-first c = search needs
@@ -30,14 +33,14 @@ cast-first c = search needs
 add-first : tie.Need-add-first Inv-loop μ-loop
 add-first c = search needs
 
+journal-len-requires : tie.Need-journal-len-requires Inv-loop μ-loop
+journal-len-requires c κs = search needs
+
 loop-holds : tie.Need-loop-holds Inv-loop μ-loop
-loop-holds c = (omega arith, λ s h. laid-none _ _ s _ h)
+loop-holds c = (omega arith, c .journal-len .ensures, λ s h. laid-none _ _ s _ h)
 
-mul-journaled : tie.Need-mul-journaled Inv-loop μ-loop
-mul-journaled c = search needs
-
-element-copy-out-journaled : tie.Need-element-copy-out-journaled Inv-loop μ-loop
-element-copy-out-journaled c = search needs
+journal-entry-requires : tie.Need-journal-entry-requires Inv-loop μ-loop
+journal-entry-requires c κs = search needs
 
 fields-of-requires : tie.Need-fields-of-requires Inv-loop μ-loop
 fields-of-requires c κs = search needs
@@ -60,19 +63,22 @@ loop-less c = search needs
 loop-again : tie.Need-loop-again Inv-loop μ-loop
 loop-again c =
     let a = c .before .act in
-    let o = c .before .before .before .before .before .before in (
+    let f = c .before .before .before in
+    let o = f .before .before .before in
+    let s₀ = o .before .before in (
       omega arith,
+      o .loop .inv .1,
       λ s h.
-          laid-turn _ _ s (o .before .pre .3) _ (a .result) _ (o .loop .k) (1057 + (o .before .args .u - 1) * 15 + o .loop .k)
+          laid-turn _ _ s (s₀ .pre .3) _ (a .result) _ (o .loop .k) (1057 + (s₀ .args .u - 1) * 15 + o .loop .k)
           (tablesIn (o .loop .nodes))
           (tablesIn (a .last .0)) (omega arith) (omega arith)
           (⊎-elim (λ w. inl (not-true (a .result) (w .0 .taken), w .1)) (λ w. inr (not-false (a .result) (w .0 .left), w .1)) (c .if1 .came))
-          (rw (c .before .before .before .fields-of .ensures) at (a .ensures))
-          (o .loop .inv .1 s h),
+          (rw (f .fields-of .ensures, f .before .journal-entry .ensures) at (a .ensures))
+          (o .loop .inv .2 s h),
     )
 
 returns : tie.Need-returns Inv-loop μ-loop
-returns c = laid-all _ _ _ _ (c .before .loop .k) _ (omega arith) (c .before .loop .inv .1)
+returns c = laid-all _ _ _ _ (c .before .loop .k) _ (omega arith) (c .before .loop .inv .2)
 
 pub enter-journal-spec : {M : Type 1} → statement M
 enter-journal-spec =
@@ -84,9 +90,9 @@ enter-journal-spec =
     mul-first
     cast-first
     add-first
+    journal-len-requires
     loop-holds
-    mul-journaled
-    element-copy-out-journaled
+    journal-entry-requires
     fields-of-requires
     cast-act
     add-act

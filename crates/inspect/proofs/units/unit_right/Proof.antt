@@ -1,37 +1,51 @@
--- The invariant: the changes before i are right, so the journal is right if the rest is. Assumes nothing.
+-- The invariant: the changes before k are right, so the journal is right if the rest is. Assumes nothing.
 use mathlib.Core.Path.{_≡_, sym, _∙_}
 use mathlib.Core.Bool.{true}
 use Prim.Native.Nat.{_-_, _≤_}
 use native.Mathlib.Omega.{arith}
-use borrow.Author.Needs.{needs}
 use borrow.Author.Tests.{not-true, not-false}
+use Rattle.disk.specs.Record.{recordIn, unitAt, isOpen}
 use Rattle.inspect.specs.promises.Clauses.{changeRight, changeIn}
 use Rattle.inspect.proofs.Judging.{Left, left-all, left-fails, left-passes, left-ends, unit-long, unit-closed, unit-open}
+use borrow.Author.Needs.{needs}
 use Rattle.inspect.proofs.units.unit_right.Statement.{statement}
 use Rattle.inspect.proofs.units.unit_right.Tie as tie
 
 abbrev Inv-loop : tie.InvT-loop
-Inv-loop holder u unit i₀ i = (i ≤ unit .len) × (unit .len ≤ 15) × (unit .opened ≡ true) × Left (changeRight holder u) (changeIn unit) (unit .len) i
+Inv-loop rec u n k₀ k =
+    let x = unitAt (recordIn rec) u in
+    (k ≤ n) × (n ≡ x .len) × (n ≤ 15) × (isOpen x ≡ true) × Left (changeRight (recordIn rec .holder) u) (changeIn x) (x .len) k
 
 abbrev μ-loop : tie.MeasureT-loop
-μ-loop holder u unit i₀ i = unit .len - i
+μ-loop rec u n k₀ k = n - k
+
+journal-len-requires : tie.Need-journal-len-requires Inv-loop μ-loop
+journal-len-requires c κs = search needs
 
 returns : tie.Need-returns Inv-loop μ-loop
-returns c = unit-long (c .before .args .holder .now) (c .before .args .t2) (c .before .args .u) (c .if1 .taken)
+returns c =
+    let s = c .before .before .args in
+    let r = recordIn (s .rec .now) in
+    unit-long (r .holder) (unitAt r (s .u)) (s .u) (omega (arith, c .before .journal-len .ensures, c .if1 .taken))
+
+opened-requires : tie.Need-opened-requires Inv-loop μ-loop
+opened-requires c κs = search needs
 
 returns-2 : tie.Need-returns-2 Inv-loop μ-loop
 returns-2 c =
-    let s = c .before .before .args in
-    unit-closed (s .holder .now) (s .t2) (s .u) (not-true _ (c .if2 .taken))
+    let s = c .before .before .before .before .args in
+    let r = recordIn (s .rec .now) in
+    rw (c .before .before .before .journal-len .ensures)
+    (unit-closed (r .holder) (unitAt r (s .u)) (s .u) (sym (c .before .opened .ensures) ∙ not-true _ (c .if2 .taken)))
 
 loop-holds : tie.Need-loop-holds Inv-loop μ-loop
-loop-holds c = (omega arith, omega arith, not-false _ (c .if2 .left), left-all _ _ _)
+loop-holds c = (omega arith, c .before .before .before .journal-len .ensures, omega arith, sym (c .before .opened .ensures) ∙ not-false _ (c .if2 .left), left-all _ _ _)
 
-mul-journaled : tie.Need-mul-journaled Inv-loop μ-loop
-mul-journaled c = omega arith
+cast-entry-right : tie.Need-cast-entry-right Inv-loop μ-loop
+cast-entry-right c = search needs
 
-element-copy-out-journaled : tie.Need-element-copy-out-journaled Inv-loop μ-loop
-element-copy-out-journaled c = omega arith
+journal-entry-requires : tie.Need-journal-entry-requires Inv-loop μ-loop
+journal-entry-requires c κs = search needs
 
 entry-right-requires : tie.Need-entry-right-requires Inv-loop μ-loop
 entry-right-requires c κs = search needs
@@ -39,32 +53,41 @@ entry-right-requires c κs = search needs
 returns-3 : tie.Need-returns-3 Inv-loop μ-loop
 returns-3 c =
     let l = c .before .before .before .before .loop in
-    let s = c .before .before .before .before .before .before .before .args in
-    left-fails (changeRight (s .holder .now) (s .u)) (changeIn (s .t2)) (s .t2 .len) (l .i) (l .inv .3) (omega arith) (sym (c .before .entry-right .ensures) ∙ not-true _ (c .if3 .taken))
-    ∙ unit-open (s .holder .now) (s .t2) (s .u) (l .inv .1) (l .inv .2)
+    let s = c .before .before .before .before .before .before .before .before .before .args in
+    let r = recordIn (s .rec .now) in
+    let x = unitAt r (s .u) in
+    let e = rw (c .before .before .journal-entry .ensures) at (c .before .entry-right .ensures) in
+    left-fails (changeRight (r .holder) (s .u)) (changeIn x) (x .len) (l .k) (l .inv .4) (omega arith) (sym e ∙ not-true _ (c .if3 .taken))
+    ∙ unit-open (r .holder) x (s .u) (omega arith) (l .inv .3)
 
-add-i : tie.Need-add-i Inv-loop μ-loop
-add-i c = omega arith
+add-k : tie.Need-add-k Inv-loop μ-loop
+add-k c = search needs
 
 loop-less : tie.Need-loop-less Inv-loop μ-loop
-loop-less c = omega arith
+loop-less c = search needs
 
 loop-again : tie.Need-loop-again Inv-loop μ-loop
 loop-again c =
     let l = c .before .before .before .before .loop in
-    let s = c .before .before .before .before .before .before .before .args in (
+    let s = c .before .before .before .before .before .before .before .before .before .args in
+    let r = recordIn (s .rec .now) in
+    let x = unitAt r (s .u) in
+    let e = rw (c .before .before .journal-entry .ensures) at (c .before .entry-right .ensures) in (
       omega arith,
       l .inv .1,
       l .inv .2,
-      left-passes (changeRight (s .holder .now) (s .u)) (changeIn (s .t2)) (s .t2 .len) (l .i) (l .inv .3) (omega arith) (sym (c .before .entry-right .ensures) ∙ not-false _ (c .if3 .left)),
+      l .inv .3,
+      left-passes (changeRight (r .holder) (s .u)) (changeIn x) (x .len) (l .k) (l .inv .4) (omega arith) (sym e ∙ not-false _ (c .if3 .left)),
     )
 
 returns-4 : tie.Need-returns-4 Inv-loop μ-loop
 returns-4 c =
     let l = c .before .loop in
-    let s = c .before .before .before .before .args in
-    left-ends (changeRight (s .holder .now) (s .u)) (changeIn (s .t2)) (s .t2 .len) (l .i) (l .inv .3) (omega arith)
-    ∙ unit-open (s .holder .now) (s .t2) (s .u) (l .inv .1) (l .inv .2)
+    let s = c .before .before .before .before .before .before .args in
+    let r = recordIn (s .rec .now) in
+    let x = unitAt r (s .u) in
+    left-ends (changeRight (r .holder) (s .u)) (changeIn x) (x .len) (l .k) (l .inv .4) (omega arith)
+    ∙ unit-open (r .holder) x (s .u) (omega arith) (l .inv .3)
 
 pub unit-right-spec : {M : Type 1} → statement M
 unit-right-spec =
@@ -72,14 +95,16 @@ unit-right-spec =
     (tie.spec
     Inv-loop
     μ-loop
+    journal-len-requires
     returns
+    opened-requires
     returns-2
     loop-holds
-    mul-journaled
-    element-copy-out-journaled
+    cast-entry-right
+    journal-entry-requires
     entry-right-requires
     returns-3
-    add-i
+    add-k
     loop-less
     loop-again
     returns-4)

@@ -1,13 +1,20 @@
--- The record is built field by field as the definition says. Assumes nothing.
-use Rattle.disk.specs.Record.{freshRecord}
+-- By computation. Assumes nothing.
+use mathlib.Core.Path.{refl}
+use Rattle.lists.specs.Basic.{from}
+use Rattle.disk.specs.Record.{recordIn, freshRecord, freshUnit, unitIn, cellsIn, bytesIn}
+use borrow.Author.Needs.{needs}
 use Rattle.disk.proofs.record.Record.fresh.Statement.{statement}
 use Rattle.disk.proofs.record.Record.fresh.Tie as tie
-use Rattle.disk.proofs.record.Record.fresh.Reads as reads
-use Rattle.disk.proofs.record.Record.fresh.Lts as lts
+
+array-write-bytes : tie.Need-array-write-bytes
+array-write-bytes c = search needs
+
+array-write-bytes-2 : tie.Need-array-write-bytes-2
+array-write-bytes-2 c = search needs
 
 returns : tie.Need-returns
-unfolding freshRecord
-returns c = search borrow.Author.Needs.needs
+unfolding recordIn freshRecord freshUnit unitIn cellsIn bytesIn from
+returns c = refl
 
 pub fresh-spec : {M : Type 1} → statement M
-fresh-spec = tie.close (tie.spec returns)
+fresh-spec = tie.close (tie.spec array-write-bytes array-write-bytes-2 returns)
