@@ -1,6 +1,6 @@
 // One part of the record changed: the queue, a unit, the holders, the numbers given last, the conflict count.
 use crate::record::CELL;
-use crate::record::CONFLICTS;
+use crate::record::CONFLICTS_AT;
 use crate::record::DONE;
 use crate::record::HEAD;
 use crate::record::HOLDERS;
@@ -99,8 +99,8 @@ pub fn count_conflict(rec: &mut [u8; RECORD])
     let n = conflicts(rec);
     if n < Record::CONFLICTS {
         let m = n + 1;
-        rec[CONFLICTS] = (m % 256) as u8;
-        rec[CONFLICTS + 1] = (m / 256) as u8;
+        rec[CONFLICTS_AT] = (m % 256) as u8;
+        rec[CONFLICTS_AT + 1] = (m / 256) as u8;
     }
 }
 

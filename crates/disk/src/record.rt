@@ -42,7 +42,7 @@ pub const LAST_BLOCK: usize = 444;
 
 pub const LAST_LIST: usize = 445;
 
-pub const CONFLICTS: usize = 446;
+pub const CONFLICTS_AT: usize = 446;
 
 const BLOCKS: usize = LogEntry::BLOCKS as usize;
 
@@ -128,7 +128,7 @@ pub fn last_list(rec: &[u8; RECORD]) -> u8
 pub fn conflicts(rec: &[u8; RECORD]) -> u16
     ensures { λ r. ⌜ r ≡ recordIn (now (rec .entry)) .conflicts ⌝ }
 {
-    of_bytes(rec[CONFLICTS], rec[CONFLICTS + 1])
+    of_bytes(rec[CONFLICTS_AT], rec[CONFLICTS_AT + 1])
 }
 
 // Is unit u open?
