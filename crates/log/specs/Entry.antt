@@ -132,12 +132,3 @@ asEntry m (Write b s) = cond m (member (write b s)) (plain (write b s))
 asEntry m (DeleteBlock b) = cond m (member (delBlock b)) (plain (delBlock b))
 asEntry m (DeleteList l) = cond m (member (delList l)) (plain (delList l))
 asEntry m (Commit n) = commit n
-
--- the `LogEntry` of a change, its slot 0: a queue's or a journal's write has no slot yet
-unfoldable pub logChange : {D : Type 0} → Change D → LogEntry
-logChange (takeList l) = Take l
-logChange (putFirst b l) = PutFirst b l
-logChange (putAfter b l p) = PutAfter b l p
-logChange (write b d) = Write b 0
-logChange (delBlock b) = DeleteBlock b
-logChange (delList l) = DeleteList l
