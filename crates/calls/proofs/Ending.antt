@@ -35,7 +35,6 @@ use Rattle.disk.proofs.Journal.{journal-size}
 use Rattle.disk.proofs.Questions.{unit-range}
 use Rattle.disk.proofs.Clauses.{right}
 use Rattle.disk.proofs.Soundness.{refused-same}
-use Rattle.log.specs.promises.Location.{blank}
 use Rattle.calls.specs.Performs.{Performs}
 use Rattle.inspect.specs.promises.Located.{journalHere}
 use Rattle.calls.specs.promises.Entering.{Admitted}
@@ -189,7 +188,7 @@ module _ (u : ℕ) (d : Disk) (t : Tables) (k : Admitted false d u t) where
   here = k .located .here
 
   applied : Bool
-  applied = isSome (applyAll blank (journalHere (unitAt (d .rec) u) u) here)
+  applied = isSome (applyAll (journalHere (unitAt (d .rec) u) u) here)
 
   asked : refusal (end u) d ≡ firstNo (endQuestions applied (d .rec) u)
   unfolding refusal questions endApplies queueRoom unitOf applied here

@@ -13,10 +13,8 @@ use Rattle.lists.specs.State.{Row, State, taken, placed, onList, overlay, mapSt
 use Rattle.lists.specs.promises.Tables.{Tables}
 use Rattle.lists.proofs.Basic.{or-cases, eqb-true, eqb-false}
 use Rattle.lists.proofs.Naturality.{taken-map, onList-map}
-use Rattle.log.specs.Card.{zeros}
 use Rattle.log.specs.Entry.{hasMember, isList, member, mapEntry, raw, legal, asEntry}
 use Rattle.log.specs.Cell.{cellOf}
-use Rattle.log.specs.promises.Location.{blank}
 use Rattle.disk.specs.Record.{Record, holderOf, unitAt}
 use Rattle.disk.specs.declared.answer.NumberReply.{NumberReply}
 use Rattle.disk.specs.declared.answer.NumberReply.the-variants.{Number, Refused}
@@ -103,8 +101,8 @@ module _ (s : ℕ) (d : Disk) (t : Tables) (k : Admitted true d s t) where
       let n : s ≤ 4 = stands-range d s t k in
       rw (eqb-false s 5 (λ e. omega arith), k .located .means) (go (eqb s 0))
     where
-      go : (b : Bool) → cond b (mapState (contents d) here) (overlay zeros (journalOf d s) (mapState (contents d) here))
-          ≡ mapState (contents d) (cond b here (overlay blank (journalHere (unitAt (d .rec) s) s) here))
+      go : (b : Bool) → cond b (mapState (contents d) here) (overlay (journalOf d s) (mapState (contents d) here))
+          ≡ mapState (contents d) (cond b here (overlay (journalHere (unitAt (d .rec) s) s) here))
       go true = refl
       go false = overlay-here d s here
 

@@ -1,19 +1,20 @@
 -- What reading a block performs, from what the tables of a view answer.
-use mathlib.Core.Path.{_≡_, sym, _∙_}
+use mathlib.Core.Path.{_≡_, refl, sym, ap, _∙_}
+use mathlib.Core.Logic.{_≢_}
 use mathlib.Core.Bool.{Bool, true, false, _&&_}
-use mathlib.Core.Option.{some}
+use mathlib.Core.Option.{some, Option·map}
 use mathlib.Core.List.{List}
-use Prim.Native.Nat.{ℕ}
+use Prim.Native.Nat.{ℕ, zero, suc}
 use lib.Dec.{leb, eqb}
 use lib.ListN.{length}
-use Rattle.lists.specs.Basic.{orElse}
+use Rattle.lists.specs.Basic.{isSome, orElse}
 use Rattle.lists.specs.State.{placed}
-use Rattle.lists.specs.Lookup.{contentOf}
-use Rattle.lists.specs.promises.Tables.{Tables, IsBlock, OfShown}
+use Rattle.lists.specs.Lookup.{contentOf, written}
+use Rattle.lists.specs.promises.Tables.{Tables, IsBlock, OfShown, locatedAt}
 use Rattle.lists.proofs.Basic.{and-true, leb-true, eqb-true}
 use Rattle.log.specs.Entry.{isBlock}
 use Rattle.disk.specs.declared.answer.Refusal.{Refusal}
-use Rattle.disk.specs.declared.answer.Refusal.the-variants.{OutOfRange, BlockNotPlaced}
+use Rattle.disk.specs.declared.answer.Refusal.the-variants.{OutOfRange, BlockNotPlaced, Unwritten}
 use Rattle.disk.specs.declared.answer.Reply as R
 use Rattle.disk.specs.Disk.{Disk, view}
 use Rattle.disk.specs.Call.{readBlock, inView, lentTo, destination}
@@ -26,6 +27,10 @@ use Rattle.inspect.specs.promises.Located.{contents}
 use Rattle.inspect.specs.promises.Inspect.{Sees}
 use Rattle.inspect.proofs.Locating.{placed-told, content-told}
 use Rattle.calls.proofs.Refusing.{ask-yes, ask-no, last-yes, seen, usual-performs-refused, performs-accepted}
+
+located-some : (n : ℕ) → n ≢ 0 → locatedAt n ≡ some n
+located-some zero z = absurd (z refl)
+located-some (suc n) z = refl
 
 pub read-range : (b n : ℕ) → isBlock b && eqb n 256 ≡ true → IsBlock b × (n ≡ 256)
 read-range b n h =
@@ -55,13 +60,27 @@ module _ (d : Disk) (v b : ℕ) (x : List ℕ) where
       unfolding refusal questions lookQuestions number
       read-unplaced h = read-refused BlockNotPlaced (seen _ s ∙ ask-yes 5 _ _ w ∙ ask-no 8 _ _ (placed-view ∙ h))
 
-      module _ (h : o ≡ true) (m : ℕ) (g : OfShown t (λ rs. placed b rs ≡ true → contentOf rs b ≡ some m)) where
-        content-view : contentOf (view d v .lists) b ≡ some (contents d m)
+      module _ (h : o ≡ true) (m : ℕ) (g : OfShown t (λ rs. placed b rs ≡ true → contentOf rs b ≡ locatedAt m)) where
+        content-view : contentOf (view d v .lists) b ≡ Option·map (contents d) (locatedAt m)
         content-view = content-told d t (view d v) (s .located) b m g (placed-view ∙ h)
 
-        pub read-sized : length (contents d m) ≡ 256
-        read-sized = view-sized d (s .lengths) (s .sound) v b (contents d m) (s .opened) content-view
+        -- location 0: nothing was written
+        pub read-unwritten : m ≡ 0 → Reads (R.the-variants.Refused Unwritten) x
+        unfolding refusal questions lookQuestions number written isSome
+        read-unwritten z =
+            read-refused Unwritten
+            (seen _ s ∙ ask-yes 5 _ _ w ∙ ask-yes 8 _ _ (placed-view ∙ h) ∙ ask-no 15 _ _ (ap isSome (content-view ∙ ap (λ (n : ℕ). Option·map (contents d) (locatedAt n)) z)))
 
-        pub read-given : (y : List ℕ) → y ≡ contents d m → Reads R.the-variants.Accepted y
-        unfolding refusal questions lookQuestions accepted found replyAnswer orElse
-        read-given y e = performs-accepted (inView v (readBlock b x)) d _ (seen _ s ∙ ask-yes 5 _ _ w ∙ last-yes 8 _ (placed-view ∙ h)) (rw (content-view, orElse, e))
+        -- any other is one of 256 bytes
+        module _ (z : m ≢ 0) where
+          content-some : contentOf (view d v .lists) b ≡ some (contents d m)
+          content-some = content-view ∙ ap (Option·map (contents d)) (located-some m z)
+
+          pub read-sized : length (contents d m) ≡ 256
+          read-sized = view-sized d (s .lengths) (s .sound) v b (contents d m) (s .opened) content-some
+
+          pub read-given : (y : List ℕ) → y ≡ contents d m → Reads R.the-variants.Accepted y
+          unfolding refusal questions lookQuestions accepted found replyAnswer orElse written isSome
+          read-given y e =
+              performs-accepted (inView v (readBlock b x)) d _
+              (seen _ s ∙ ask-yes 5 _ _ w ∙ ask-yes 8 _ _ (placed-view ∙ h) ∙ last-yes 15 _ (ap isSome content-some)) (rw (content-some, orElse, e))

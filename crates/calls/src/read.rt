@@ -5,6 +5,7 @@ use disk::answer::Reply;
 use disk::record::RECORD;
 use inspect::look::Looked;
 use inspect::look::look_view;
+use lists::tables::UNWRITTEN;
 use lists::tables::is_placed;
 use lists::tables::location_of;
 use log::content::copy_content;
@@ -15,7 +16,7 @@ ghost use Rattle.disk.specs.Answers.{replyAnswer};
 ghost use Rattle.calls.specs.Performs.{ChangesNothing};
 
 // Block b of view v goes to dest.
-// Questions: 1 lengths, 3 record, 4 view, 5 block and destination, 8 on a list.
+// Questions: 1 lengths, 3 record, 4 view, 5 block and destination, 8 on a list, 15 written.
 pub fn read(
     card: &[u8],
     queue_data: &[u8],
@@ -42,6 +43,9 @@ pub fn read(
         return Reply::Refused(Refusal::BlockNotPlaced);
     }
     let location = location_of(&nodes, b);
+    if location == UNWRITTEN {
+        return Reply::Refused(Refusal::Unwritten);
+    }
     copy_content(card, queue_data, journal_data, location, dest);
     Reply::Accepted
 }

@@ -13,7 +13,7 @@ use Rattle.lists.specs.State.{State, state, apply, applyAll, overlay}
 use Rattle.lists.proofs.Basic.{and-true, guard-some, bind-some, all-append, all-drop, all-each}
 use Rattle.log.specs.Entry.{Entry, plain, member, commit, mapEntry, carried, raw, legal, legalChange, hasMember}
 use Rattle.log.specs.Reader.{Reader, settled, start, lastOf, read, replay}
-use Rattle.log.specs.Card.{Content, zeros, usedBy}
+use Rattle.log.specs.Card.{Content, usedBy}
 use Rattle.log.proofs.Segment.{Fine}
 use Rattle.disk.specs.Disk.{Disk, queued, journalOf, stateOf, persistent, committed, view}
 use Rattle.disk.specs.Sound.{isOpenUnit, journalSound}
@@ -30,23 +30,23 @@ all-joined p (xs ∷ xss) f = all-append p xs (joined xss) (f 0 (omega arith)) (
 -- Q is what is kept, by the changes that pass the test.
 module _ (Q : State Content → Type 0) (ok : Change Content → Bool) (empty : Q (state []))
     (lawful : (k : ℕ) (c : Change Content) → legalChange (mapChange (λ x. k) c) ≡ true → ok c ≡ true)
-    (keeps : (c : Change Content) (s t : State Content) → ok c ≡ true → apply zeros c s ≡ some t → Q s → Q t) where
-  all-keeps : (cs : List (Change Content)) (s t : State Content) → all ok cs ≡ true → applyAll zeros cs s ≡ some t → Q s → Q t
+    (keeps : (c : Change Content) (s t : State Content) → ok c ≡ true → apply c s ≡ some t → Q s → Q t) where
+  all-keeps : (cs : List (Change Content)) (s t : State Content) → all ok cs ≡ true → applyAll cs s ≡ some t → Q s → Q t
   unfolding applyAll all
   all-keeps [] s t m e h = subst Q (Option·some-injective _ _ e) h
   all-keeps (c ∷ cs) s t m e h =
-      let (u, f, g) = bind-some (apply zeros c s) (λ x. applyAll zeros cs x) t e in
+      let (u, f, g) = bind-some (apply c s) (λ x. applyAll cs x) t e in
       let (a, b) = and-true (ok c) (all ok cs) m in
       all-keeps cs u t b g (keeps c s u a f h)
 
-  overlay-keeps : (cs : List (Change Content)) (s : State Content) → all ok cs ≡ true → Q s → Q (overlay zeros cs s)
+  overlay-keeps : (cs : List (Change Content)) (s : State Content) → all ok cs ≡ true → Q s → Q (overlay cs s)
   unfolding overlay orElse all
   overlay-keeps [] s m h = h
   overlay-keeps (c ∷ cs) s m h =
       let (a, b) = and-true (ok c) (all ok cs) m in
-      overlay-keeps cs (orElse s (apply zeros c s)) b (go a (apply zeros c s) refl)
+      overlay-keeps cs (orElse s (apply c s)) b (go a (apply c s) refl)
     where
-      go : ok c ≡ true → (o : Option (State Content)) → apply zeros c s ≡ o → Q (orElse s o)
+      go : ok c ≡ true → (o : Option (State Content)) → apply c s ≡ o → Q (orElse s o)
       go a none e = h
       go a (some t) e = keeps c s t a e h
 
@@ -77,20 +77,20 @@ module _ (Q : State Content → Type 0) (ok : Change Content → Bool) (empty : 
       let (t, a, b) = bind-some o (λ s. some (settled s)) q e in
       subst Kept (Option·some-injective _ _ b) (record { state = f t a; run = refl })
 
-  read-kept : (r q : Reader Content) (e : Entry Content) → passes e ≡ true → read zeros r e ≡ some q → Kept r → Kept q
+  read-kept : (r q : Reader Content) (e : Entry Content) → passes e ≡ true → read r e ≡ some q → Kept r → Kept q
   unfolding read passes lastOf all
-  read-kept r q (plain c) m h i = settled-kept (apply zeros c (r .state)) q h (λ t e. keeps c (r .state) t m e (i .state))
+  read-kept r q (plain c) m h i = settled-kept (apply c (r .state)) q h (λ t e. keeps c (r .state) t m e (i .state))
   read-kept r q (member c) m h i = subst Kept (Option·some-injective _ _ h) (record { state = i .state; run = all-append ok (r .run) (c ∷ []) (i .run) (rw m) })
   read-kept r q (commit n) m h i =
-      let (a, b) = guard-some (leb n (length (r .run))) (bind (applyAll zeros (lastOf n (r .run)) (r .state)) (λ s. some (settled s))) q h in
-      settled-kept (applyAll zeros (lastOf n (r .run)) (r .state)) q b
+      let (a, b) = guard-some (leb n (length (r .run))) (bind (applyAll (lastOf n (r .run)) (r .state)) (λ s. some (settled s))) q h in
+      settled-kept (applyAll (lastOf n (r .run)) (r .state)) q b
       (λ t e. all-keeps (lastOf n (r .run)) (r .state) t (all-drop ok (length (r .run) - n) (r .run) (i .run)) e (i .state))
 
-  replay-kept : (r q : Reader Content) (es : List (Entry Content)) → all passes es ≡ true → replay zeros r es ≡ some q → Kept r → Kept q
+  replay-kept : (r q : Reader Content) (es : List (Entry Content)) → all passes es ≡ true → replay r es ≡ some q → Kept r → Kept q
   unfolding replay all
   replay-kept r q [] m h i = subst Kept (Option·some-injective _ _ h) i
   replay-kept r q (e ∷ es) m h i =
-      let (x, a, b) = bind-some (read zeros r e) (λ y. replay zeros y es) q h in
+      let (x, a, b) = bind-some (read r e) (λ y. replay y es) q h in
       let (u, v) = and-true (passes e) (all passes es) m in
       replay-kept x q es v b (read-kept r x e u a i)
 
@@ -121,7 +121,7 @@ module _ (Q : State Content → Type 0) (ok : Change Content → Bool) (empty : 
         rw (committed-is d (k .reader) (k .log .replays))
         (replay-kept (o .reader) (k .reader) (queued d) (all-each (λ e. legal (raw 0 e)) passes (queued d) (legal-passes 0) (k .log .lawful)) (o .onward) card-kept .state)
 
-    unit-kept : (u : ℕ) → isOpenUnit d u ≡ true → Q (overlay zeros (journalOf d u) (committed d))
+    unit-kept : (u : ℕ) → isOpenUnit d u ≡ true → Q (overlay (journalOf d u) (committed d))
     unfolding journalSound passes
     unit-kept u h =
         let (p, q, o) = unit-range d u h in

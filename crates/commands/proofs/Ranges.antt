@@ -16,7 +16,7 @@ use Rattle.lists.proofs.Basic.{and-true, or-both, not-false, not-true, leb-true
 use Rattle.lists.proofs.Count.{puts}
 use Rattle.lists.proofs.Placed.{placed-apply}
 use Rattle.log.specs.Entry.{legalChange, isBlock, isList}
-use Rattle.log.specs.Card.{Content, zeros}
+use Rattle.log.specs.Card.{Content}
 use Rattle.disk.specs.Disk.{Disk, view}
 use Rattle.disk.specs.Call.{blockAfter, inView}
 use Rattle.disk.specs.Questions.{viewOpen, questions, refusal}
@@ -48,7 +48,7 @@ module _ (b : ℕ) (far : 64 < b) where
   unfolding placed
   unplaced d k v h =
       view-kept (λ s. placed b (s .lists) ≡ false) (λ c. not (puts c b)) refl legal-spares
-      (λ c s t p e q. placed-apply zeros c s t b (not-false (puts c b) p) q e) d k v h
+      (λ c s t p e q. placed-apply c s t b (not-false (puts c b) p) q e) d k v h
 
   -- nor does it follow another there
   following : (p : ℕ) (ns : List ℕ) → any (λ n. eqb n b) ns ≡ false → nextIn p ns ≢ b

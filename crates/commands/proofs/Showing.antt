@@ -9,7 +9,6 @@ use lib.ListN.{length, take, getD, set, replicate, length-set}
 use lib.Seq.{slice, take-suc, take-set-le, getD-set-same}
 use Rattle.lists.specs.Basic.{joined}
 use Rattle.lists.proofs.Basic.{eqb-false}
-use Rattle.log.specs.Card.{zeros}
 use Rattle.disk.specs.declared.answer.Refusal.{Refusal}
 use Rattle.disk.specs.declared.answer.Reply as R
 use Rattle.disk.specs.declared.answer.NumberReply as N
@@ -19,7 +18,7 @@ use Rattle.disk.specs.Perform.{Answer, Result}
 use Rattle.disk.specs.Answers.{number, replyAnswer, numberAnswer}
 use Rattle.calls.specs.Performs.{Performs}
 use Rattle.calls.proofs.Refusing.{number-nonzero}
-use Rattle.script.specs.Lines.{numberLine, blockLine}
+use Rattle.script.specs.Lines.{numberLine, blockLine, unwrittenLine}
 use Rattle.commands.specs.Shown.{eachOf, blockBehind, blocksFrom, blocksOn, blockShown, viewShown, shown}
 
 -- one number more
@@ -81,11 +80,11 @@ module _ (d : Disk) (v : ℕ) where
           let z : 64 - n ≡ 0 = omega arith in
           sym (append-nil (take n bs)) ∙ (rw z at (g .2))
 
-  pub block-read : (b : ℕ) (x : List ℕ) → Performs (inView v (readBlock b zeros)) d d (replyAnswer R.the-variants.Accepted) x → blockShown d v b ≡ blockLine b x
+  pub block-read : (b : ℕ) (x : List ℕ) → Performs (inView v (readBlock b (replicate 256 0))) d d (replyAnswer R.the-variants.Accepted) x → blockShown d v b ≡ blockLine b x
   unfolding blockShown replyAnswer
   block-read b x h = rw h
 
-  pub block-unread : (b : ℕ) (r : Refusal) (x : List ℕ) → Performs (inView v (readBlock b zeros)) d d (replyAnswer (R.the-variants.Refused r)) x → blockShown d v b ≡ []
+  pub block-unread : (b : ℕ) (r : Refusal) (x : List ℕ) → Performs (inView v (readBlock b (replicate 256 0))) d d (replyAnswer (R.the-variants.Refused r)) x → blockShown d v b ≡ unwrittenLine b
   unfolding blockShown replyAnswer
   block-unread b r x h = rw (h, eqb-false (number r) 0 (number-nonzero r))
 

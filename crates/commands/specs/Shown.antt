@@ -1,5 +1,5 @@
 -- What `show` prints of a view, by the look-ups: "for each list in inventory order `list L:` and its blocks as the lister has them, then for each of these
--- blocks, list by list, `block B: HEX`; refused: `A`".
+-- blocks, list by list, `block B: HEX`", with "`block B: unwritten`"; "refused: `A`".
 use mathlib.Core.Bool.{true, false, cond}
 use mathlib.Core.List.{List, [], _∷_, _++_, map}
 use Prim.Native.Nat.{ℕ, zero, suc}
@@ -7,12 +7,11 @@ use lib.Dec.{eqb}
 use lib.ListN.{replicate}
 use lib.Seq.{slice}
 use Rattle.lists.specs.Basic.{joined}
-use Rattle.log.specs.Card.{zeros}
 use Rattle.disk.specs.Disk.{Disk}
 use Rattle.disk.specs.Call.{readBlock, blockAfter, inventory, inView}
 use Rattle.disk.specs.Perform.{perform}
 use Rattle.listing.specs.Listing.{listLine}
-use Rattle.script.specs.Lines.{numberLine, blockLine}
+use Rattle.script.specs.Lines.{numberLine, blockLine, unwrittenLine}
 
 -- a text for each of these numbers
 abbrev pub eachOf : (ℕ → List ℕ) → List ℕ → List ℕ
@@ -35,10 +34,11 @@ module _ (d : Disk) (v : ℕ) where
   unfoldable pub listShown : ℕ → List ℕ
   listShown l = listLine l (blocksOn l)
 
+  -- a block on a list of the view: a reading is refused only where it is unwritten
   unfoldable pub blockShown : ℕ → List ℕ
   blockShown b =
-      let r = perform (inView v (readBlock b zeros)) d in
-      cond (eqb (r .answer .code) 0) (blockLine b (r .lent)) []
+      let r = perform (inView v (readBlock b (replicate 256 0))) d in
+      cond (eqb (r .answer .code) 0) (blockLine b (r .lent)) (unwrittenLine b)
 
   abbrev pub blocksShown : List ℕ → List ℕ
   blocksShown bs = eachOf blockShown bs

@@ -6,6 +6,7 @@ use log::entry::LogEntry;
 use script::lines::put_block;
 use script::lines::put_list;
 use script::lines::put_number;
+use script::lines::put_unwritten;
 use script::replies::number_of;
 use text::line::part;
 ghost use mathlib.Core.Path.{_≡_};
@@ -245,6 +246,6 @@ fn show_block(
         &mut content,
     ) {
         Reply::Accepted => put_block(out, at, block, &content),
-        Reply::Refused(_) => at,
+        Reply::Refused(_) => put_unwritten(out, at, block),
     }
 }

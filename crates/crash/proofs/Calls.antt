@@ -8,7 +8,7 @@ use Rattle.lists.specs.Change.{Change, takeList, putFirst, putAfter, write, del
 use Rattle.lists.specs.State.{applies, applyAll}
 use Rattle.lists.proofs.Basic.{and-true, not-false, leb-true, some-of}
 use Rattle.log.specs.Entry.{plain, carried}
-use Rattle.log.specs.Card.{Content, zeros}
+use Rattle.log.specs.Card.{Content}
 use Rattle.log.proofs.Segment.{Sized}
 use Rattle.log.proofs.Places.{Good}
 use Rattle.disk.specs.Record.{isOpen}
@@ -102,6 +102,6 @@ accepted-end u d b h i =
     let (p, q, o) = unit-range d u (y 2) in
     let x = k .units .units u p q in
     let z = unit-sized d u p q (k .journalData) (x .room) in
-    let (s, a) = some-of (applyAll zeros (journalOf d u) (committed d)) (y 3) in
+    let (s, a) = some-of (applyAll (journalOf d u) (committed d)) (y 3) in
     join-unit d b u s k i p q (omega (arith, journal-size d u, queue-room d (unitOf d u .len + 1) (y 4)))
     (unit-good (d .rec) u (journalOf d u) (x .sound) (omega (arith, journal-size d u, x .room)) z) z a

@@ -16,7 +16,7 @@ use Rattle.lists.specs.State.{State, apply, applyAll}
 use Rattle.lists.proofs.Basic.{eqb-false, eqb-neq, any-joined}
 use Rattle.log.specs.Entry.{Entry, plain, member, commit}
 use Rattle.log.specs.Reader.{Reader, reader, settled, lastOf, read, replay}
-use Rattle.log.specs.Card.{Content, zeros}
+use Rattle.log.specs.Card.{Content}
 use Rattle.crash.specs.Book.{Act, simple, whole, act, acts, Waiting, longest, closingOnCard, isNumber, memberOf, entriesOf}
 
 -- the serial history that entries tell to a reader with a run behind it
@@ -51,15 +51,15 @@ unguarded : (b : Bool) (o : Option (Reader Content)) (f : Reader Content → Opt
 unguarded true o f z h = h
 unguarded false o f z h = absurd (Option·none-ne-some _ h)
 
-pub replay-acts : (es : List (Entry Content)) (r z : Reader Content) → replay zeros r es ≡ some z → acts (tell (r .run) es) (r .state) ≡ some (z .state)
+pub replay-acts : (es : List (Entry Content)) (r z : Reader Content) → replay r es ≡ some z → acts (tell (r .run) es) (r .state) ≡ some (z .state)
 unfolding replay tell acts act read
 replay-acts [] r z h = ap {B = Option (State Content)} (λ o. bind o (λ (q : Reader Content). some (q .state))) h
 replay-acts (plain c ∷ es) r z h =
-    through (apply zeros c (r .state)) (λ q. replay zeros q es) (λ t. acts (tell [] es) t) z (λ t. replay-acts es (settled t) z) h
+    through (apply c (r .state)) (λ q. replay q es) (λ t. acts (tell [] es) t) z (λ t. replay-acts es (settled t) z) h
 replay-acts (member c ∷ es) r z h = replay-acts es (reader (r .run ++ c ∷ []) (r .state)) z h
 replay-acts (commit n ∷ es) r z h =
-    through (applyAll zeros (lastOf n (r .run)) (r .state)) (λ q. replay zeros q es) (λ t. acts (tell [] es) t) z (λ t. replay-acts es (settled t) z)
-    (unguarded (leb n (length (r .run))) (bind (applyAll zeros (lastOf n (r .run)) (r .state)) (λ s. some (settled s))) (λ q. replay zeros q es) z h)
+    through (applyAll (lastOf n (r .run)) (r .state)) (λ q. replay q es) (λ t. acts (tell [] es) t) z (λ t. replay-acts es (settled t) z)
+    (unguarded (leb n (length (r .run))) (bind (applyAll (lastOf n (r .run)) (r .state)) (λ s. some (settled s))) (λ q. replay q es) z h)
 
 -- A unit's members and its commit tell the unit whole, whatever dead run stands before.
 lastOf-append : (xs ys : List (Change Content)) → lastOf (length ys) (xs ++ ys) ≡ ys

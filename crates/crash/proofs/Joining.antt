@@ -11,7 +11,7 @@ use Rattle.lists.specs.Change.{Change, carriedBy}
 use Rattle.lists.specs.State.{State, apply, applyAll}
 use Rattle.log.specs.Entry.{Entry, plain, commit}
 use Rattle.log.specs.Reader.{Reader, settled, start, read, replay}
-use Rattle.log.specs.Card.{Content, zeros, sound, mounted}
+use Rattle.log.specs.Card.{Content, sound, mounted}
 use Rattle.log.proofs.Replay.{replay-append}
 use Rattle.log.proofs.Segment.{Sized, carries-walk}
 use Rattle.log.proofs.Places.{Good}
@@ -36,16 +36,16 @@ committed-reader d b s t i =
     let v : Shown (b .segs) (b .history) = told-shown b t in
     let p : joined (map entriesOf (b .segs)) ≡ v .entries = entries-joined (b .segs) ∙ ap entriesOf (v .log) ∙ entries-label 0 (v .entries) in
     let w : mounted (d .card) ≡ sound (v .reader) =
-    carries-walk (d .card) (map entriesOf (b .segs)) (v .reader) (s .carries) (ap (replay zeros start) p ∙ v .replays) in
+    carries-walk (d .card) (map entriesOf (b .segs)) (v .reader) (s .carries) (ap (replay start) p ∙ v .replays) in
     let e : v .entries ++ entriesOf (b .line) ≡ t .entries =
     ap (λ (x : List (Entry Content)). x ++ entriesOf (b .line)) (sym p ∙ entries-joined (b .segs))
     ∙ sym (entries-append (joined (b .segs)) (b .line)) ∙ ap entriesOf (t .log) ∙ entries-label 0 (t .entries) in
     rw w (rw (i .queue)
     (rejoin v (t .reader) (entriesOf (b .line))
-    (sym (replay-append zeros start (v .entries) (entriesOf (b .line))) ∙ ap (replay zeros start) e ∙ t .replays)))
+    (sym (replay-append start (v .entries) (entriesOf (b .line))) ∙ ap (replay start) e ∙ t .replays)))
   where
     rejoin : (v : Shown (b .segs) (b .history)) (z : Reader Content) (q : List (Entry Content))
-        → bind (replay zeros start (v .entries)) (λ r. replay zeros r q) ≡ some z → replay zeros (v .reader) q ≡ some z
+        → bind (replay start (v .entries)) (λ r. replay r q) ≡ some z → replay (v .reader) q ≡ some z
     rejoin v z q h = rw (v .replays) at h
 
 committed-state : (d : Disk) (b : Book) (i : Live d b) → committed d ≡ i .told .reader .state
@@ -65,7 +65,7 @@ record Grown (d d′ : Disk) (b b′ : Book) (es : List (Entry Content)) (ws : L
 -- entries join the queue and the line, and what they tell joins the history
 join-line : (d d′ : Disk) (b b′ : Book) (es : List (Entry Content)) (hs : List Act) (z : Reader Content) (i : Live d b)
     → Grown d d′ b b′ es (label (length (b .history)) es) → AllGood es → hs ≡ tell (runAfter [] (i .told .entries)) es → b′ .history ≡ b .history ++ hs
-    → replay zeros (i .told .reader) es ≡ some z → Live d′ b′
+    → replay (i .told .reader) es ≡ some z → Live d′ b′
 unfolding placedEntries
 join-line d d′ b b′ es hs z i g good h k r =
     live d′ b′
@@ -86,12 +86,12 @@ join-line d d′ b b′ es hs z i g good h k r =
         ∙ ap (λ (x : List (Entry Content)). entriesOf (b .line) ++ x) (entries-label (length (b .history)) es)
 
 -- A simple change.
-replay-plain : (r : Reader Content) (c : Change Content) (s : State Content) → apply zeros c (r .state) ≡ some s → replay zeros r (plain c ∷ []) ≡ some (settled s)
+replay-plain : (r : Reader Content) (c : Change Content) (s : State Content) → apply c (r .state) ≡ some s → replay r (plain c ∷ []) ≡ some (settled s)
 unfolding replay read
 replay-plain r c s a = rw a
 
 pub join-plain : (d : Disk) (b : Book) (c : Change Content) (s : State Content) → Right d → Live d b → d .rec .len < 32 → Good (plain c)
-    → apply zeros c (committed d) ≡ some s → Live (enqueue (plain c) d) (joinPlain c b)
+    → apply c (committed d) ≡ some s → Live (enqueue (plain c) d) (joinPlain c b)
 unfolding joinPlain batchOf
 join-plain d b c s r i m g a =
     join-line d (enqueue (plain c) d) b (joinPlain c b) (plain c ∷ []) (simple c ∷ []) (settled s) i
@@ -106,7 +106,7 @@ join-plain d b c s r i m g a =
       journals = λ u p q. journal-enqueue (plain c) d u ∙ i .tied refl .journals u p q;
     })
     (g, tt) (sym (tell-plain (runAfter [] (i .told .entries)) c)) refl
-    (replay-plain (i .told .reader) c s (ap (apply zeros c) (sym (committed-state d b i)) ∙ a))
+    (replay-plain (i .told .reader) c s (ap (apply c) (sym (committed-state d b i)) ∙ a))
 
 -- A change in a unit.
 pub join-batch : (d : Disk) (b : Book) (u : ℕ) (c : Change Content) → Right d → Live d b → 1 ≤ u → u ≤ 4 → unitOf d u .len < 15 → Sized (carriedBy c)
@@ -141,7 +141,7 @@ unfolding unitEntries
 unit-tells cs run = sym (tell-unit cs run)
 
 pub join-unit : (d : Disk) (b : Book) (u : ℕ) (s : State Content) → Right d → Live d b → 1 ≤ u → u ≤ 4 → d .rec .len + suc (length (journalOf d u)) ≤ 32
-    → AllGood (unitEntries (journalOf d u)) → AllSized (unitEntries (journalOf d u)) → applyAll zeros (journalOf d u) (committed d) ≡ some s
+    → AllGood (unitEntries (journalOf d u)) → AllSized (unitEntries (journalOf d u)) → applyAll (journalOf d u) (committed d) ≡ some s
     → Live (closingUnit u (enqueueAll (unitEntries (journalOf d u)) d)) (joinUnit u b)
 unfolding joinUnit withBatch closingUnit batchOf
 join-unit d b u s r i p q m g z a =
@@ -157,7 +157,7 @@ join-unit d b u s r i p q m g z a =
       journals = λ v y w. journals v y w (ℕ-discrete u v);
     })
     g (unit-tells (batchOf b u) run ∙ ap (λ (cs : List (Change Content)). tell run (unitEntries cs)) (sym same)) refl
-    (replay-unit (i .told .reader) (journalOf d u) s (ap (applyAll zeros (journalOf d u)) (sym (committed-state d b i)) ∙ a))
+    (replay-unit (i .told .reader) (journalOf d u) s (ap (applyAll (journalOf d u)) (sym (committed-state d b i)) ∙ a))
   where
     n : ℕ
     n = length (b .history)

@@ -15,3 +15,4 @@ pub mod Refusals
 pub mod Demand3
 pub mod Scenario
 pub mod Covered
+pub mod Unwritten

@@ -9,7 +9,7 @@ use Rattle.lists.specs.Basic.{isSome}
 use Rattle.lists.specs.State.{State, state}
 use Rattle.lists.proofs.Basic.{eq-true, le-true}
 use Rattle.log.specs.Reader.{Reader, start, replay}
-use Rattle.log.specs.Card.{Content, zeros, cardLength, sound, mounted}
+use Rattle.log.specs.Card.{Content, cardLength, sound, mounted}
 use Rattle.log.proofs.Segment.{Carries, carries-walk}
 use Rattle.disk.specs.Record.{freshRecord}
 use Rattle.disk.specs.Disk.{withRecord, readerOf, stateOf, persistent, view}
@@ -51,7 +51,7 @@ kept c b h m s =
   where
     walks : mounted c ≡ sound (s .reader)
     walks = carries-walk c (map entriesOf (b .segs)) (s .reader) h
-        (ap (replay zeros start) (entries-joined (b .segs) ∙ ap entriesOf (s .log) ∙ entries-label 0 (s .entries)) ∙ s .replays)
+        (ap (replay start) (entries-joined (b .segs) ∙ ap entriesOf (s .log) ∙ entries-label 0 (s .entries)) ∙ s .replays)
 
     accepts : (x : Rest) → Lent x → refusal mount (leaves c x) ≡ 0
     accepts x l = mount-accepts c x (s .reader) walks

@@ -3,12 +3,13 @@
 use Prim.{Unit, tt}
 use mathlib.Core.Path.{_≡_, refl}
 use mathlib.Core.Bool.{true}
+use mathlib.Core.Option.{none}
 use mathlib.Core.List.{List, [], _∷_}
 use Prim.Native.Nat.{ℕ}
 use lib.ListN.{replicate}
 use Rattle.lists.specs.Change.{takeList, putFirst}
 use Rattle.lists.specs.State.{State, state, row, block}
-use Rattle.log.specs.Card.{Content, zeros}
+use Rattle.log.specs.Card.{Content}
 use Rattle.disk.specs.Record.{freshRecord, withFlow}
 use Rattle.disk.specs.Disk.{Disk, view}
 use Rattle.disk.specs.Call.{newList, newBlock, Call, mount, onStream, begin, end, flush}
@@ -59,9 +60,9 @@ events =
 pub last : Scene
 last = play (begun blank) events
 
--- list 1 with blocks 2 and 1, both zeros
+-- list 1 with blocks 2 and 1, both unwritten
 pub mountedState : State Content
-mountedState = state (row 1 (block 2 zeros ∷ block 1 zeros ∷ []) ∷ [])
+mountedState = state (row 1 (block 2 none ∷ block 1 none ∷ []) ∷ [])
 
 -- opens what the events and the book compute with
 playing : Unit {0}

@@ -12,7 +12,7 @@ use Rattle.lists.specs.Change.{Change}
 use Rattle.lists.proofs.Basic.{bind-some, joined-nils}
 use Rattle.log.specs.Entry.{Entry}
 use Rattle.log.specs.Reader.{Reader, start, replay}
-use Rattle.log.specs.Card.{Content, zeros}
+use Rattle.log.specs.Card.{Content}
 use Rattle.log.proofs.Replay.{replay-append}
 use Rattle.crash.specs.Book.{Book, Waiting, Act, longest, closingOnCard, onCard, settle, keepFirst, bookFormat, withBatch, emptyBook}
 use Rattle.crash.proofs.History.{tell, tell-append, runAfter, label, label-append, label-take, on-card}
@@ -24,7 +24,7 @@ pub record Told (b : Book) : Type 0 where
   pub log : joined (b .segs) ++ b .line ≡ label 0 entries
   pub history : b .history ≡ tell [] entries
   pub reader : Reader Content
-  pub replays : replay zeros start entries ≡ some reader
+  pub replays : replay start entries ≡ some reader
 
 -- what is placed on segments tells the longest prefix whose closing stores are there, and replays
 pub record Shown (ss : List (List Waiting)) (hs : List Act) : Type 0 where
@@ -32,11 +32,11 @@ pub record Shown (ss : List (List Waiting)) (hs : List Act) : Type 0 where
   pub log : joined ss ≡ label 0 entries
   pub prefix : longest (closingOnCard ss) 0 hs ≡ tell [] entries
   pub reader : Reader Content
-  pub replays : replay zeros start entries ≡ some reader
+  pub replays : replay start entries ≡ some reader
 
 -- some first entries of what replays
 shown : (ss : List (List Waiting)) (more : List Waiting) (es : List (Entry Content)) (hs : List Act) (z : Reader Content)
-    → joined ss ++ more ≡ label 0 es → hs ≡ tell [] es → replay zeros start es ≡ some z → Shown ss hs
+    → joined ss ++ more ≡ label 0 es → hs ≡ tell [] es → replay start es ≡ some z → Shown ss hs
 shown ss more es hs z h k r = record {
   entries = p;
   log = here;
@@ -60,8 +60,8 @@ shown ss more es hs z h k r = record {
     here : joined ss ≡ label 0 p
     here = sym (take-at (joined ss) more n refl) ∙ ap (take n) h ∙ sym (label-take 0 n es)
 
-    first : (y : Reader Content) × (replay zeros start p ≡ some y) × (replay zeros y q ≡ some z)
-    first = bind-some (replay zeros start p) (λ y. replay zeros y q) z (sym (replay-append zeros start p q) ∙ ap (replay zeros start) split ∙ r)
+    first : (y : Reader Content) × (replay start p ≡ some y) × (replay y q ≡ some z)
+    first = bind-some (replay start p) (λ y. replay y q) z (sym (replay-append start p q) ∙ ap (replay start) split ∙ r)
 
 pub told-shown : (b : Book) → Told b → Shown (b .segs) (b .history)
 told-shown b t = shown (b .segs) (b .line) (t .entries) (b .history) (t .reader) (t .log) (t .history) (t .replays)
@@ -97,7 +97,7 @@ withBatch-told b u cs t = record { entries = t .entries; log = t .log; history =
 
 -- entries join the line, and what they tell joins the history
 pub told-add : (b : Book) (t : Told b) (ws : List Waiting) (hs : List Act) (es : List (Entry Content)) (z : Reader Content)
-    → ws ≡ label (length (b .history)) es → hs ≡ tell (runAfter [] (t .entries)) es → replay zeros (t .reader) es ≡ some z
+    → ws ≡ label (length (b .history)) es → hs ≡ tell (runAfter [] (t .entries)) es → replay (t .reader) es ≡ some z
     → (b′ : Book) → b′ .segs ≡ b .segs → b′ .line ≡ b .line ++ ws → b′ .history ≡ b .history ++ hs → Told b′
 told-add b t ws hs es z w h r b′ s l k = record {
   entries = t .entries ++ es;
@@ -111,5 +111,5 @@ told-add b t ws hs es z w h r b′ s l k = record {
   history =
       k ∙ ap (λ (x : List Act). x ++ hs) (t .history) ∙ ap (λ (x : List Act). tell [] (t .entries) ++ x) h ∙ sym (tell-append [] (t .entries) es);
   reader = z;
-  replays = replay-append zeros start (t .entries) es ∙ rw (t .replays) r;
+  replays = replay-append start (t .entries) es ∙ rw (t .replays) r;
 }

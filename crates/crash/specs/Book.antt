@@ -9,7 +9,7 @@ use Rattle.lists.specs.Basic.{bind, any}
 use Rattle.lists.specs.Change.{Change}
 use Rattle.lists.specs.State.{State, apply, applyAll}
 use Rattle.log.specs.Entry.{Entry, plain, member, commit, carried, entryLength}
-use Rattle.log.specs.Card.{Content, zeros, usedBy, slotBytes}
+use Rattle.log.specs.Card.{Content, usedBy, slotBytes}
 use Rattle.log.specs.Store.{opened, afterAll, home}
 use Rattle.log.specs.declared.place.Place.{Place}
 use Rattle.disk.specs.Record.{unitCount}
@@ -176,8 +176,8 @@ bookStep b (cutFormat k x) a = settle (bookFormat k b)
 
 -- "A prefix acts on the empty state, an End's changes in order."
 unfoldable pub act : Act → State Content → Option (State Content)
-act (simple c) s = apply zeros c s
-act (whole cs) s = applyAll zeros cs s
+act (simple c) s = apply c s
+act (whole cs) s = applyAll cs s
 
 unfoldable pub acts : List Act → State Content → Option (State Content)
 acts [] s = some s

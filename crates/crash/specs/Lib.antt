@@ -2,3 +2,4 @@ pub mod Event
 pub mod Book
 pub mod Demand3
 pub mod Covered
+pub mod Unwritten

@@ -16,7 +16,7 @@ use Rattle.lists.proofs.Basic.{and-true, not-true, eqb-true, leb-true, le-true,
 use Rattle.lists.proofs.Count.{puts}
 use Rattle.log.specs.Entry.{Entry, plain, member, commit, mapEntry, carried, raw, legal, legalChange, hasMember, isBlock, isList}
 use Rattle.log.specs.Reader.{Reader, reader, settled, lastOf, read, replay}
-use Rattle.log.specs.Card.{Content, zeros}
+use Rattle.log.specs.Card.{Content}
 use Rattle.log.proofs.Places.{Good}
 use Rattle.log.proofs.Flows.{AllGood}
 use Rattle.disk.specs.Record.{Record, holderOf}
@@ -51,7 +51,7 @@ unfolding legal raw mapEntry mapChange legalChange carried carriedBy
 delList-good l h = record { lawful = h; sized = tt }
 
 -- Changes that apply.
-pub apply-applies : (c : Change Content) (s : State Content) → applies c (s .lists) ≡ true → apply zeros c s ≡ some (state (changed zeros c (s .lists)))
+pub apply-applies : (c : Change Content) (s : State Content) → applies c (s .lists) ≡ true → apply c s ≡ some (state (changed c (s .lists)))
 unfolding apply
 apply-applies c s h = guard-true (applies c (s .lists)) _ h
 
@@ -160,15 +160,15 @@ unit-good r u cs h l z =
     good-all (unitEntries cs) (all-append (λ e. legal (raw 0 e)) (map member cs) (commit (length cs) ∷ []) (journal-legal r u cs h) (rw (le-true (length cs) 15 l))) z
 
 replay-members : (r : Reader Content) (n : ℕ) (cs : List (Change Content))
-    → replay zeros r (map member cs ++ commit n ∷ []) ≡ replay zeros (reader (r .run ++ cs) (r .state)) (commit n ∷ [])
+    → replay r (map member cs ++ commit n ∷ []) ≡ replay (reader (r .run ++ cs) (r .state)) (commit n ∷ [])
 unfolding replay read
-replay-members r n [] = ap (λ (x : List (Change Content)). replay zeros (reader x (r .state)) (commit n ∷ [])) (sym (append-nil (r .run)))
+replay-members r n [] = ap (λ (x : List (Change Content)). replay (reader x (r .state)) (commit n ∷ [])) (sym (append-nil (r .run)))
 replay-members r n (c ∷ cs) =
     replay-members (reader (r .run ++ c ∷ []) (r .state)) n cs
-    ∙ ap (λ (x : List (Change Content)). replay zeros (reader x (r .state)) (commit n ∷ [])) (append-assoc (r .run) (c ∷ []) cs)
+    ∙ ap (λ (x : List (Change Content)). replay (reader x (r .state)) (commit n ∷ [])) (append-assoc (r .run) (c ∷ []) cs)
 
-pub replay-unit : (r : Reader Content) (cs : List (Change Content)) (s : State Content) → applyAll zeros cs (r .state) ≡ some s
-    → replay zeros r (unitEntries cs) ≡ some (settled s)
+pub replay-unit : (r : Reader Content) (cs : List (Change Content)) (s : State Content) → applyAll cs (r .state) ≡ some s
+    → replay r (unitEntries cs) ≡ some (settled s)
 unfolding unitEntries replay read lastOf
 replay-unit r cs s a =
     replay-members r (length cs) cs

@@ -8,7 +8,7 @@ use mathlib.Core.List.{List, [], _∷_, _++_, map}
 use Prim.Native.Nat.{ℕ, suc, _+_, _<_}
 use native.Mathlib.Omega.{arith}
 use lib.Dec.{eqb}
-use lib.ListN.{length, getD, length-replicate}
+use lib.ListN.{length, getD, replicate, length-replicate}
 use Rattle.lists.specs.Basic.{joined}
 use Rattle.lists.specs.Change.{Change, takeList, putFirst, putAfter, write, delBlock, delList, mapChange, carriedBy}
 use Rattle.lists.specs.State.{State, overlay, mapState}
@@ -17,7 +17,7 @@ use Rattle.lists.proofs.Basic.{eq-true, eqb-true, either}
 use Rattle.lists.proofs.Naturality.{overlay-map, contentOf-map}
 use Rattle.log.specs.Entry.{Entry, plain, member, commit, mapEntry, carried}
 use Rattle.log.specs.Reader.{Reader, start, replay}
-use Rattle.log.specs.Card.{Content, zeros, cardLength, segmentsIn, usedBy, sound, mounted}
+use Rattle.log.specs.Card.{Content, cardLength, segmentsIn, usedBy, sound, mounted}
 use Rattle.log.proofs.CardLength.{card-size}
 use Rattle.log.proofs.Naturality.{mapReader, replay-map}
 use Rattle.log.proofs.Segment.{Sized, Fine, Carries}
@@ -32,13 +32,9 @@ use Rattle.disk.proofs.Questions.{unit-range, open-views}
 use Rattle.disk.proofs.Clauses.{Right, right, committed-is}
 use Rattle.disk.proofs.Draining.{Open, open-log}
 
--- the content where it has 256 bytes, else zeros
+-- the content where it has 256 bytes, else others
 unfoldable fit : Content → Content
-fit x = cond (eqb (length x) 256) x zeros
-
-zeros-sized : length zeros ≡ 256
-unfolding zeros
-zeros-sized = length-replicate {A = ℕ} 256 0
+fit x = cond (eqb (length x) 256) x (replicate 256 0)
 
 fit-same : (x : Content) → length x ≡ 256 → fit x ≡ x
 unfolding fit
@@ -48,7 +44,7 @@ fit-sized : (x : Content) → length (fit x) ≡ 256
 unfolding fit
 fit-sized x = ⊎-elim
     (λ (e : eqb (length x) 256 ≡ true). rw e (eqb-true (length x) 256 e))
-    (λ (e : eqb (length x) 256 ≡ false). rw e zeros-sized)
+    (λ (e : eqb (length x) 256 ≡ false). rw e (length-replicate {A = ℕ} 256 0))
     (either (eqb (length x) 256))
 
 -- It leaves alone what carries contents of 256 bytes.
@@ -81,11 +77,11 @@ unfolding unitEntries
 journal-fit cs h = members-fit cs (length cs) h
 
 -- So a reader and a state that it leaves alone are led to such ones.
-replay-fit : (r q : Reader Content) (es : List (Entry Content)) → AllSized es → replay zeros r es ≡ some q → mapReader fit r ≡ r → mapReader fit q ≡ q
-replay-fit r q es z h f = Option·some-injective _ _ (rw (fit-same zeros zeros-sized, f, entries-fit es z, h) at (sym (replay-map fit zeros r es)))
+replay-fit : (r q : Reader Content) (es : List (Entry Content)) → AllSized es → replay r es ≡ some q → mapReader fit r ≡ r → mapReader fit q ≡ q
+replay-fit r q es z h f = Option·some-injective _ _ (rw (f, entries-fit es z, h) at (sym (replay-map fit r es)))
 
-overlay-fit : (cs : List (Change Content)) (s : State Content) → map (mapChange fit) cs ≡ cs → mapState fit s ≡ s → mapState fit (overlay zeros cs s) ≡ overlay zeros cs s
-overlay-fit cs s c f = rw (fit-same zeros zeros-sized, c, f) at (sym (overlay-map fit zeros cs s))
+overlay-fit : (cs : List (Change Content)) (s : State Content) → map (mapChange fit) cs ≡ cs → mapState fit s ≡ s → mapState fit (overlay cs s) ≡ overlay cs s
+overlay-fit cs s c f = rw (c, f) at (sym (overlay-map fit cs s))
 
 shown-sized : (s : State Content) → mapState fit s ≡ s → (b : ℕ) (x : Content) → contentOf (s .lists) b ≡ some x → length x ≡ 256
 shown-sized s f b x h =
@@ -106,7 +102,7 @@ unfolding joined
 sized-joined [] f = tt
 sized-joined (es ∷ ess) f = sized-append es (joined ess) (fine-sized 0 es (f 0 (omega arith))) (sized-joined ess (λ h l. f (suc h) (omega arith)))
 
-card-fit : (c : List ℕ) (ess : List (List (Entry Content))) (r : Reader Content) → Carries c ess → replay zeros start (joined ess) ≡ some r → mapReader fit r ≡ r
+card-fit : (c : List ℕ) (ess : List (List (Entry Content))) (r : Reader Content) → Carries c ess → replay start (joined ess) ≡ some r → mapReader fit r ≡ r
 card-fit c ess r k h = replay-fit start r (joined ess) (sized-joined ess (λ h l. k .holds h l .fine)) h refl
 
 -- The contents of a card that mounts.
@@ -134,7 +130,7 @@ module _ (d : Disk) (k : Right d) where
       rw (committed-is d (k .reader) (k .log .replays))
       (ap (λ (q : Reader Content). q .state) (replay-fit (o .reader) (k .reader) (queued d) (queued-sized d (k .log .queueData)) (o .onward) reader-fit))
 
-  unit-fit : (u : ℕ) → isOpenUnit d u ≡ true → mapState fit (overlay zeros (journalOf d u) (committed d)) ≡ overlay zeros (journalOf d u) (committed d)
+  unit-fit : (u : ℕ) → isOpenUnit d u ≡ true → mapState fit (overlay (journalOf d u) (committed d)) ≡ overlay (journalOf d u) (committed d)
   unit-fit u h =
       let (p, q, o) = unit-range d u h in
       overlay-fit (journalOf d u) (committed d) (journal-fit (journalOf d u) (unit-sized d u p q (k .journalData) (k .units .units u p q .room))) committed-fit

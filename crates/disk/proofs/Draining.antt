@@ -10,7 +10,7 @@ use Rattle.lists.specs.Basic.{joined}
 use Rattle.lists.proofs.Basic.{bind-some, all-drop}
 use Rattle.log.specs.Entry.{Entry, legal, raw}
 use Rattle.log.specs.Reader.{Reader, start, replay}
-use Rattle.log.specs.Card.{Content, zeros, segmentsIn, Outcome, sound, fault, mounted}
+use Rattle.log.specs.Card.{Content, segmentsIn, Outcome, sound, fault, mounted}
 use Rattle.log.specs.Flush.{Flow}
 use Rattle.log.proofs.CardLength.{card-size, same-length}
 use Rattle.log.proofs.Replay.{replay-append}
@@ -41,13 +41,13 @@ pub record Open (d : Disk) (z : Reader Content) : Type 0 where
   pub flows : Flows (d .card) segs (queued d) (d .rec .done)
   pub reader : Reader Content
   pub walks : readerOf (mounted (d .card)) ≡ some reader
-  pub first : replay zeros start (joined segs) ≡ some reader
-  pub onward : replay zeros reader (queued d) ≡ some z
+  pub first : replay start (joined segs) ≡ some reader
+  pub onward : replay reader (queued d) ≡ some z
 
 pub open-log : (d : Disk) (z : Reader Content) → LogRight d z → Open d z
 unfolding committedReader
 open-log d z l =
-    let (r, p, u) = bind-some (readerOf (mounted (d .card))) (λ r. replay zeros r (queued d)) z (l .replays) in
+    let (r, p, u) = bind-some (readerOf (mounted (d .card))) (λ r. replay r (queued d)) z (l .replays) in
     let (a, b) = card-size (d .card) (l .card) in
     let (ess, k, v) = carries-read (segmentsIn (d .card)) (d .card) r b a (outcome-sound (mounted (d .card)) r p) in
     let g = good-all (queued d) (l .lawful) (queued-sized d (l .queueData)) in
@@ -119,17 +119,17 @@ pub record Onward (a : ℕ) (d : Disk) (z : Reader Content) : Type 0 where
   pub turned : Turn a d z
   pub now : Reader Content
   pub walks : readerOf (mounted (left a d .card)) ≡ some now
-  pub first : replay zeros start (joined (turned .after .segs)) ≡ some now
-  pub onward : replay zeros now (queued (left a d)) ≡ some z
+  pub first : replay start (joined (turned .after .segs)) ≡ some now
+  pub onward : replay now (queued (left a d)) ≡ some z
 
 pub onward-log : (a : ℕ) (d : Disk) (z : Reader Content) → LogRight d z → Onward a d z
 onward-log a d z l =
     let t = turn a d z l in
     let o = t .before in
     let f = t .after in
-    let (r, p, u) = bind-some (replay zeros start (joined (f .segs))) (λ r. replay zeros r (f .queue)) z
-    (sym (replay-append zeros start (joined (f .segs)) (f .queue)) ∙ ap (replay zeros start) (f .log)
-    ∙ replay-append zeros start (joined (o .segs)) (queued d) ∙ rw (o .first) (o .onward)) in
+    let (r, p, u) = bind-some (replay start (joined (f .segs))) (λ r. replay r (f .queue)) z
+    (sym (replay-append start (joined (f .segs)) (f .queue)) ∙ ap (replay start) (f .log)
+    ∙ replay-append start (joined (o .segs)) (queued d) ∙ rw (o .first) (o .onward)) in
     record {
       turned = t;
       now = r;

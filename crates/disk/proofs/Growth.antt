@@ -10,7 +10,7 @@ use Rattle.lists.specs.Basic.{all}
 use Rattle.lists.proofs.Basic.{bind-some, lt-true, eqb-true, all-append}
 use Rattle.log.specs.Entry.{Entry, legal, raw}
 use Rattle.log.specs.Reader.{Reader, read, replay}
-use Rattle.log.specs.Card.{Content, zeros, segmentsIn, mounted}
+use Rattle.log.specs.Card.{Content, segmentsIn, mounted}
 use Rattle.log.specs.Store.{standing, home, tail, entryStores, headAt}
 use Rattle.log.specs.declared.place.Place.{Place}
 use Rattle.log.proofs.Replay.{replay-append}
@@ -25,11 +25,11 @@ use Rattle.disk.proofs.Clauses.{LogRight}
 
 -- The log followed by the queue and more entries.
 reader-more : (d e : Disk) (z y : Reader Content) (es : List (Entry Content)) → e .card ≡ d .card → queued e ≡ queued d ++ es
-    → committedReader d ≡ some z → replay zeros z es ≡ some y → committedReader e ≡ some y
+    → committedReader d ≡ some z → replay z es ≡ some y → committedReader e ≡ some y
 unfolding committedReader
 reader-more d e z y es c q h k =
-    let (r, p, u) = bind-some (readerOf (mounted (d .card))) (λ r. replay zeros r (queued d)) z h in
-    rw (q, c, p) (replay-append zeros r (queued d) es ∙ rw u k)
+    let (r, p, u) = bind-some (readerOf (mounted (d .card))) (λ r. replay r (queued d)) z h in
+    rw (q, c, p) (replay-append r (queued d) es ∙ rw u k)
 
 -- Stores of the head: none done stand anywhere, and those done do not change as the queue grows behind it.
 head-none : (c : List ℕ) (o : Option Place) (e : Entry Content) → headAt c 0 o e ≡ true
@@ -48,7 +48,7 @@ head-more c k [] es h = subst (λ (n : ℕ). headStanding c n es ≡ true) (sym 
 head-more c k (e ∷ q) es h = h
 
 -- The entry joins the queue.
-pub enqueue-log : (e : Entry Content) (d : Disk) (z y : Reader Content) → LogRight d z → d .rec .len < 32 → Good e → read zeros z e ≡ some y → LogRight (enqueue e d) y
+pub enqueue-log : (e : Entry Content) (d : Disk) (z y : Reader Content) → LogRight d z → d .rec .len < 32 → Good e → read z e ≡ some y → LogRight (enqueue e d) y
 unfolding all replay
 enqueue-log e d z y l m g r =
     let b = beside-one e d in
@@ -65,11 +65,11 @@ enqueue-log e d z y l m g r =
     }
 
 pub enqueueAll-log : (es : List (Entry Content)) (d : Disk) (z y : Reader Content) → LogRight d z → d .rec .len + length es ≤ 32 → AllGood es
-    → replay zeros z es ≡ some y → LogRight (enqueueAll es d) y
+    → replay z es ≡ some y → LogRight (enqueueAll es d) y
 unfolding enqueueAll replay
 enqueueAll-log [] d z y l m g r = subst (LogRight d) (Option·some-injective _ _ r) l
 enqueueAll-log (e ∷ es) d z y l m g r =
-    let (x, p, q) = bind-some (read zeros z e) (λ x. replay zeros x es) y r in
+    let (x, p, q) = bind-some (read z e) (λ x. replay x es) y r in
     enqueueAll-log es (enqueue e d) x y (enqueue-log e d z x l (omega arith) (g .0) p) (omega (arith, enqueue-length e d)) (g .1) q
 
 -- Another disk with the same card and queue.

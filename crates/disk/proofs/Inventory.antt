@@ -17,7 +17,7 @@ use Rattle.lists.proofs.Distinct.{Distinct, empty-distinct, list-once, overlay-
 use Rattle.lists.proofs.Numbers.{mayTake, numbered, overlay-numbered, lists-few}
 use Rattle.log.specs.Entry.{Entry, member, raw, legal, isList}
 use Rattle.log.specs.Reader.{start}
-use Rattle.log.specs.Card.{Content, zeros}
+use Rattle.log.specs.Card.{Content}
 use Rattle.log.proofs.Distinct.{replay-distinct}
 use Rattle.log.proofs.Numbers.{mayEnter, legal-enters, InRange, start-range, replay-range, carries-enters}
 use Rattle.disk.specs.Record.{Record}
@@ -51,10 +51,10 @@ module _ (d : Disk) (k : Right d) where
   opened = open-log d (k .reader) (k .log)
 
   card-distinct : Distinct (opened .reader .state .lists)
-  card-distinct = replay-distinct zeros start (opened .reader) (joined (opened .segs)) (opened .first) empty-distinct
+  card-distinct = replay-distinct start (opened .reader) (joined (opened .segs)) (opened .first) empty-distinct
 
   card-range : InRange (opened .reader)
-  card-range = replay-range zeros start (opened .reader) (joined (opened .segs)) (carries-enters (d .card) (opened .segs) (opened .flows .carries)) (opened .first) start-range
+  card-range = replay-range start (opened .reader) (joined (opened .segs)) (carries-enters (d .card) (opened .segs) (opened .flows .carries)) (opened .first) start-range
 
   persistent-listed : Listed (persistent d)
   unfolding persistent stateOf
@@ -64,17 +64,17 @@ module _ (d : Disk) (k : Right d) where
   committed-listed =
       let o = opened in
       rw (committed-is d (k .reader) (k .log .replays)) (record {
-        distinct = replay-distinct zeros (o .reader) (k .reader) (queued d) (o .onward) card-distinct;
-        range = replay-range zeros (o .reader) (k .reader) (queued d) (queue-enters (queued d) (k .log .lawful)) (o .onward) card-range .lists;
+        distinct = replay-distinct (o .reader) (k .reader) (queued d) (o .onward) card-distinct;
+        range = replay-range (o .reader) (k .reader) (queued d) (queue-enters (queued d) (k .log .lawful)) (o .onward) card-range .lists;
       })
 
-  unit-listed : (u : ℕ) → isOpenUnit d u ≡ true → Listed (overlay zeros (journalOf d u) (committed d))
+  unit-listed : (u : ℕ) → isOpenUnit d u ≡ true → Listed (overlay (journalOf d u) (committed d))
   unit-listed u h =
       let (p, q, o) = unit-range d u h in
       let c = committed-listed in
       record {
-        distinct = overlay-distinct zeros (journalOf d u) (committed d) (c .distinct);
-        range = overlay-numbered isList zeros (journalOf d u) (committed d) (journal-takes (d .rec) u (journalOf d u) (k .units .units u p q .sound)) (c .range);
+        distinct = overlay-distinct (journalOf d u) (committed d) (c .distinct);
+        range = overlay-numbered isList (journalOf d u) (committed d) (journal-takes (d .rec) u (journalOf d u) (k .units .units u p q .sound)) (c .range);
       }
 
   view-listed : (v : ℕ) → viewOpen d v ≡ true → Listed (view d v)

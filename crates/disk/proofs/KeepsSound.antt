@@ -18,7 +18,7 @@ use Rattle.lists.proofs.Count.{puts}
 use Rattle.lists.proofs.Placed.{placed-changed, placed-all}
 use Rattle.log.specs.Entry.{Entry, plain, member, mapEntry, carried, raw, legal, legalChange, hasMember, isBlock, isList}
 use Rattle.log.specs.Reader.{Reader, settled, start, read, replay}
-use Rattle.log.specs.Card.{Content, zeros, cardLength, segmentsIn, sound, mounted}
+use Rattle.log.specs.Card.{Content, cardLength, segmentsIn, sound, mounted}
 use Rattle.log.specs.Store.{formatStores}
 use Rattle.log.proofs.CardLength.{card-size, same-length}
 use Rattle.log.proofs.Segment.{Sized, Carries, carries-walk}
@@ -150,7 +150,7 @@ journal-right u c d o m x g f k =
 
 -- Entries that join the queue.
 enqueueAll-right : (es : List (Entry Content)) (d : Disk) (k : Right d) (z : Reader Content) → d .rec .len + length es ≤ 32 → AllGood es
-    → replay zeros (k .reader) es ≡ some z → UnitsRight d (z .state) → Right (enqueueAll es d)
+    → replay (k .reader) es ≡ some z → UnitsRight d (z .state) → Right (enqueueAll es d)
 enqueueAll-right es d k z m g r u =
     let b = beside-all es d in
     record {
@@ -163,7 +163,7 @@ enqueueAll-right es d k z m g r u =
       conflicts = rw (b .conflicts) (k .conflicts);
     }
 
-plain-read : (z : Reader Content) (c : Change Content) (s : State Content) → apply zeros c (z .state) ≡ some s → read zeros z (plain c) ≡ some (settled s)
+plain-read : (z : Reader Content) (c : Change Content) (s : State Content) → apply c (z .state) ≡ some s → read z (plain c) ≡ some (settled s)
 unfolding read
 plain-read z c s a = rw a
 
@@ -175,7 +175,7 @@ plain-right c d m g a f k =
     record {
       reader = settled t;
       log = enqueue-log (plain c) d (k .reader) (settled t) (k .log) m g (plain-read (k .reader) c t (apply-applies c s (rw e at a)));
-      units = units-same d (enqueue (plain c) d) t (b .journalData) (b .units) (b .holder) (units-state d s t (λ n p q o h. placed-changed zeros c (s .lists) n (apart n o (puts c n) refl) h) (k .units));
+      units = units-same d (enqueue (plain c) d) t (b .journalData) (b .units) (b .holder) (units-state d s t (λ n p q o h. placed-changed c (s .lists) n (apart n o (puts c n) refl) h) (k .units));
       journalData = rw (b .journalData) (k .journalData);
       lastBlock = rw (b .lastBlock) (k .lastBlock);
       lastList = rw (b .lastList) (k .lastList);
@@ -186,7 +186,7 @@ plain-right c d m g a f k =
     s = k .reader .state
 
     t : State Content
-    t = state (changed zeros c (s .lists))
+    t = state (changed c (s .lists))
 
     e : committed d ≡ s
     e = committed-is d (k .reader) (k .log .replays)
@@ -304,10 +304,10 @@ unfolding closing
 closing-len u d = refl
 
 -- the other units hold nothing that this one's journal puts
-ended-units : (u : ℕ) (d : Disk) (s t : State Content) → 1 ≤ u → u ≤ 4 → applyAll zeros (journalOf d u) s ≡ some t → UnitsRight d s → UnitsRight (closing u d) t
+ended-units : (u : ℕ) (d : Disk) (s t : State Content) → 1 ≤ u → u ≤ 4 → applyAll (journalOf d u) s ≡ some t → UnitsRight d s → UnitsRight (closing u d) t
 ended-units u d s t p q a k =
     units-state (closing u d) s t
-    (λ b x y o n. placed-all zeros (journalOf d u) s t b (journals-apart (d .rec) u (journalOf d u) b (other b o) (k .units u p q .sound)) n a)
+    (λ b x y o n. placed-all (journalOf d u) s t b (journals-apart (d .rec) u (journalOf d u) b (other b o) (k .units u p q .sound)) n a)
     (closing-units u d s p q k)
   where
     other : (b : ℕ) → isOpenUnit (closing u d) (holderOf (closing u d .rec) b) ≡ true → holderOf (d .rec) b ≢ u
@@ -320,8 +320,8 @@ end-right u d h =
     let k = right d (y 0) (y 1) in
     let (p, q, _) = unit-range d u (y 2) in
     let cs = journalOf d u in
-    let (t, a) = some-of (applyAll zeros cs (committed d)) (y 3) in
-    let e : applyAll zeros cs (k .reader .state) ≡ some t = ap (applyAll zeros cs) (sym (committed-is d (k .reader) (k .log .replays))) ∙ a in
+    let (t, a) = some-of (applyAll cs (committed d)) (y 3) in
+    let e : applyAll cs (k .reader .state) ≡ some t = ap (applyAll cs) (sym (committed-is d (k .reader) (k .log .replays))) ∙ a in
     let x = k .units .units u p q in
     subst Right (sym (closing-enqueueAll u (unitEntries cs) d))
     (enqueueAll-right (unitEntries cs) (closing u d) (closing-right u d p q k) (settled t)
@@ -378,7 +378,7 @@ pub sound-reader : (c : List ℕ) (z : Reader Content) → mounted c ≡ sound z
 unfolding readerOf
 sound-reader c z e = rw e
 
-none-replayed : (n : ℕ) → replay zeros start (joined (nils n)) ≡ some start
+none-replayed : (n : ℕ) → replay start (joined (nils n)) ≡ some start
 unfolding replay
 none-replayed n = rw (joined-nils n)
 

@@ -15,7 +15,7 @@ use Rattle.lists.proofs.Basic.{from-length, from-shift, from-ext, from-snoc, fr
 use Rattle.log.specs.Entry.{Entry, plain, member, commit, mapEntry, carried, asEntry, asChange, raw}
 use Rattle.log.specs.Cell.{cellOf, memberIn, entryIn}
 use Rattle.log.specs.Reader.{replay}
-use Rattle.log.specs.Card.{Content, zeros, slot, mounted}
+use Rattle.log.specs.Card.{Content, slot, mounted}
 use Rattle.log.specs.Flush.{Flow}
 use Rattle.log.proofs.Cells.{cell-entry, cell-change}
 use Rattle.log.proofs.Segment.{Sized}
@@ -289,4 +289,4 @@ queued-conflicted d = queued-same d (conflicted d) refl refl refl refl
 -- The log followed by the queue, of two disks with the same of both.
 pub reader-same : (d e : Disk) → e .card ≡ d .card → queued e ≡ queued d → committedReader e ≡ committedReader d
 unfolding committedReader
-reader-same d e a b i = bind (readerOf (mounted (a i))) (λ r. replay zeros r (b i))
+reader-same d e a b i = bind (readerOf (mounted (a i))) (λ r. replay r (b i))

@@ -12,7 +12,7 @@ use lib.Dec.{leb, ltb}
 use Rattle.lists.specs.Basic.{all}
 use Rattle.lists.proofs.Basic.{and-true, eqb-false, leb-true, le-true, ltb-true, all-each, bind-some, is-some}
 use Rattle.log.specs.Reader.{replay}
-use Rattle.log.specs.Card.{zeros, mounted}
+use Rattle.log.specs.Card.{mounted}
 use Rattle.disk.specs.Disk.{Disk, queued, readerOf, committedReader, view}
 use Rattle.disk.specs.Sound.{lengthsRight, recordSound}
 use Rattle.disk.specs.Call.{Call, format, mount, conflictCount, onStream, inView, begin, end, flush, ends}
@@ -106,7 +106,7 @@ questions-late (flush a) d l s m = rw (l, s)
 mounts : (d : Disk) → Right d → mountable d ≡ true
 unfolding mountable committedReader
 mounts d k =
-    let (r, p, u) = bind-some (readerOf (mounted (d .card))) (λ r. replay zeros r (queued d)) (k .reader) (k .log .replays) in
+    let (r, p, u) = bind-some (readerOf (mounted (d .card))) (λ r. replay r (queued d)) (k .reader) (k .log .replays) in
     is-some (readerOf (mounted (d .card))) r p
 
 -- What is claimed. Every accepted call, and refusal 12, leaves a sound record, from any disk.

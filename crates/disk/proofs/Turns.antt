@@ -17,7 +17,7 @@ use Rattle.lists.proofs.Basic.{and-true, lt-true, bind-some}
 use Rattle.log.specs.declared.place.Place.{Place}
 use Rattle.log.specs.Entry.{Entry}
 use Rattle.log.specs.Reader.{Reader, start, read, replay}
-use Rattle.log.specs.Card.{Content, zeros, cardLength, segmentsIn, count, sound, mounted}
+use Rattle.log.specs.Card.{Content, cardLength, segmentsIn, count, sound, mounted}
 use Rattle.log.specs.Store.{Store, standing, home, tail, entryStores, headAt}
 use Rattle.log.specs.Turns.{InTurn, Clearable}
 use Rattle.log.proofs.CardLength.{card-size}
@@ -68,17 +68,17 @@ module _ (c : List ℕ) (ess : List (List (Entry Content))) (e : Entry Content) 
     turn-joined : joined (addTo (p .segment) e ess) ≡ joined ess ++ e ∷ []
     turn-joined = let a = head-at c ess e [] k turn-flows p turn-home in joined-add (p .segment) e ess (a .inside) (a .edge) (h .packed)
 
-read-behind : (es : List (Entry Content)) (e : Entry Content) (r r′ : Reader Content) → replay zeros start es ≡ some r → read zeros r e ≡ some r′
-    → replay zeros start (es ++ e ∷ []) ≡ some r′
+read-behind : (es : List (Entry Content)) (e : Entry Content) (r r′ : Reader Content) → replay start es ≡ some r → read r e ≡ some r′
+    → replay start (es ++ e ∷ []) ≡ some r′
 unfolding replay
-read-behind es e r r′ h k = replay-append zeros start es (e ∷ []) ∙ rw h (rw k)
+read-behind es e r r′ h k = replay-append start es (e ∷ []) ∙ rw h (rw k)
 
 pub turn-mounts : (c : List ℕ) (r : Reader Content) (e : Entry Content) (p : Place) (k : ℕ) → cardLength c ≡ true → mounted c ≡ sound r
     → Good e → k < length (entryStores p e) → InTurn c p e k
-    → (let c′ = storedOn c (getD (entryStores p e) k (0, 0)) in (mounted c′ ≡ sound r) ⊎ ((r′ : Reader Content) → read zeros r e ≡ some r′ → mounted c′ ≡ sound r′))
+    → (let c′ = storedOn c (getD (entryStores p e) k (0, 0)) in (mounted c′ ≡ sound r) ⊎ ((r′ : Reader Content) → read r e ≡ some r′ → mounted c′ ≡ sound r′))
 turn-mounts c r e p k s m g l t = go (turn-carries c ess e p k h g l t)
   where
-    regained : (ess : List (List (Entry Content))) × Carries c ess × (replay zeros start (joined ess) ≡ some r)
+    regained : (ess : List (List (Entry Content))) × Carries c ess × (replay start (joined ess) ≡ some r)
     regained = let (a, b) = card-size c s in carries-read (segmentsIn c) c r b a m
 
     ess : List (List (Entry Content))
@@ -90,10 +90,10 @@ turn-mounts c r e p k s m g l t = go (turn-carries c ess e p k h g l t)
     c′ : List ℕ
     c′ = storedOn c (getD (entryStores p e) k (0, 0))
 
-    go : Carries c′ ess ⊎ Carries c′ (addTo (p .segment) e ess) → (mounted c′ ≡ sound r) ⊎ ((r′ : Reader Content) → read zeros r e ≡ some r′ → mounted c′ ≡ sound r′)
+    go : Carries c′ ess ⊎ Carries c′ (addTo (p .segment) e ess) → (mounted c′ ≡ sound r) ⊎ ((r′ : Reader Content) → read r e ≡ some r′ → mounted c′ ≡ sound r′)
     go (inl x) = inl (carries-walk c′ ess r x (regained .2))
     go (inr x) = inr (λ r′ y. carries-walk c′ (addTo (p .segment) e ess) r′ x
-        (ap (replay zeros start) (turn-joined c ess e p k h g l t) ∙ read-behind (joined ess) e r r′ (regained .2) y))
+        (ap (replay start) (turn-joined c ess e p k h g l t) ∙ read-behind (joined ess) e r r′ (regained .2) y))
 
 -- Segments of which g is emptied, those behind it being empty.
 module _ {A : Type 0} where
@@ -168,6 +168,6 @@ pub clear-mounts : (c : List ℕ) (r : Reader Content) (g : ℕ) → cardLength 
 clear-mounts c r g s m t =
     let (a, b) = card-size c s in
     let (ess, k, v) = carries-read (segmentsIn c) c r b a m in
-    let (r′, x, y) = bind-some (replay zeros start (joined (set ess g []))) (λ z. replay zeros z (getD ess g [])) r
-    (sym (replay-append zeros start (joined (set ess g [])) (getD ess g [])) ∙ ap (replay zeros start) (sym (joined-clear g ess (empty-behind c ess g k t))) ∙ v) in
+    let (r′, x, y) = bind-some (replay start (joined (set ess g []))) (λ z. replay z (getD ess g [])) r
+    (sym (replay-append start (joined (set ess g [])) (getD ess g [])) ∙ ap (replay start) (sym (joined-clear g ess (empty-behind c ess g k t))) ∙ v) in
     (r′, carries-walk (set c (4096 * g + 3584) 0) (set ess g []) r′ (clear-carries c ess g k t) x)

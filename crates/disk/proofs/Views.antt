@@ -15,7 +15,7 @@ use Rattle.lists.specs.State.{overlay}
 use Rattle.lists.proofs.Basic.{eqb-false}
 use Rattle.log.specs.Entry.{Entry}
 use Rattle.log.specs.Reader.{Reader, start, replay}
-use Rattle.log.specs.Card.{Content, zeros, segmentsIn, mounted}
+use Rattle.log.specs.Card.{Content, segmentsIn, mounted}
 use Rattle.log.specs.Flush.{drained}
 use Rattle.log.proofs.Replay.{replay-append}
 use Rattle.log.proofs.Sequence.{drained-empty}
@@ -33,7 +33,7 @@ module _ (a : ℕ) (d : Disk) (k : Right d) where
   pub view-stays : (v : ℕ) → v ≢ 5 → view (left a d) v ≡ view d v
   unfolding view
   view-stays v n =
-      rw (eqb-false v 5 n) (λ i. cond (eqb v 0) (committed-stays i) (overlay zeros (journal-flushed d (flushed a d .flow) v i) (committed-stays i)))
+      rw (eqb-false v 5 n) (λ i. cond (eqb v 0) (committed-stays i) (overlay (journal-flushed d (flushed a d .flow) v i) (committed-stays i)))
 
 -- The entries that left the queue.
 cancel : {A : Type 0} (xs ys z : List A) → xs ++ z ≡ ys ++ z → xs ≡ ys
@@ -57,11 +57,11 @@ pub record Moved (a : ℕ) (d : Disk) : Type 0 where
   pub gone : ℕ
   pub now : Reader Content
   pub walks : readerOf (mounted (left a d .card)) ≡ some now
-  pub steps : replay zeros before (take gone (queued d)) ≡ some now
+  pub steps : replay before (take gone (queued d)) ≡ some now
   pub rest : queued (left a d) ≡ drop gone (queued d)
 
-moved-steps : (r q : Reader Content) (x y es : List (Entry Content)) → replay zeros start x ≡ some r → y ≡ x ++ es → replay zeros start y ≡ some q → replay zeros r es ≡ some q
-moved-steps r q x y es h e k = rw h at (sym (replay-append zeros start x es) ∙ ap (replay zeros start) (sym e) ∙ k)
+moved-steps : (r q : Reader Content) (x y es : List (Entry Content)) → replay start x ≡ some r → y ≡ x ++ es → replay start y ≡ some q → replay r es ≡ some q
+moved-steps r q x y es h e k = rw h at (sym (replay-append start x es) ∙ ap (replay start) (sym e) ∙ k)
 
 pub flush-moves : (a : ℕ) (d : Disk) → Right d → Moved a d
 flush-moves a d k =

@@ -1,14 +1,9 @@
--- The calls' answers as document 01's numbers: "Each enum answer has a definition that gives this paper's number and values for each of its cases."
-use mathlib.Core.Bool.{Bool, true, false, _&&_}
-use mathlib.Core.List.{List, [], _∷_}
+-- The calls' answers as their numbers: "Each enum answer has a definition that gives this paper's number and values for each of its cases."
 use Prim.Native.Nat.{ℕ}
-use lib.Dec.{eqb}
-use lib.ListN.{length, take, drop}
-use Rattle.lists.specs.Basic.{any, all}
 use Rattle.log.specs.Flush.{drained, full, spent}
 use Rattle.disk.specs.Perform.{Answer, endingNumber}
 use Rattle.disk.specs.declared.answer.Refusal.{Refusal}
-use Rattle.disk.specs.declared.answer.Refusal.the-variants.{WrongLength, LogFault, RecordUnsound, StreamClosed, OutOfRange, UnitOpen, ListNotTaken, BlockNotPlaced, PredecessorElsewhere, NoNumberFree, JournalFull, Conflict, QueueFull}
+use Rattle.disk.specs.declared.answer.Refusal.the-variants.{WrongLength, LogFault, RecordUnsound, StreamClosed, OutOfRange, UnitOpen, ListNotTaken, BlockNotPlaced, PredecessorElsewhere, NoNumberFree, JournalFull, Conflict, QueueFull, Unwritten}
 use Rattle.disk.specs.declared.answer.Reply as R
 use Rattle.disk.specs.declared.answer.MountReply as M
 use Rattle.disk.specs.declared.answer.NumberReply as N
@@ -28,6 +23,7 @@ number NoNumberFree = 10
 number JournalFull = 11
 number Conflict = 12
 number QueueFull = 13
+number Unwritten = 15
 
 -- "On no, the number is returned; other returned numbers are 0."
 abbrev pub refusedAnswer : Refusal → Answer

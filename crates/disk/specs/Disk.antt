@@ -11,7 +11,7 @@ use Rattle.lists.specs.State.{State, state, overlay}
 use Rattle.log.specs.Entry.{Entry, mapEntry, asEntry, asChange}
 use Rattle.log.specs.Cell.{memberIn, entryIn}
 use Rattle.log.specs.Reader.{Reader, replay}
-use Rattle.log.specs.Card.{Content, zeros, slot, Outcome, sound, fault, mounted}
+use Rattle.log.specs.Card.{Content, slot, Outcome, sound, fault, mounted}
 use Rattle.disk.specs.Record.{Unit, Record, recordIn, noCell, unitAt, ringPlace, journalPlaces}
 
 -- "Every call is lent card, queue data, journal data and record."
@@ -59,7 +59,7 @@ readerOf (sound r) = some r
 readerOf (fault g i) = none
 
 unfoldable pub committedReader : Disk → Option (Reader Content)
-committedReader d = bind (readerOf (mounted (d .card))) (λ r. replay zeros r (queued d))
+committedReader d = bind (readerOf (mounted (d .card))) (λ r. replay r (queued d))
 
 unfoldable pub stateOf : Option (Reader Content) → State Content
 stateOf none = state []
@@ -75,4 +75,4 @@ committed d = stateOf (committedReader d)
 -- "Unit u's view is the committed state now with u's journal replayed in order [..]. View 0 is the committed state, 1 to 4 an open unit's, 5 the
 -- persistent one."
 unfoldable pub view : Disk → ℕ → State Content
-view d v = cond (eqb v 5) (persistent d) (cond (eqb v 0) (committed d) (overlay zeros (journalOf d v) (committed d)))
+view d v = cond (eqb v 5) (persistent d) (cond (eqb v 0) (committed d) (overlay (journalOf d v) (committed d)))

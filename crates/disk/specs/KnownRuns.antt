@@ -58,15 +58,12 @@ refuses c n = call c (n ∷ 0 ∷ 0 ∷ [])
 abbrev flushes : ℕ → ℕ → Ending → Step
 flushes a n e = call (flush a) (0 ∷ n ∷ endingNumber e ∷ [])
 
--- the persistent view's block b is read into bytes of 170; or there is none, and they stay
+-- the persistent view's block b is read into bytes of 170: answered n, they hold x then
 abbrev untouched : Content
 untouched = replicate 256 170
 
-abbrev holds : ℕ → Content → Step
-holds b x = call (inView 5 (readBlock b untouched)) (0 ∷ 0 ∷ 0 ∷ x)
-
-abbrev missing : ℕ → Step
-missing b = call (inView 5 (readBlock b untouched)) (8 ∷ 0 ∷ 0 ∷ untouched)
+abbrev reads : ℕ → ℕ → Content → Step
+reads b n x = call (inView 5 (readBlock b untouched)) (n ∷ 0 ∷ 0 ∷ x)
 
 abbrev run : Disk → List Step → Run
 run d ss = record { start = d; steps = ss }
@@ -111,16 +108,16 @@ runs =
     run blank (accepts format ∷ gives (onStream 0 newList) 1 ∷ gives (onStream 0 (newBlock 1 0)) 1 ∷ accepts (onStream 0 (writeBlock 1 seven)) ∷ [])
     -- P "the flush takes 3+4+260 = 267 stores; the summary begins 3, 2 1, 3 1 1, 9 1 0"
     ∷ run written (flushes 65535 267 drained ∷ summary (3 ∷ 2 ∷ 1 ∷ 3 ∷ 1 ∷ 1 ∷ 9 ∷ 1 ∷ 0 ∷ []) ∷ [])
-    -- P "allowance 266: mounting has block 1 holding zeros"
-    ∷ run written (flushes 266 266 spent ∷ accepts mount ∷ holds 1 (replicate 256 0) ∷ [])
+    -- P "Document 01's 266-store case now shows block 1 unwritten."
+    ∷ run written (flushes 266 266 spent ∷ accepts mount ∷ reads 1 15 untouched ∷ [])
     -- P "267: holding the 7"
-    ∷ run written (flushes 267 267 drained ∷ accepts mount ∷ holds 1 seven ∷ [])
+    ∷ run written (flushes 267 267 drained ∷ accepts mount ∷ reads 1 0 seven ∷ [])
     -- P "entries 135 2 1 1, 137 2 1, 16 2"
     ∷ run stored (unit ++ flushes 65535 268 drained ∷ summary (6 ∷ 2 ∷ 1 ∷ 3 ∷ 1 ∷ 1 ∷ 9 ∷ 1 ∷ 0 ∷ 135 ∷ 2 ∷ 1 ∷ 1 ∷ 137 ∷ 2 ∷ 1 ∷ 16 ∷ 2 ∷ []) ∷ [])
     -- P "those take 268 stores: after 267 mounting has block 1 only"
-    ∷ run unitEnded (flushes 267 267 spent ∷ accepts mount ∷ holds 1 seven ∷ missing 2 ∷ [])
+    ∷ run unitEnded (flushes 267 267 spent ∷ accepts mount ∷ reads 1 0 seven ∷ reads 2 8 untouched ∷ [])
     -- P "after 268 both"
-    ∷ run unitEnded (flushes 268 268 drained ∷ accepts mount ∷ holds 1 seven ∷ holds 2 ascending ∷ [])
+    ∷ run unitEnded (flushes 268 268 drained ∷ accepts mount ∷ reads 1 0 seven ∷ reads 2 0 ascending ∷ [])
     -- P "before End, view 0 has no block after 1"
     ∷ run unitOpen (gives (inView 0 (blockAfter 1 1)) 0 ∷ [])
     -- P "view 1 has 2"

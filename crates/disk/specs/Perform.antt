@@ -11,7 +11,7 @@ use Rattle.lists.specs.State.{State}
 use Rattle.lists.specs.Lookup.{contentOf, nextAfter, listNums}
 use Rattle.log.specs.Entry.{Entry, plain, member, commit, carried, hasMember}
 use Rattle.log.specs.Cell.{cellOf}
-use Rattle.log.specs.Card.{Content, zeros, slotBytes, segmentsIn, Outcome, sound, fault, mounted, splice}
+use Rattle.log.specs.Card.{Content, slotBytes, segmentsIn, Outcome, sound, fault, mounted, splice}
 use Rattle.log.specs.Store.{doStores, formatStores, tail}
 use Rattle.log.specs.Flush.{Flow, Flushed, Ending, drained, full, spent, flushFrom}
 use Rattle.disk.specs.Record.{ringPlace, withFlow, withLastBlock, withLastList, appended, journalGrown, unitTurned, holding, releasing, conflictCounted, freshRecord, queuePlaces}
@@ -115,7 +115,7 @@ changeFor (deleteList l) n = delList l
 
 -- what a look-up finds in a state: the number returned, and the bytes that the destination holds then
 unfoldable pub found : Look → State Content → ℕ × List ℕ
-found (readBlock b x) s = (0, orElse zeros (contentOf (s .lists) b))
+found (readBlock b x) s = (0, orElse x (contentOf (s .lists) b))
 found (blockAfter l p) s = (nextAfter (s .lists) l p, [])
 -- in the order of their taking, which the inventory's promise (Inventory) leaves open
 found (inventory x) s = let ls = listNums (s .lists) in (length ls, ls ++ drop (length ls) x)

@@ -1,4 +1,4 @@
--- The thirteen questions, in order, and the refusal of a call.
+-- The questions, in order, and the refusal of a call.
 use mathlib.Core.Bool.{Bool, true, false, _&&_, _||_, not}
 use mathlib.Core.Option.{Option, none, some}
 use mathlib.Core.List.{List, [], _∷_}
@@ -7,8 +7,9 @@ use lib.Dec.{leb, eqb, ltb}
 use lib.ListN.{length}
 use Rattle.lists.specs.Basic.{isSome}
 use Rattle.lists.specs.State.{Row, State, taken, placed, onList, applyAll}
+use Rattle.lists.specs.Lookup.{written}
 use Rattle.log.specs.Entry.{isBlock, isList}
-use Rattle.log.specs.Card.{Content, zeros, slotBytes, mounted}
+use Rattle.log.specs.Card.{Content, slotBytes, mounted}
 use Rattle.disk.specs.Record.{isOpen, holderOf, queuePlaces, journalPlaces, unitCount}
 use Rattle.disk.specs.Disk.{Disk, unitOf, journalOf, readerOf, committed, view}
 use Rattle.disk.specs.Sound.{lengthsRight, recordSound, isOpenUnit}
@@ -52,7 +53,7 @@ journalRoom d s = eqb s 0 || ltb (unitOf d s .len) journalPlaces
 
 -- "12. End: does every entry apply?"
 unfoldable pub endApplies : Disk → ℕ → Bool
-endApplies d u = isSome (applyAll zeros (journalOf d u) (committed d))
+endApplies d u = isSome (applyAll (journalOf d u) (committed d))
 
 -- "13. Does the queue take what is added": n entries
 unfoldable pub queueRoom : Disk → ℕ → Bool
@@ -75,7 +76,8 @@ editQuestions s (deleteList l) d = (5, isList l) ∷ (7, taken l (view d s .list
 
 -- what a look-up asks there, of the lists of its view
 unfoldable pub lookQuestions : Look → List (Row Content) → List (ℕ × Bool)
-lookQuestions (readBlock b x) rs = (5, isBlock b && eqb (length x) slotBytes) ∷ (8, placed b rs) ∷ []
+-- "Reading a block that, by that view's state, was not written since its present put is now refused [..]. The refusal is 15, after question 9."
+lookQuestions (readBlock b x) rs = (5, isBlock b && eqb (length x) slotBytes) ∷ (8, placed b rs) ∷ (15, written b rs) ∷ []
 lookQuestions (blockAfter l p) rs = (5, isList l && leb p 64) ∷ (7, taken l rs) ∷ (9, predecessorRight rs l p) ∷ []
 lookQuestions (inventory x) rs = (5, eqb (length x) 16) ∷ []
 

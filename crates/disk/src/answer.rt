@@ -1,6 +1,6 @@
-// What the calls answer. The definition `Answers` gives document 01's number and values of each case.
+// What the calls answer. The definition `Answers` gives the number and the values of each case.
 
-// The thirteen questions, as what a no to each means.
+// The questions, as what a no to each means.
 pub enum Refusal {
     WrongLength,
     LogFault,
@@ -15,6 +15,7 @@ pub enum Refusal {
     JournalFull,
     Conflict,
     QueueFull,
+    Unwritten,
 }
 
 // A call that returns nothing but its acceptance.

@@ -1,18 +1,18 @@
 -- Question 3 by its parts: the clauses that the record decides, and those behind the log, asked at locations.
 use mathlib.Core.Path.{_≡_, refl, sym, ap, _∙_}
 use mathlib.Core.Bool.{Bool, true, false, _&&_}
-use mathlib.Core.Option.{Option, none, some}
+use mathlib.Core.Option.{Option, none, some, Option·map}
 use mathlib.Core.List.{List, [], _∷_, _++_, map}
 use Prim.Native.Nat.{ℕ, zero, suc}
 use lib.Dec.{leb, ltb}
 use Rattle.lists.specs.Basic.{isSome, all, each, from}
 use Rattle.lists.specs.Change.{Change, takeList, putFirst, putAfter, write, delBlock, delList, mapChange}
 use Rattle.lists.specs.State.{mapRow}
-use Rattle.lists.proofs.Naturality.{mapOption, placed-map}
+use Rattle.lists.proofs.Naturality.{placed-map}
 use Rattle.log.specs.Entry.{member, raw, legal, mapEntry, isBlock, isList}
 use Rattle.log.specs.Reader.{Reader, replay}
 use Rattle.log.specs.Card.{Content, slot, sound, fault, mounted, cardLength, walkCard}
-use Rattle.log.specs.promises.Location.{blank, cardLocation}
+use Rattle.log.specs.promises.Location.{cardLocation}
 use Rattle.log.proofs.Naturality.{mapReader, raw-map}
 use Rattle.disk.specs.Record.{Record, shaped, unitAt, unitCount}
 use Rattle.disk.specs.Disk.{Disk, disk, unitOf, queuedAt, queued, journalPlace, journalAt, journalOf, readerOf, committedReader, stateOf, committed}
@@ -99,9 +99,9 @@ module _ (d : Disk) where
   fault-behind g i e = rw e (and-no (all (λ e. legal (raw 0 e)) (queued d)))
 
   -- A card whose log leads to reader x.
-  module _ (x : Reader ℕ) (l : cardLength (d .card) ≡ true) (w : walkCard cardLocation blank (d .card) ≡ sound x) where
+  module _ (x : Reader ℕ) (l : cardLength (d .card) ≡ true) (w : walkCard cardLocation (d .card) ≡ sound x) where
     abbrev o : Option (Reader ℕ)
-    o = replay blank x (queueHere (d .rec))
+    o = replay x (queueHere (d .rec))
 
     lawful-is : all (λ e. legal (raw 0 e)) (queued d) ≡ lawful (queueHere (d .rec))
     lawful-is =
@@ -111,7 +111,7 @@ module _ (d : Disk) where
     some-is : isSome (committedReader d) ≡ isSome o
     some-is = ap isSome (committed-here d x w l) ∙ some-map (mapReader (contents d)) o
 
-    rows-of : (p : Option (Reader ℕ)) → stateOf (mapOption (mapReader (contents d)) p) .lists ≡ map (mapRow (contents d)) (rowsOf p)
+    rows-of : (p : Option (Reader ℕ)) → stateOf (Option·map (mapReader (contents d)) p) .lists ≡ map (mapRow (contents d)) (rowsOf p)
     unfolding stateOf
     rows-of none = refl
     rows-of (some y) = refl

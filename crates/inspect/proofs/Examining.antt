@@ -1,7 +1,7 @@
 -- What the answers of the questions, the walk and the clauses behind the log say of the whole.
 use mathlib.Core.Path.{_≡_, sym, ap, _∙_}
 use mathlib.Core.Bool.{Bool, true, false, _&&_}
-use mathlib.Core.Option.{Option, some}
+use mathlib.Core.Option.{Option, some, Option·map}
 use mathlib.Core.List.{List, []}
 use Prim.Native.Nat.{ℕ, _≤_, _<_}
 use lib.Dec.{eqb}
@@ -9,10 +9,9 @@ use lib.ListN.{length}
 use Rattle.lists.specs.State.{mapState}
 use Rattle.lists.specs.promises.Tables.{Tables}
 use Rattle.lists.proofs.Basic.{and-true, each-at, leb-true, ltb-true, eqb-true, some-of}
-use Rattle.lists.proofs.Naturality.{mapOption}
 use Rattle.log.specs.Reader.{Reader, replay}
 use Rattle.log.specs.Card.{Content, cardLength, segmentsIn, Outcome, sound, fault, walkCard}
-use Rattle.log.specs.promises.Location.{blank, cardLocation}
+use Rattle.log.specs.promises.Location.{cardLocation}
 use Rattle.log.specs.promises.Within.{Within}
 use Rattle.log.specs.promises.Feed.{Memory}
 use Rattle.log.specs.promises.Walk.{Sounds}
@@ -69,7 +68,7 @@ module _ (v : ℕ) (d : Disk) (t : Tables) (ls : lengthsRight d ≡ true) (sh : 
 
 -- The walk and what is behind the log.
 module _ (c q j : List ℕ) (r : Record) (l : cardLength c ≡ true) where
-  pub faulty : (v g i : ℕ) (t : Tables) → walkCard cardLocation blank c ≡ fault g i → ExaminesLog v (disk c q j r) Unsound t
+  pub faulty : (v g i : ℕ) (t : Tables) → walkCard cardLocation c ≡ fault g i → ExaminesLog v (disk c q j r) Unsound t
   faulty v g i t w = fault-behind (disk c q j r) g i (fault-at c g i l w)
 
   module _ (p : Place) (n : ℕ) (m : Memory) (s : Sounds c p n m) where
@@ -96,14 +95,14 @@ module _ (c q j : List ℕ) (r : Record) (l : cardLength c ≡ true) where
     unfolding settledRight view committed stateOf
     settled-queue b t k z =
         let a : settledRight c q r (s .reader) ≡ true = sym (k .answer (s .reader) (s .kept)) ∙ z in
-        let (y, e) = some-of (replay blank (s .reader) (queueHere r)) (each-at _ a 1) in
+        let (y, e) = some-of (replay (s .reader) (queueHere r)) (each-at _ a 1) in
         record {
           sound = answered b (k .answer) ∙ z;
           place = s .place;
           located = record { here = y .state; shows = k .shows (s .reader) y (s .kept) z e; means = queue-state y e };
         }
       where
-        queue-state : (y : Reader ℕ) → replay blank (s .reader) (queueHere r) ≡ some y → view (disk c q j r) 0 ≡ mapState (contents (disk c q j r)) (y .state)
+        queue-state : (y : Reader ℕ) → replay (s .reader) (queueHere r) ≡ some y → view (disk c q j r) 0 ≡ mapState (contents (disk c q j r)) (y .state)
         queue-state y e =
             let h = contents (disk c q j r) in
-            ap (λ (o : Option (Reader Content)). stateOf o) (committed-here (disk c q j r) (s .reader) (s .walked) l ∙ ap (mapOption (mapReader h)) e)
+            ap (λ (o : Option (Reader Content)). stateOf o) (committed-here (disk c q j r) (s .reader) (s .walked) l ∙ ap (Option·map (mapReader h)) e)

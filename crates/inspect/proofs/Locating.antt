@@ -1,7 +1,7 @@
 -- From locations to contents: what the queue, a journal, the replays and the look-ups say at locations, they say of the contents that stand there.
 use mathlib.Core.Path.{_≡_, refl, sym, ap, _∙_}
 use mathlib.Core.Bool.{Bool, true, _||_}
-use mathlib.Core.Option.{Option, none, some}
+use mathlib.Core.Option.{Option, none, some, Option·map}
 use mathlib.Core.List.{List, _∷_, map}
 use Prim.Native.Nat.{ℕ, zero, suc, _+_}
 use native.Mathlib.Omega.{arith}
@@ -12,13 +12,13 @@ use Rattle.lists.specs.Basic.{isSome, from}
 use Rattle.lists.specs.Change.{mapChange}
 use Rattle.lists.specs.State.{Row, State, taken, placed, onList, applyAll, overlay, mapRow, mapState}
 use Rattle.lists.specs.Lookup.{contentOf, nextAfter, listNums, takenAfter}
-use Rattle.lists.specs.promises.Tables.{Tables, IsBlock, IsList, OfShown}
-use Rattle.lists.proofs.Naturality.{mapOption, taken-map, placed-map, onList-map, change-comp, applyAll-map, overlay-map, nextAfter-map, listNums-map, contentOf-map}
+use Rattle.lists.specs.promises.Tables.{Tables, IsBlock, IsList, OfShown, locatedAt}
+use Rattle.lists.proofs.Naturality.{taken-map, placed-map, onList-map, change-comp, applyAll-map, overlay-map, nextAfter-map, listNums-map, contentOf-map}
 use Rattle.log.specs.Entry.{mapEntry, asEntry, asChange}
 use Rattle.log.specs.Cell.{memberIn, entryIn}
 use Rattle.log.specs.Reader.{Reader, replay}
-use Rattle.log.specs.Card.{Content, zeros, sound, cardLength, walkCard}
-use Rattle.log.specs.promises.Location.{blank, cardLocation, queueLocation, journalLocation, contentAt}
+use Rattle.log.specs.Card.{Content, sound, cardLength, walkCard}
+use Rattle.log.specs.promises.Location.{cardLocation, queueLocation, journalLocation, contentAt}
 use Rattle.log.proofs.Naturality.{mapReader, entry-comp, replay-map}
 use Rattle.log.proofs.Locations.{content-queue, content-journal, sound-at}
 use Rattle.disk.specs.Record.{noCell, ringPlace}
@@ -30,17 +30,12 @@ unfolding from
 map-from f g h k zero e = refl
 map-from {B} f g h k (suc n) e = rw (e k) (ap {B = List B} (λ r. h k ∷ r) (map-from f g h (suc k) n e))
 
-pub some-map : {A B : Type 0} (f : A → B) (o : Option A) → isSome (mapOption f o) ≡ isSome o
+pub some-map : {A B : Type 0} (f : A → B) (o : Option A) → isSome (Option·map f o) ≡ isSome o
 unfolding isSome
 some-map f none = refl
 some-map f (some a) = refl
 
 module _ (d : Disk) where
-  -- "a block just put holds 256 zeros"
-  pub blank-here : contents d blank ≡ zeros
-  unfolding contentAt
-  blank-here = refl
-
   -- The queue and the journals.
   entry-here : (k : ℕ) → mapEntry (contents d) (queuedHere (d .rec) k) ≡ queuedAt d k
   unfolding queuedHere queuedAt
@@ -67,21 +62,21 @@ module _ (d : Disk) where
   journal-here u = map-from (mapChange (contents d)) (changeHere (unitOf d u) u) (journalAt d u) 0 (unitOf d u .len) (change-here u)
 
   -- The replays.
-  pub replay-here : (x : Reader ℕ) → replay zeros (mapReader (contents d) x) (queued d) ≡ mapOption (mapReader (contents d)) (replay blank x (queueHere (d .rec)))
-  replay-here x = rw (← queue-here, ← blank-here) (replay-map (contents d) blank x (queueHere (d .rec)))
+  pub replay-here : (x : Reader ℕ) → replay (mapReader (contents d) x) (queued d) ≡ Option·map (mapReader (contents d)) (replay x (queueHere (d .rec)))
+  replay-here x = rw (← queue-here) (replay-map (contents d) x (queueHere (d .rec)))
 
-  pub committed-here : (x : Reader ℕ) → walkCard cardLocation blank (d .card) ≡ sound x → cardLength (d .card) ≡ true
-      → committedReader d ≡ mapOption (mapReader (contents d)) (replay blank x (queueHere (d .rec)))
+  pub committed-here : (x : Reader ℕ) → walkCard cardLocation (d .card) ≡ sound x → cardLength (d .card) ≡ true
+      → committedReader d ≡ Option·map (mapReader (contents d)) (replay x (queueHere (d .rec)))
   unfolding committedReader readerOf
   committed-here x w l = rw (sound-at (d .card) (d .queueData) (d .journalData) x l w) (replay-here x)
 
-  pub overlay-here : (u : ℕ) (s : State ℕ) → overlay zeros (journalOf d u) (mapState (contents d) s) ≡ mapState (contents d) (overlay blank (journalHere (unitOf d u) u) s)
-  overlay-here u s = rw (← journal-here u, ← blank-here) (overlay-map (contents d) blank (journalHere (unitOf d u) u) s)
+  pub overlay-here : (u : ℕ) (s : State ℕ) → overlay (journalOf d u) (mapState (contents d) s) ≡ mapState (contents d) (overlay (journalHere (unitOf d u) u) s)
+  overlay-here u s = rw (← journal-here u) (overlay-map (contents d) (journalHere (unitOf d u) u) s)
 
-  pub applies-here : (u : ℕ) (s : State ℕ) → isSome (applyAll zeros (journalOf d u) (mapState (contents d) s)) ≡ isSome (applyAll blank (journalHere (unitOf d u) u) s)
+  pub applies-here : (u : ℕ) (s : State ℕ) → isSome (applyAll (journalOf d u) (mapState (contents d) s)) ≡ isSome (applyAll (journalHere (unitOf d u) u) s)
   applies-here u s =
-      rw (← journal-here u, ← blank-here, applyAll-map (contents d) blank (journalHere (unitOf d u) u) s)
-      (some-map (mapState (contents d)) (applyAll blank (journalHere (unitOf d u) u) s))
+      rw (← journal-here u, applyAll-map (contents d) (journalHere (unitOf d u) u) s)
+      (some-map (mapState (contents d)) (applyAll (journalHere (unitOf d u) u) s))
 
 -- A state that tables show.
 module _ (d : Disk) (t : Tables) (s : State Content) (k : Located d t s) where
@@ -107,7 +102,7 @@ module _ (d : Disk) (t : Tables) (s : State Content) (k : Located d t s) where
   unfolding takenAfter
   takenAfter-here l = rw (listNums-here)
 
-  pub content-here : (b : ℕ) → contentOf (s .lists) b ≡ mapOption (contents d) (contentOf (k .here .lists) b)
+  pub content-here : (b : ℕ) → contentOf (s .lists) b ≡ Option·map (contents d) (contentOf (k .here .lists) b)
   content-here b = ap (λ (rs : List (Row Content)). contentOf rs b) lists-here ∙ contentOf-map (contents d) (k .here .lists) b
 
   -- what holds of all lists that the tables show
@@ -123,8 +118,9 @@ module _ (d : Disk) (t : Tables) (s : State Content) (k : Located d t s) where
   pub onList-told : (l x : ℕ) (b : Bool) → OfShown t (λ rs. IsList l → IsBlock x → b ≡ onList l x rs) → IsList l → IsBlock x → b ≡ onList l x (s .lists)
   onList-told l x b f p q = of-shown (λ rs. IsList l → IsBlock x → b ≡ onList l x rs) f p q ∙ sym (onList-here l x)
 
-  pub content-told : (x n : ℕ) → OfShown t (λ rs. placed x rs ≡ true → contentOf rs x ≡ some n) → placed x (s .lists) ≡ true → contentOf (s .lists) x ≡ some (contents d n)
-  content-told x n f p = content-here x ∙ ap (mapOption (contents d)) (of-shown (λ rs. placed x rs ≡ true → contentOf rs x ≡ some n) f (sym (placed-here x) ∙ p))
+  pub content-told : (x n : ℕ) → OfShown t (λ rs. placed x rs ≡ true → contentOf rs x ≡ locatedAt n) → placed x (s .lists) ≡ true
+      → contentOf (s .lists) x ≡ Option·map (contents d) (locatedAt n)
+  content-told x n f p = content-here x ∙ ap (Option·map (contents d)) (of-shown (λ rs. placed x rs ≡ true → contentOf rs x ≡ locatedAt n) f (sym (placed-here x) ∙ p))
 
   pub nextAfter-told : (l p n : ℕ) → OfShown t (λ rs. taken l rs ≡ true → eqb p 0 || onList l p rs ≡ true → n ≡ nextAfter rs l p)
       → taken l (s .lists) ≡ true → eqb p 0 || onList l p (s .lists) ≡ true → n ≡ nextAfter (s .lists) l p

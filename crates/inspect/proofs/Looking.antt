@@ -9,7 +9,6 @@ use Rattle.lists.specs.State.{overlay}
 use Rattle.lists.specs.promises.Tables.{Tables}
 use Rattle.lists.proofs.Basic.{and-true, eqb-false, leb-true, all-from, from-all}
 use Rattle.log.specs.Entry.{member, mapEntry, raw, legal}
-use Rattle.log.specs.promises.Location.{blank}
 use Rattle.log.specs.declared.place.Place.{Place}
 use Rattle.log.proofs.Naturality.{raw-map}
 use Rattle.disk.specs.Record.{Record, unitAt, isOpen}
@@ -121,7 +120,7 @@ module _ (looked : Bool) (d : Disk) (v : ℕ) where
             sound = a .sound;
             opened = stream-open (rw (open-is, o) (or-true (eqb v 0)));
             located = record {
-              here = overlay blank (journalHere (unitAt (d .rec) v) v) (x .here);
+              here = overlay (journalHere (unitAt (d .rec) v) v) (x .here);
               shows = w .shows (x .here) (x .shows);
               means = rw (eqb-false v 5 m, eqb-false v 0 n, x .means) (overlay-here d v (x .here));
             };

@@ -19,7 +19,7 @@ use Rattle.log.specs.Cell.{entryIn}
 use Rattle.log.specs.declared.entry.LogEntry.{LogEntry}
 use Rattle.log.specs.declared.entry.LogEntry.the-variants.{Take, PutFirst, PutAfter, Write, DeleteBlock, DeleteList, Commit}
 use Rattle.log.proofs.Feeding.{fieldsChange}
-use Rattle.log.specs.promises.Location.{blank, journalLocation}
+use Rattle.log.specs.promises.Location.{journalLocation}
 use Rattle.disk.specs.Record.{Unit, noCell}
 use Rattle.disk.specs.Disk.{journalPlace}
 use Rattle.inspect.specs.promises.Located.{changeHere, journalHere}
@@ -31,28 +31,28 @@ block-range b h = let (p, q) = and-true _ _ h in (leb-true 1 b p, leb-true b 64 
 list-range : (l : ℕ) → isList l ≡ true → (1 ≤ l) × (l ≤ 16)
 list-range l h = let (p, q) = and-true _ _ h in (leb-true 1 l p, leb-true l 16 q)
 
--- a change that may stand in a journal, by its fields, its write at location d
-member-change : (e : LogEntry) (d : ℕ) → legal (raw 0 (member (asChange e))) ≡ true
+-- a change that may stand in a journal, by its fields, its write at location d, which is not 0
+member-change : (e : LogEntry) (d : ℕ) → 1 ≤ d → legal (raw 0 (member (asChange e))) ≡ true
     → (fieldsChange e d ≡ some (mapChange (λ s. d) (asChange e))) × Ranged (mapChange (λ s. d) (asChange e))
 unfolding ofKind asChange mapChange mapEntry raw legal legalChange hasMember
-member-change (Take l) d h = absurd (false≢true h)
-member-change (PutFirst b l) d h = let (p, q) = and-true (isBlock b) (isList l) h in (refl, (block-range b p, list-range l q))
-member-change (PutAfter b l x) d h =
+member-change (Take l) d n h = absurd (false≢true h)
+member-change (PutFirst b l) d n h = let (p, q) = and-true (isBlock b) (isList l) h in (refl, (block-range b p, list-range l q))
+member-change (PutAfter b l x) d n h =
     let (r, q) = and-true (isBlock b && isList l) (isBlock x) h in
     let (p, s) = and-true (isBlock b) (isList l) r in
     (refl, (block-range b p, list-range l s, block-range x q))
-member-change (Write b s) d h = (refl, block-range b (and-true (isBlock b) _ h .0))
-member-change (DeleteBlock b) d h = (refl, block-range b h)
-member-change (DeleteList l) d h = (refl, list-range l h)
-member-change (Commit n) d h = absurd (false≢true h)
+member-change (Write b s) d n h = (refl, (block-range b (and-true (isBlock b) _ h .0), n))
+member-change (DeleteBlock b) d n h = (refl, block-range b h)
+member-change (DeleteList l) d n h = (refl, list-range l h)
+member-change (Commit k) d n h = absurd (false≢true h)
 
 -- a change made or skipped, and the changes behind it
-turn : (c : Change ℕ) (cs : List (Change ℕ)) (v : State ℕ) (r : Bool) (u : Tables) → Represents (apply blank c v) r u
-    → r && isSome (applyAll blank cs (orElse v (apply blank c v))) ≡ isSome (applyAll blank (c ∷ cs) v)
+turn : (c : Change ℕ) (cs : List (Change ℕ)) (v : State ℕ) (r : Bool) (u : Tables) → Represents (apply c v) r u
+    → r && isSome (applyAll cs (orElse v (apply c v))) ≡ isSome (applyAll (c ∷ cs) v)
 unfolding applyAll isSome orElse
-turn c cs v r u h = go (apply blank c v) h
+turn c cs v r u h = go (apply c v) h
   where
-    go : (o : Option (State ℕ)) → Represents o r u → r && isSome (applyAll blank cs (orElse v o)) ≡ isSome (bind o (λ t. applyAll blank cs t))
+    go : (o : Option (State ℕ)) → Represents o r u → r && isSome (applyAll cs (orElse v o)) ≡ isSome (bind o (λ t. applyAll cs t))
     go none h = rw h
     go (some w) h = rw (h .0)
 
@@ -64,8 +64,8 @@ restOf x u k = from (changeHere x u) k (x .len - k)
 pub record Laid (x : Unit) (u : ℕ) (s : State ℕ) (every : Bool) (k : ℕ) (t : Tables) : Type 0 where
   pub now : State ℕ
   pub shows : Shows t (now .lists)
-  pub leads : overlay blank (restOf x u k) now ≡ overlay blank (journalHere x u) s
-  pub applies : every && isSome (applyAll blank (restOf x u k) now) ≡ isSome (applyAll blank (journalHere x u) s)
+  pub leads : overlay (restOf x u k) now ≡ overlay (journalHere x u) s
+  pub applies : every && isSome (applyAll (restOf x u k) now) ≡ isSome (applyAll (journalHere x u) s)
 
 pub laid-none : (x : Unit) (u : ℕ) (s : State ℕ) (t : Tables) → Shows t (s .lists) → Laid x u s true 0 t
 unfolding journalHere
@@ -87,16 +87,16 @@ module _ (x : Unit) (u : ℕ) (s : State ℕ) (lawful : all (λ c. legal (raw 0 
   unfolding overlay changeHere
   laid-turn every r every′ k n t t′ l e a d h =
       let c = changeHere x u k in
-      let (f, g) = member-change (entryIn (getD (x .journal) k noCell)) (journalLocation (journalPlace u k)) (all-from _ (changeIn x) 0 (x .len) lawful k (omega arith) (omega arith)) in
+      let (f, g) = member-change (entryIn (getD (x .journal) k noCell)) (journalLocation (journalPlace u k)) (omega arith) (all-from _ (changeIn x) 0 (x .len) lawful k (omega arith) (omega arith)) in
       let w : Did c t r t′ = rw (e, f) at d in
       let q : restOf x u k ≡ c ∷ restOf x u (k + 1) = from-step (changeHere x u) k (x .len) l in
       record {
-        now = orElse (h .now) (apply blank c (h .now));
+        now = orElse (h .now) (apply c (h .now));
         shows = did-overlay c t r t′ (h .now) g (h .shows) w;
-        leads = ap (λ (cs : List (Change ℕ)). overlay blank cs (h .now)) (sym q) ∙ h .leads;
+        leads = ap (λ (cs : List (Change ℕ)). overlay cs (h .now)) (sym q) ∙ h .leads;
         applies = still-all every r every′ _ a
             ∙ ap (λ (b : Bool). every && b) (turn c (restOf x u (k + 1)) (h .now) r t′ (did-apply c t r t′ (h .now) g (h .shows) w))
-            ∙ ap (λ (cs : List (Change ℕ)). every && isSome (applyAll blank cs (h .now))) (sym q)
+            ∙ ap (λ (cs : List (Change ℕ)). every && isSome (applyAll cs (h .now))) (sym q)
             ∙ h .applies;
       }
 
@@ -106,6 +106,6 @@ unfolding overlay applyAll isSome
 laid-all x u t every k t′ l h =
     let q : restOf x u k ≡ [] = from-none (changeHere x u) k (x .len) l in
     record {
-      answer = λ s w. let y = h s w in sym (bool.and-true every) ∙ ap (λ (cs : List (Change ℕ)). every && isSome (applyAll blank cs (y .now))) (sym q) ∙ y .applies;
+      answer = λ s w. let y = h s w in sym (bool.and-true every) ∙ ap (λ (cs : List (Change ℕ)). every && isSome (applyAll cs (y .now))) (sym q) ∙ y .applies;
       shows = λ s w. let y = h s w in rw (← y .leads, q) (y .shows);
     }

@@ -11,7 +11,7 @@ use Rattle.lists.proofs.Basic.{from-step, from-none}
 use Rattle.log.specs.Entry.{Entry, mapEntry, raw, legal, asEntry}
 use Rattle.log.specs.Cell.{Cell, memberIn, entryIn}
 use Rattle.log.specs.Reader.{Reader, read, replay}
-use Rattle.log.specs.promises.Location.{blank, queueLocation}
+use Rattle.log.specs.promises.Location.{queueLocation}
 use Rattle.log.specs.promises.Feed.{Memory, Keeps}
 use Rattle.log.proofs.Naturality.{raw-map}
 use Rattle.disk.specs.Record.{Record, noCell, ringPlace}
@@ -26,7 +26,7 @@ leftOf r k = from (queuedHere r) k (r .len - k)
 pub record FedUpTo (r : Record) (x : Reader ℕ) (k n : ℕ) (m : Memory) : Type 0 where
   pub reader : Reader ℕ
   pub kept : Keeps m n reader
-  pub replays : replay blank x (queueHere r) ≡ replay blank reader (leftOf r k)
+  pub replays : replay x (queueHere r) ≡ replay reader (leftOf r k)
   pub laws : lawful (queueHere r) ≡ lawful (leftOf r k)
 
 abbrev pub queuedIn : Record → ℕ → Cell
@@ -52,16 +52,16 @@ module _ (r : Record) (x : Reader ℕ) (k n : ℕ) (m : Memory) (fed : FedUpTo r
   unfolding all
   step-laws l = fed .laws ∙ rw (step l) (rw (raw-map (λ s. queueLocation (ringPlace r k)) 0 (asEntry (memberIn (queuedIn r k)) (entryIn (queuedIn r k)))))
 
-  step-replays : k < r .len → (o : Option (Reader ℕ)) → read blank (fed .reader) (fedAt r k) ≡ o
-      → replay blank x (queueHere r) ≡ elim o [ none ↦ none | some y ↦ replay blank y (leftOf r (k + 1)) ]
+  step-replays : k < r .len → (o : Option (Reader ℕ)) → read (fed .reader) (fedAt r k) ≡ o
+      → replay x (queueHere r) ≡ elim o [ none ↦ none | some y ↦ replay y (leftOf r (k + 1)) ]
   unfolding replay
   step-replays l none e = fed .replays ∙ rw (step l) (rw (e, replay))
   step-replays l (some y) e = fed .replays ∙ rw (step l) (rw (e, replay))
 
-  pub fed-unlawful : k < r .len → lawAt ≡ false → lawful (queueHere r) && isSome (replay blank x (queueHere r)) ≡ false
+  pub fed-unlawful : k < r .len → lawAt ≡ false → lawful (queueHere r) && isSome (replay x (queueHere r)) ≡ false
   fed-unlawful l h = rw (step-laws l ∙ ap (λ (b : Bool). b && lawful (leftOf r (k + 1))) h)
 
-  pub fed-refused : k < r .len → read blank (fed .reader) (fedAt r k) ≡ none → lawful (queueHere r) && isSome (replay blank x (queueHere r)) ≡ false
+  pub fed-refused : k < r .len → read (fed .reader) (fedAt r k) ≡ none → lawful (queueHere r) && isSome (replay x (queueHere r)) ≡ false
   unfolding isSome
   fed-refused l e = rw (step-replays l none e) (go (lawful (queueHere r)))
     where
@@ -69,7 +69,7 @@ module _ (r : Record) (x : Reader ℕ) (k n : ℕ) (m : Memory) (fed : FedUpTo r
       go true = refl
       go false = refl
 
-  pub fed-more : k < r .len → lawAt ≡ true → (n′ : ℕ) (m′ : Memory) (y : Reader ℕ) → read blank (fed .reader) (fedAt r k) ≡ some y → Keeps m′ n′ y → FedUpTo r x (k + 1) n′ m′
+  pub fed-more : k < r .len → lawAt ≡ true → (n′ : ℕ) (m′ : Memory) (y : Reader ℕ) → read (fed .reader) (fedAt r k) ≡ some y → Keeps m′ n′ y → FedUpTo r x (k + 1) n′ m′
   fed-more l h n′ m′ y e q = record {
     reader = y;
     kept = q;

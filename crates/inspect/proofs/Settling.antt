@@ -7,7 +7,6 @@ use Prim.Native.Nat.{ℕ}
 use Rattle.lists.specs.Basic.{isSome, each}
 use Rattle.lists.specs.promises.Tables.{Tables, OfShown}
 use Rattle.log.specs.Reader.{Reader, replay}
-use Rattle.log.specs.promises.Location.{blank}
 use Rattle.log.specs.promises.Feed.{Memory, Keeps}
 use Rattle.disk.specs.Record.{Record}
 use Rattle.disk.specs.Disk.{disk, queued}
@@ -25,11 +24,11 @@ module _ (c q : List ℕ) (r : Record) (x : Reader ℕ) where
   abbrev heads : Bool
   heads = headStanding c (r .done) (queued (disk c q [] r))
 
-  settled-refused : lawful (queueHere r) && isSome (replay blank x (queueHere r)) ≡ false → false ≡ settledRight c q r x
+  settled-refused : lawful (queueHere r) && isSome (replay x (queueHere r)) ≡ false → false ≡ settledRight c q r x
   unfolding settledRight each
-  settled-refused h = both-false (lawful (queueHere r)) (isSome (replay blank x (queueHere r))) _ h
+  settled-refused h = both-false (lawful (queueHere r)) (isSome (replay x (queueHere r))) _ h
 
-  settled-entered : lawful (queueHere r) ≡ true → (y : Reader ℕ) → replay blank x (queueHere r) ≡ some y → holdersRight r (y .state .lists) && heads ≡ settledRight c q r x
+  settled-entered : lawful (queueHere r) ≡ true → (y : Reader ℕ) → replay x (queueHere r) ≡ some y → holdersRight r (y .state .lists) && heads ≡ settledRight c q r x
   unfolding settledRight each isSome
   settled-entered h y e = rw (h, e) (ap (λ (b : Bool). holdersRight r (y .state .lists) && b) (sym (and-yes heads)))
 

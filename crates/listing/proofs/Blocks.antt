@@ -1,8 +1,7 @@
--- The blocks of a list that tables show, taken one after the other, and blocks on no list.
-use mathlib.Core.Path.{_≡_, refl, sym, ap, _∙_}
+-- The blocks of a list that tables show, taken one after the other.
+use mathlib.Core.Path.{_≡_, sym, ap, _∙_}
 use mathlib.Core.Logic.{_≢_, ⊎-elim}
 use mathlib.Core.Bool.{true, false, _||_}
-use mathlib.Core.Option.{none}
 use mathlib.Core.List.{List, [], _∷_, map}
 use Prim.Native.Nat.{ℕ, zero, suc, _+_, _≤_, _<_}
 use native.Mathlib.Omega.{arith}
@@ -12,10 +11,10 @@ use lib.Dec.{eqb}
 use lib.ListN.{length, getD, take}
 use lib.Seq.{take-all}
 use Rattle.lists.specs.Basic.{joined}
-use Rattle.lists.specs.State.{Block, Row, placed, onList, onRow, onBlocksOf}
-use Rattle.lists.specs.Lookup.{blocksOf, contentIn, contentOf, nextIn, nextAfter}
+use Rattle.lists.specs.State.{Block, Row, onList, onBlocksOf}
+use Rattle.lists.specs.Lookup.{blocksOf, nextIn, nextAfter}
 use Rattle.lists.specs.promises.Tables.{Tables, Shows}
-use Rattle.lists.proofs.Basic.{either, or-both, or-right, eqb-same, eqb-false}
+use Rattle.lists.proofs.Basic.{either, or-right, eqb-same, eqb-false}
 use Rattle.lists.proofs.Runs.{away-at, some-within, blocks-apart, blocks-few, blocks-run}
 use Rattle.text.specs.Written.{Puts}
 use Rattle.text.proofs.Writing.{puts-none, puts-more}
@@ -67,16 +66,3 @@ module _ (t : Tables) (rs : List (Row ℕ)) (s : Shows t rs) (l : ℕ) {out₀ :
 
   pub putting-full : 64 ≤ i → Puts out₀ at (numbers (blocksOf rs l)) out position
   putting-full k = rw (take-all i (blocksOf rs l) (omega (arith, blocks-few t rs s l))) at (p .puts)
-
--- A block on no list has no content.
-content-nowhere : (b : ℕ) (xs : List (Block ℕ)) → onBlocksOf b xs ≡ false → contentIn xs b ≡ none
-unfolding contentIn
-content-nowhere b [] h = refl
-content-nowhere b (x ∷ xs) h = let (a, c) = or-both (eqb (x .num) b) (onBlocksOf b xs) h in rw (a, contentIn) (content-nowhere b xs c)
-
-pub content-none : (b : ℕ) (rs : List (Row ℕ)) → placed b rs ≡ false → contentOf rs b ≡ none
-unfolding placed contentOf
-content-none b [] h = refl
-content-none b (r ∷ rs) h =
-    let (a, c) = or-both (onRow b r) (placed b rs) h in
-    rw (content-nowhere b (r .blocks) a, contentOf) (content-none b rs c)

@@ -1,24 +1,25 @@
 -- Texts and sums by one part more, and the bytes at a location of a card.
 use mathlib.Core.Path.{_≡_, refl, sym, ap, ap₂, _∙_}
 use mathlib.Core.Bool.{Bool, true, false, cond}
-use mathlib.Core.Option.{none, some}
+use mathlib.Core.Option.{Option}
 use mathlib.Core.List.{List, [], _∷_, _++_, map, map-append, append-assoc, append-nil}
-use Prim.Native.Nat.{ℕ, zero, suc, _+_, _-_, _*_, _≤_, _<_}
+use Prim.Native.Nat.{ℕ, suc, _+_, _-_, _*_, _≤_, _<_}
 use native.Mathlib.Omega.{arith}
 use native.Mathlib.Decide.{decLe}
 use native.Mathlib.Nat.{zero-add, mul-comm}
 use native.Mathlib.Numerals.{add-one}
 use lib.Dec.{ltb}
-use lib.ListN.{length, take, drop, getD, replicate, length-take, drop-of-length-le}
+use lib.ListN.{length, take, drop, getD, length-take, drop-of-length-le}
 use lib.Seq.{slice, take-suc, take-add, drop-at, length-take-le}
 use Rattle.lists.specs.Basic.{from, joined}
-use Rattle.lists.specs.State.{Row, taken}
+use Rattle.lists.specs.State.{Row, taken, placed}
 use Rattle.lists.specs.Lookup.{blocksOf, contentOf}
-use Rattle.lists.proofs.Basic.{from-snoc, lt-true, ge-false}
-use Rattle.log.specs.Card.{slot, zeros, count}
+use Rattle.lists.proofs.Basic.{from-snoc, ge-false}
+use Rattle.log.specs.Card.{slot, count}
 use Rattle.log.specs.promises.Location.{contentAt}
+use Rattle.log.proofs.Copying.{at-card}
 use Rattle.text.specs.Decimal.{decimal}
-use Rattle.listing.specs.Listing.{total, numbers, listLine, listPart, blockLine, blockPart}
+use Rattle.listing.specs.Listing.{total, numbers, listLine, listPart, contentText, blockLine, blockPart}
 use Rattle.listing.specs.promises.Shown.{sumAt}
 
 joined-append : {A : Type 0} (xs ys : List (List A)) → joined (xs ++ ys) ≡ joined xs ++ joined ys
@@ -86,26 +87,22 @@ module _ {D : Type 0} (rs : List (Row D)) where
   list-some l h = rw h
 
   module _ (sum : D → ℕ) (b : ℕ) where
-    pub block-none : contentOf rs b ≡ none → blockPart sum rs b ≡ []
+    pub block-none : placed b rs ≡ false → blockPart sum rs b ≡ []
     unfolding blockPart
-    block-none h = rw (h, blockPart)
+    block-none h = rw h
 
-    pub block-some : (d : D) → contentOf rs b ≡ some d → blockPart sum rs b ≡ blockLine b (sum d)
+    pub block-some : (o : Option D) → placed b rs ≡ true → contentOf rs b ≡ o → blockPart sum rs b ≡ blockLine b (contentText sum o)
     unfolding blockPart
-    block-some d h = rw (h, blockPart)
+    block-some o h e = rw (h, e)
 
 -- The bytes at a location.
 slot-none : (k : ℕ) → slot [] k ≡ []
 unfolding slot
 slot-none k = ap (take 256) (drop-of-length-le [] {i = 256 * k} (omega arith))
 
-pub content-in : (c q j : List ℕ) (n : ℕ) → n < 1024 → contentAt c q j (suc n) ≡ slot c n
+pub content-out : (c : List ℕ) (n : ℕ) → 1025 ≤ n → contentAt c [] [] n ≡ []
 unfolding contentAt
-content-in c q j n h = rw (lt-true n 1024 h)
-
-pub content-out : (c : List ℕ) (n : ℕ) → 1024 ≤ n → contentAt c [] [] (suc n) ≡ []
-unfolding contentAt
-content-out c n h = rw (ge-false n 1024 h, slot-none (n - 1024), slot-none (n - 1056)) (same (ltb n 1056))
+content-out c n h = rw (ge-false n 1025 h, slot-none (n - 1025), slot-none (n - 1057)) (same (ltb n 1057))
   where
     same : (b : Bool) → cond {A = List ℕ} b [] [] ≡ []
     same true = refl
@@ -131,23 +128,10 @@ slot-length c k = omega (arith, length-take 256 (drop (256 * k) c))
 pub part-length : (c : List ℕ) (n : ℕ) → length (slice ((n - 1) * 256) ((n - 1) * 256 + 256) c) ≤ 256
 part-length c n = rw (mul-comm (n - 1) 256, slot-part c (n - 1)) (slot-length c (n - 1))
 
-total-zeros : (n : ℕ) → total (replicate n 0) ≡ 0
-unfolding total
-total-zeros zero = refl
-total-zeros (suc n) = omega (arith, total-zeros n)
-
 module _ (c : List ℕ) where
-  pub sum-blank : sumAt c 0 ≡ 0
-  unfolding contentAt zeros
-  sum-blank = total-zeros 256
-
-  pub sum-in : (n : ℕ) → 1 ≤ n → n ≤ 1024 → total (slice ((n - 1) * 256) ((n - 1) * 256 + 256) c) ≡ sumAt c n
-  sum-in n h k =
-      let e : suc (n - 1) ≡ n = omega arith in
-      rw (mul-comm (n - 1) 256, slot-part c (n - 1)) (ap total (sym (content-in c [] [] (n - 1) (omega arith))) ∙ ap (sumAt c) e)
+  pub sum-in : (n : ℕ) → n ≤ 1024 → total (slice ((n - 1) * 256) ((n - 1) * 256 + 256) c) ≡ sumAt c n
+  sum-in n h = rw (mul-comm (n - 1) 256, slot-part c (n - 1)) (ap total (sym (at-card c [] [] n (omega arith))))
 
   pub sum-out : (n : ℕ) → 1024 < n → 0 ≡ sumAt c n
   unfolding total
-  sum-out n h =
-      let e : suc (n - 1) ≡ n = omega arith in
-      sym (ap total (content-out c (n - 1) (omega arith))) ∙ ap (sumAt c) e
+  sum-out n h = sym (ap total (content-out c n (omega arith)))

@@ -1,12 +1,12 @@
 -- The text that the lister prints for a card. Its bytes are numbers here; a word stands in the comment over them.
 use mathlib.Core.Bool.{Bool, _&&_, cond}
-use mathlib.Core.Option.{none, some}
+use mathlib.Core.Option.{Option, none, some}
 use mathlib.Core.List.{List, [], _∷_, _++_, map}
 use Prim.Native.Nat.{ℕ, _+_, _/_, _%_}
 use lib.Dec.{leb, ltb, eqb}
 use lib.ListN.{length}
 use Rattle.lists.specs.Basic.{from, joined}
-use Rattle.lists.specs.State.{Row, taken}
+use Rattle.lists.specs.State.{Row, taken, placed}
 use Rattle.lists.specs.Lookup.{contentOf, blocksOf}
 use Rattle.log.specs.Card.{Content, Outcome, sound, fault, segmentBytes, segmentsIn, count, mounted}
 use Rattle.text.specs.Decimal.{decimal}
@@ -59,15 +59,20 @@ listPart rs l = cond (taken l rs) (listLine l (blocksOf rs l)) []
 unfoldable pub listLines : {D : Type 0} → List (Row D) → List ℕ
 listLines rs = joined (from (listPart rs) 1 16)
 
--- block b's line, n being the sum of its bytes
-unfoldable pub blockLine : ℕ → ℕ → List ℕ
-blockLine b n =
-    -- `block `, `: `
-    98 ∷ 108 ∷ 111 ∷ 99 ∷ 107 ∷ 32 ∷ [] ++ decimal b ++ 58 ∷ 32 ∷ [] ++ decimal n ++ 10 ∷ []
+-- what a block's line says of its content, sum being what that sums up to; "The lister prints `block 4: unwritten` for such a block."
+unfoldable pub contentText : {D : Type 0} → (D → ℕ) → Option D → List ℕ
+contentText sum none = 117 ∷ 110 ∷ 119 ∷ 114 ∷ 105 ∷ 116 ∷ 116 ∷ 101 ∷ 110 ∷ []
+contentText sum (some d) = decimal (sum d)
 
--- its line where it is on some list; sum says what its content sums up to
+-- block b's line with that text
+unfoldable pub blockLine : ℕ → List ℕ → List ℕ
+blockLine b x =
+    -- `block `, `: `
+    98 ∷ 108 ∷ 111 ∷ 99 ∷ 107 ∷ 32 ∷ [] ++ decimal b ++ 58 ∷ 32 ∷ [] ++ x ++ 10 ∷ []
+
+-- its line where it is on some list
 unfoldable pub blockPart : {D : Type 0} → (D → ℕ) → List (Row D) → ℕ → List ℕ
-blockPart sum rs b = elim (contentOf rs b) [ none ↦ [] | some d ↦ blockLine b (sum d) ]
+blockPart sum rs b = cond (placed b rs) (blockLine b (contentText sum (contentOf rs b))) []
 
 -- "each block ascending with the sum of its bytes"
 unfoldable pub blockLines : {D : Type 0} → (D → ℕ) → List (Row D) → List ℕ

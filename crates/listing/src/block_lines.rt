@@ -1,4 +1,5 @@
 // The blocks' lines, from the linked tables of a state whose contents stand at locations of a card.
+use lists::tables::UNWRITTEN;
 use lists::tables::is_placed;
 use lists::tables::location_of;
 use log::entry::LogEntry;
@@ -11,9 +12,9 @@ use text::put::put_bytes;
 ghost use mathlib.Core.Path.{_≡_};
 ghost use Prim.Native.Nat.{_≤_};
 ghost use lib.ListN.{length};
-ghost use Rattle.lists.specs.promises.Tables.{tablesIn, IsBlock, OfShown};
+ghost use Rattle.lists.specs.promises.Tables.{tablesIn, IsBlock, OfShown, locatedAt};
 ghost use Rattle.text.specs.Written.{Puts};
-ghost use Rattle.listing.specs.Listing.{total, blockPart, blockLines};
+ghost use Rattle.listing.specs.Listing.{total, contentText, blockPart, blockLines};
 ghost use Rattle.listing.specs.promises.Shown.{sumAt};
 
 const BLOCKS: u8 = LogEntry::BLOCKS;
@@ -42,21 +43,29 @@ fn put_block(out: &mut [u8], at: usize, card: &[u8], nodes: &[u8; 1280], block: 
     if !is_placed(nodes, block) {
         return at;
     }
-    let sum = sum_at(card, location_of(nodes, block));
+    let location = location_of(nodes, block);
     let mut position = put_bytes(out, at, b"block ");
     position = put_decimal(out, position, block as u64);
     position = put_bytes(out, position, b": ");
-    position = put_decimal(out, position, sum);
+    position = put_content(out, position, card, location);
     put_byte(out, position, b'\n')
 }
 
-// The sum of the bytes at a location of the card. The blank sums up to 0, and behind the card's locations there is nothing.
+// The sum of the bytes at a location, or that the block is unwritten.
+fn put_content(out: &mut [u8], at: usize, card: &[u8], location: u16) -> usize
+    ensures { λ r. ⌜ Puts (now (out .entry)) at (contentText (sumAt (now (card .entry))) (locatedAt location)) (now (out .exit)) r ⌝ }
+{
+    if location == UNWRITTEN {
+        return put_bytes(out, at, b"unwritten");
+    }
+    put_decimal(out, at, sum_at(card, location))
+}
+
+// The sum of the bytes at a location of the card; behind the card's locations there is nothing.
 fn sum_at(card: &[u8], location: u16) -> u64
+    requires { ⌜ 1 ≤ location ⌝ }
     ensures { λ r. ⌜ r ≡ sumAt (now (card .entry)) location ⌝ }
 {
-    if location == 0 {
-        return 0;
-    }
     if QUEUE_AT <= location {
         return 0;
     }

@@ -1,6 +1,7 @@
 -- How often a list and a block stand in a state, and how far a change can raise that.
 use mathlib.Core.Path.{_≡_, refl}
 use mathlib.Core.Bool.{Bool, true, false, cond}
+use mathlib.Core.Option.{none, some}
 use mathlib.Core.List.{List, [], _∷_, _++_, map}
 use Prim.Native.Nat.{ℕ, suc, _+_, _*_, _≤_}
 use native.Mathlib.Nat.{le-refl, mul-le-mul-left}
@@ -120,29 +121,29 @@ module _ {D : Type 0} where
       go true = refl
       go false = refl
 
-  pub rows-changed : (z : D) (c : Change D) (rs : List (Row D)) (l : ℕ) → rowsOf l (changed z c rs) ≤ one (takes c l) + rowsOf l rs
+  pub rows-changed : (c : Change D) (rs : List (Row D)) (l : ℕ) → rowsOf l (changed c rs) ≤ one (takes c l) + rowsOf l rs
   unfolding changed
-  rows-changed z (takeList n) rs l = omega (arith, total-append (λ r. one (isRow l r)) rs (row n [] ∷ []))
-  rows-changed z (putFirst b n) rs l = omega (arith, rows-kept (at n (λ bs. block b z ∷ bs)) (at-num n (λ bs. block b z ∷ bs)) l rs)
-  rows-changed z (putAfter b n p) rs l = omega (arith, rows-kept (at n (insertAfter p (block b z))) (at-num n (insertAfter p (block b z))) l rs)
-  rows-changed z (write b d) rs l = omega (arith, rows-kept (onBlocks (map (put b d))) (λ r. refl) l rs)
-  rows-changed z (delBlock b) rs l = omega (arith, rows-kept (onBlocks (keep (otherBlock b))) (λ r. refl) l rs)
-  rows-changed z (delList n) rs l = omega (arith, total-keep (λ r. one (isRow l r)) (otherRow n) rs)
+  rows-changed (takeList n) rs l = omega (arith, total-append (λ r. one (isRow l r)) rs (row n [] ∷ []))
+  rows-changed (putFirst b n) rs l = omega (arith, rows-kept (at n (λ bs. block b none ∷ bs)) (at-num n (λ bs. block b none ∷ bs)) l rs)
+  rows-changed (putAfter b n p) rs l = omega (arith, rows-kept (at n (insertAfter p (block b none))) (at-num n (insertAfter p (block b none))) l rs)
+  rows-changed (write b d) rs l = omega (arith, rows-kept (onBlocks (map (put b d))) (λ r. refl) l rs)
+  rows-changed (delBlock b) rs l = omega (arith, rows-kept (onBlocks (keep (otherBlock b))) (λ r. refl) l rs)
+  rows-changed (delList n) rs l = omega (arith, total-keep (λ r. one (isRow l r)) (otherRow n) rs)
 
   module _ (b : ℕ) where
-    insert-times : (p n : ℕ) (z : D) (bs : List (Block D)) → timesOn b (insertAfter p (block n z) bs) ≤ one (eqb n b) + timesOn b bs
-    insert-times p n z [] = omega arith
-    insert-times p n z (x ∷ bs) = go (isBlockNum p x) (insert-times p n z bs)
+    insert-times : (p n : ℕ) (bs : List (Block D)) → timesOn b (insertAfter p (block n none) bs) ≤ one (eqb n b) + timesOn b bs
+    insert-times p n [] = omega arith
+    insert-times p n (x ∷ bs) = go (isBlockNum p x) (insert-times p n bs)
       where
-        go : (t : Bool) → timesOn b (insertAfter p (block n z) bs) ≤ one (eqb n b) + timesOn b bs
-            → timesOn b (cond t (x ∷ block n z ∷ bs) (x ∷ insertAfter p (block n z) bs)) ≤ one (eqb n b) + timesOn b (x ∷ bs)
+        go : (t : Bool) → timesOn b (insertAfter p (block n none) bs) ≤ one (eqb n b) + timesOn b bs
+            → timesOn b (cond t (x ∷ block n none ∷ bs) (x ∷ insertAfter p (block n none) bs)) ≤ one (eqb n b) + timesOn b (x ∷ bs)
         go true ih = omega arith
         go false ih = omega arith
 
     put-times : (n : ℕ) (d : D) (x : Block D) → one (isBlockNum b (put n d x)) ≤ one (isBlockNum b x)
     put-times n d x = go (isBlockNum n x) refl
       where
-        go : (t : Bool) → isBlockNum n x ≡ t → one (isBlockNum b (cond t (block n d) x)) ≤ one (isBlockNum b x)
+        go : (t : Bool) → isBlockNum n x ≡ t → one (isBlockNum b (cond t (block n (some d)) x)) ≤ one (isBlockNum b x)
         go true e = rw (eqb-true (x .num) n e) (le-refl _)
         go false e = le-refl _
 
@@ -161,14 +162,14 @@ module _ {D : Type 0} where
     rows-places f e rs = total-map (λ r. timesOn b (r .blocks)) (λ r. timesOn b (r .blocks)) (onBlocks f) (λ r. e (r .blocks)) rs
 
     -- m bounds how often a list stands
-    pub places-changed : (z : D) (c : Change D) (rs : List (Row D)) (m : ℕ) → ((l : ℕ) → rowsOf l rs ≤ m) → placesOf b (changed z c rs) ≤ one (puts c b) * m + placesOf b rs
+    pub places-changed : (c : Change D) (rs : List (Row D)) (m : ℕ) → ((l : ℕ) → rowsOf l rs ≤ m) → placesOf b (changed c rs) ≤ one (puts c b) * m + placesOf b rs
     unfolding changed
-    places-changed z (takeList l) rs m h = omega (arith, total-append (λ r. timesOn b (r .blocks)) rs (row l [] ∷ []))
-    places-changed z (putFirst n l) rs m h =
-        omega (arith, at-places l (one (eqb n b)) (λ bs. block n z ∷ bs) (λ bs. le-refl _) rs, mul-le-mul-left (one (eqb n b)) (h l))
-    places-changed z (putAfter n l p) rs m h =
-        omega (arith, at-places l (one (eqb n b)) (insertAfter p (block n z)) (insert-times p n z) rs, mul-le-mul-left (one (eqb n b)) (h l))
-    places-changed z (write n d) rs m h =
+    places-changed (takeList l) rs m h = omega (arith, total-append (λ r. timesOn b (r .blocks)) rs (row l [] ∷ []))
+    places-changed (putFirst n l) rs m h =
+        omega (arith, at-places l (one (eqb n b)) (λ bs. block n none ∷ bs) (λ bs. le-refl _) rs, mul-le-mul-left (one (eqb n b)) (h l))
+    places-changed (putAfter n l p) rs m h =
+        omega (arith, at-places l (one (eqb n b)) (insertAfter p (block n none)) (insert-times p n) rs, mul-le-mul-left (one (eqb n b)) (h l))
+    places-changed (write n d) rs m h =
         omega (arith, rows-places (map (put n d)) (λ bs. total-map (λ x. one (isBlockNum b x)) (λ x. one (isBlockNum b x)) (put n d) (put-times n d) bs) rs)
-    places-changed z (delBlock n) rs m h = omega (arith, rows-places (keep (otherBlock n)) (λ bs. total-keep (λ x. one (isBlockNum b x)) (otherBlock n) bs) rs)
-    places-changed z (delList l) rs m h = omega (arith, total-keep (λ r. timesOn b (r .blocks)) (otherRow l) rs)
+    places-changed (delBlock n) rs m h = omega (arith, rows-places (keep (otherBlock n)) (λ bs. total-keep (λ x. one (isBlockNum b x)) (otherBlock n) bs) rs)
+    places-changed (delList l) rs m h = omega (arith, total-keep (λ r. timesOn b (r .blocks)) (otherRow l) rs)

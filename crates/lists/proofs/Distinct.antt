@@ -40,7 +40,7 @@ module _ {D : Type 0} where
   put-new : (n l : ℕ) (rs : List (Row D)) (b : ℕ) → taken l rs && not (placed n rs) ≡ true → eqb n b ≡ true → placed b rs ≡ false
   put-new n l rs b h e = rw (eqb-true n b e) at (not-false (placed n rs) (and-true (taken l rs) (not (placed n rs)) h .1))
 
-  puts-new : (c : Change D) (rs : List (Row D)) (b : ℕ) → applies c rs ≡ true → puts c b ≡ true → placed b rs ≡ false
+  pub puts-new : (c : Change D) (rs : List (Row D)) (b : ℕ) → applies c rs ≡ true → puts c b ≡ true → placed b rs ≡ false
   unfolding applies
   puts-new (takeList l) rs b h e = absurd (false≢true e)
   puts-new (putFirst n l) rs b h e = put-new n l rs b h e
@@ -49,10 +49,10 @@ module _ {D : Type 0} where
   puts-new (delBlock n) rs b h e = absurd (false≢true e)
   puts-new (delList l) rs b h e = absurd (false≢true e)
 
-  pub changed-distinct : (z : D) (c : Change D) (rs : List (Row D)) → applies c rs ≡ true → Distinct rs → Distinct (changed z c rs)
-  changed-distinct z c rs h d = record {
-    lists = λ l. once-more (takes c l) (rows-changed z c rs l) (λ e. taken-none l rs (takes-new c rs l h e)) (d .lists l);
-    blocks = λ b. once-more (puts c b) (rw mul-one at (places-changed b z c rs 1 (d .lists))) (λ e. placed-none b rs (puts-new c rs b h e)) (d .blocks b);
+  pub changed-distinct : (c : Change D) (rs : List (Row D)) → applies c rs ≡ true → Distinct rs → Distinct (changed c rs)
+  changed-distinct c rs h d = record {
+    lists = λ l. once-more (takes c l) (rows-changed c rs l) (λ e. taken-none l rs (takes-new c rs l h e)) (d .lists l);
+    blocks = λ b. once-more (puts c b) (rw mul-one at (places-changed b c rs 1 (d .lists))) (λ e. placed-none b rs (puts-new c rs b h e)) (d .blocks b);
   }
     where
       once-more : {m n : ℕ} (t : Bool) → m ≤ one t + n → (t ≡ true → n ≡ 0) → n ≤ 1 → m ≤ 1
@@ -66,11 +66,11 @@ module _ {D : Type 0} where
   pub block-once : (rs : List (Row D)) → Distinct rs → (b : ℕ) → placesOf b rs ≡ one (placed b rs)
   block-once rs d b = once (placesOf b rs) (placed b rs) (placed-none b rs) (none-placed b rs) (d .blocks b)
 
-  pub apply-distinct : (z : D) (c : Change D) (s t : State D) → apply z c s ≡ some t → Distinct (s .lists) → Distinct (t .lists)
-  apply-distinct z = apply-keeps z Distinct (changed-distinct z)
+  pub apply-distinct : (c : Change D) (s t : State D) → apply c s ≡ some t → Distinct (s .lists) → Distinct (t .lists)
+  apply-distinct = apply-keeps Distinct changed-distinct
 
-  pub applyAll-distinct : (z : D) (cs : List (Change D)) (s t : State D) → applyAll z cs s ≡ some t → Distinct (s .lists) → Distinct (t .lists)
-  applyAll-distinct z = applyAll-keeps z Distinct (changed-distinct z)
+  pub applyAll-distinct : (cs : List (Change D)) (s t : State D) → applyAll cs s ≡ some t → Distinct (s .lists) → Distinct (t .lists)
+  applyAll-distinct = applyAll-keeps Distinct changed-distinct
 
-  pub overlay-distinct : (z : D) (cs : List (Change D)) (s : State D) → Distinct (s .lists) → Distinct (overlay z cs s .lists)
-  overlay-distinct z = overlay-keeps z Distinct (changed-distinct z)
+  pub overlay-distinct : (cs : List (Change D)) (s : State D) → Distinct (s .lists) → Distinct (overlay cs s .lists)
+  overlay-distinct = overlay-keeps Distinct changed-distinct

@@ -3,7 +3,7 @@
 use mathlib.Core.Path.{_≡_, refl, sym, ap, _∙_, subst}
 use mathlib.Core.Logic.{_≢_, ⊎-elim}
 use mathlib.Core.Bool.{Bool, true, false, _||_, not, cond, true≢false, false≢true}
-use mathlib.Core.Option.{none, some}
+use mathlib.Core.Option.{Option, none, some}
 use mathlib.Core.List.{List, [], _∷_, _++_, map, append-assoc}
 use Prim.Native.Nat.{ℕ, zero, suc, _+_, _-_, _≤_, _<_}
 use native.Mathlib.Omega.{arith}
@@ -11,7 +11,7 @@ use lib.Dec.{eqb}
 use lib.ListN.{length, getD}
 use Rattle.lists.specs.State.{Block, Row, onBlocksOf, onRow, taken, placed, onList}
 use Rattle.lists.specs.Lookup.{contentIn, contentOf, blocksOf, nextIn, nextAfter, listNums, takenAfter}
-use Rattle.lists.specs.promises.Tables.{Tables, Shows, Apart, Linked, HasBlocks, HasLists, IsBlock, IsList, blockNodes, nodes, chain, ownerOf, nextOf, listNode, blockOr0, listWithin, behindNode, behindList, SaysTaken, SaysPlaced, SaysOn, SaysLocation, SaysBlockAfter, SaysListAfter, OfShown}
+use Rattle.lists.specs.promises.Tables.{Tables, Shows, Apart, Linked, HasBlocks, HasLists, IsBlock, IsList, blockNodes, nodes, chain, ownerOf, nextOf, listNode, blockOr0, listWithin, behindNode, behindList, SaysTaken, SaysPlaced, SaysOn, SaysLocation, SaysBlockAfter, SaysListAfter, OfShown, locatedAt}
 use Rattle.lists.proofs.Basic.{not-not, either, or-both, or-cases, eqb-true, eqb-false, eqb-neq, eq-true, le-true, lt-true, gt-false, ge-false}
 use Rattle.lists.proofs.Chain.{away-right, apart-left, apart-right, last, linked-tail}
 use Rattle.lists.proofs.Nodes.{away-taken, onList-taken}
@@ -52,27 +52,39 @@ module _ (t : Tables) (rs : List (Row ℕ)) (s : Shows t rs) where
       (either (onList l b rs))
 
 -- Contents.
-module _ (o p : List ℕ) where
-  content-out : (b : ℕ) (xs : List (Block ℕ)) → onBlocksOf b xs ≡ false → contentIn xs b ≡ none
+module _ {D : Type 0} (b : ℕ) where
+  pub content-out : (xs : List (Block D)) → onBlocksOf b xs ≡ false → contentIn xs b ≡ none
   unfolding contentIn
-  content-out b [] h = refl
-  content-out b (x ∷ xs) h = let (a, c) = or-both (eqb (x .num) b) (onBlocksOf b xs) h in rw (a, contentIn) (content-out b xs c)
+  content-out [] h = refl
+  content-out (x ∷ xs) h = let (a, c) = or-both (eqb (x .num) b) (onBlocksOf b xs) h in rw (a, contentIn) (content-out xs c)
 
-  content-in : (l b : ℕ) (xs : List (Block ℕ)) → HasBlocks o p l xs → onBlocksOf b xs ≡ true → contentIn xs b ≡ some (getD p b 0)
+  pub content-none : (rs : List (Row D)) → placed b rs ≡ false → contentOf rs b ≡ none
+  unfolding placed contentOf
+  content-none [] h = refl
+  content-none (r ∷ rs) h = let (a, c) = or-both (onRow b r) (placed b rs) h in rw (content-out (r .blocks) a, contentOf) (content-none rs c)
+
+module _ (o p : List ℕ) where
+  content-in : (l b : ℕ) (xs : List (Block ℕ)) → HasBlocks o p l xs → onBlocksOf b xs ≡ true → contentIn xs b ≡ locatedAt (getD p b 0)
   unfolding contentIn
   content-in l b [] w h = absurd (false≢true h)
   content-in l b (x ∷ xs) w h = ⊎-elim
-      (λ (e : eqb (x .num) b ≡ true). rw (e, contentIn) (ap some (sym (w .0 .stands) ∙ ap (λ (n : ℕ). getD p n 0) (eqb-true (x .num) b e))))
+      (λ (e : eqb (x .num) b ≡ true). rw (e, contentIn) (sym (w .0 .stands) ∙ ap (λ (n : ℕ). locatedAt (getD p n 0)) (eqb-true (x .num) b e)))
       (λ (e : eqb (x .num) b ≡ false). rw (e, contentIn) (content-in l b xs (w .1) (rw e at h)))
       (either (eqb (x .num) b))
 
-  pub content-place : (b : ℕ) (rs : List (Row ℕ)) → HasLists o p rs → placed b rs ≡ true → contentOf rs b ≡ some (getD p b 0)
+  -- block b's content, wherever it is placed, is what its location says
+  pub content-place : (b : ℕ) (rs : List (Row ℕ)) → HasLists o p rs → placed b rs ≡ true → contentOf rs b ≡ locatedAt (getD p b 0)
   unfolding placed contentOf
   content-place b [] w h = absurd (false≢true h)
   content-place b (r ∷ rs) w h = ⊎-elim
-      (λ (e : onRow b r ≡ true). rw (content-in (r .num) b (r .blocks) (w .1) e, contentOf))
+      (λ (e : onRow b r ≡ true). rw (content-in (r .num) b (r .blocks) (w .1) e, contentOf) (go (λ k. content-place b rs (w .2) k) (getD p b 0) refl))
       (λ (e : onRow b r ≡ false). rw (content-out b (r .blocks) e, contentOf) (content-place b rs (w .2) (rw e at h)))
       (either (onRow b r))
+    where
+      go : (placed b rs ≡ true → contentOf rs b ≡ locatedAt (getD p b 0)) → (n : ℕ) → getD p b 0 ≡ n
+          → _≡_ {A = Option ℕ} (elim (locatedAt n) [ none ↦ contentOf rs b | some x ↦ some x ]) (locatedAt n)
+      go ih zero e = ⊎-elim (λ k. ih k ∙ ap locatedAt e) (content-none b rs) (either (placed b rs))
+      go ih (suc n) e = refl
 
 -- The block after another: its node's next one, where that is a block.
 abbrev firstNum : List (Block ℕ) → ℕ
@@ -201,8 +213,8 @@ module _ {t : Tables} where
   pub on-said : {l b : ℕ} {r : Bool} → SaysOn t l b r → OfShown t (λ rs. IsList l → IsBlock b → r ≡ onList l b rs)
   on-said {l} {b} {r} w rs s g h = w .answer ∙ on-own t rs s l b g h
 
-  pub location-said : {b r : ℕ} → SaysLocation t b r → OfShown t (λ rs. placed b rs ≡ true → contentOf rs b ≡ some r)
-  location-said {b} {r} w rs s h = content-place (t .owner) (t .location) b rs (s .has) h ∙ ap some (sym (w .answer))
+  pub location-said : {b r : ℕ} → SaysLocation t b r → OfShown t (λ rs. placed b rs ≡ true → contentOf rs b ≡ locatedAt r)
+  location-said {b} {r} w rs s h = content-place (t .owner) (t .location) b rs (s .has) h ∙ ap locatedAt (sym (w .answer))
 
   pub block-said : {l p r : ℕ} → SaysBlockAfter t l p r → OfShown t (λ rs. taken l rs ≡ true → eqb p 0 || onList l p rs ≡ true → r ≡ nextAfter rs l p)
   block-said {l} {p} {r} w rs s h k = w .answer ∙ block-after t rs s l p h k

@@ -3,7 +3,7 @@
 use mathlib.Core.Path.{_≡_, refl, sym, ap}
 use mathlib.Core.Logic.{⊎-elim}
 use mathlib.Core.Bool.{Bool, true, false, _&&_}
-use mathlib.Core.Option.{Option, none, some}
+use mathlib.Core.Option.{Option, none, some, Option·map}
 use mathlib.Core.List.{List, [], _∷_, map, map-append}
 use Prim.Native.Nat.{ℕ}
 use lib.Dec.{eqb}
@@ -13,11 +13,7 @@ use Rattle.lists.specs.State.{Block, Row, State, block, row, state, isBl
 use Rattle.lists.specs.Lookup.{contentIn, contentOf, blocksOf, nextAfter, listNums}
 use Rattle.lists.proofs.Basic.{either, cond-map, any-map, keep-map}
 
-abbrev pub mapOption : {A B : Type 0} → (A → B) → Option A → Option B
-mapOption f none = none
-mapOption f (some a) = some (f a)
-
-pub guard-map : {A B : Type 0} (f : A → B) (b : Bool) (o : Option A) → guard b (mapOption f o) ≡ mapOption f (guard b o)
+pub guard-map : {A B : Type 0} (f : A → B) (b : Bool) (o : Option A) → guard b (Option·map f o) ≡ Option·map f (guard b o)
 guard-map f true o = refl
 guard-map f false o = refl
 
@@ -37,15 +33,15 @@ module _ {D E : Type 0} (h : D → E) where
   unfolding onList
   onList-map l b rs = any-map (mapRow h) (isRowWith l b) (isRowWith l b) (λ r. ap (λ (t : Bool). isRow l r && t) (on-map b r)) rs
 
-  insert-map : (p b : ℕ) (z : D) (xs : List (Block D)) → insertAfter p (block b (h z)) (map (mapBlock h) xs) ≡ map (mapBlock h) (insertAfter p (block b z) xs)
-  insert-map p b z [] = refl
-  insert-map p b z (x ∷ xs) =
-      rw (insert-map p b z xs) (sym (cond-map (map (mapBlock h)) (eqb (x .num) p) (x ∷ block b z ∷ xs) (x ∷ insertAfter p (block b z) xs)))
+  insert-map : (p b : ℕ) (xs : List (Block D)) → insertAfter p (block b none) (map (mapBlock h) xs) ≡ map (mapBlock h) (insertAfter p (block b none) xs)
+  insert-map p b [] = refl
+  insert-map p b (x ∷ xs) =
+      rw (insert-map p b xs) (sym (cond-map (map (mapBlock h)) (eqb (x .num) p) (x ∷ block b none ∷ xs) (x ∷ insertAfter p (block b none) xs)))
 
   put-map : (b : ℕ) (d : D) (xs : List (Block D)) → map (put b (h d)) (map (mapBlock h) xs) ≡ map (mapBlock h) (map (put b d) xs)
   put-map b d [] = refl
   put-map b d (x ∷ xs) =
-      rw (put-map b d xs) (ap (λ (y : Block E). y ∷ map (mapBlock h) (map (put b d) xs)) (sym (cond-map (mapBlock h) (eqb (x .num) b) (block b d) x)))
+      rw (put-map b d xs) (ap (λ (y : Block E). y ∷ map (mapBlock h) (map (put b d) xs)) (sym (cond-map (mapBlock h) (eqb (x .num) b) (block b (some d)) x)))
 
   module _ (f : List (Block D) → List (Block D)) (g : List (Block E) → List (Block E)) (k : (xs : List (Block D)) → g (map (mapBlock h) xs) ≡ map (mapBlock h) (f xs)) where
     at-map : (l : ℕ) (rs : List (Row D)) → map (at l g) (map (mapRow h) rs) ≡ map (mapRow h) (map (at l f) rs)
@@ -66,7 +62,7 @@ module _ {D E : Type 0} (h : D → E) where
   change-comp f (delBlock b) = refl
   change-comp f (delList l) = refl
 
-  pub carriedBy-map : (c : Change D) → carriedBy (mapChange h c) ≡ mapOption h (carriedBy c)
+  pub carriedBy-map : (c : Change D) → carriedBy (mapChange h c) ≡ Option·map h (carriedBy c)
   unfolding mapChange carriedBy
   carriedBy-map (takeList l) = refl
   carriedBy-map (putFirst b l) = refl
@@ -75,14 +71,14 @@ module _ {D E : Type 0} (h : D → E) where
   carriedBy-map (delBlock b) = refl
   carriedBy-map (delList l) = refl
 
-  pub changed-map : (z : D) (c : Change D) (rs : List (Row D)) → changed (h z) (mapChange h c) (map (mapRow h) rs) ≡ map (mapRow h) (changed z c rs)
+  pub changed-map : (c : Change D) (rs : List (Row D)) → changed (mapChange h c) (map (mapRow h) rs) ≡ map (mapRow h) (changed c rs)
   unfolding changed mapChange
-  changed-map z (takeList l) rs = sym (map-append (mapRow h) rs (row l [] ∷ []))
-  changed-map z (putFirst b l) rs = at-map (λ bs. block b z ∷ bs) (λ bs. block b (h z) ∷ bs) (λ xs. refl) l rs
-  changed-map z (putAfter b l p) rs = at-map (insertAfter p (block b z)) (insertAfter p (block b (h z))) (insert-map p b z) l rs
-  changed-map z (write b d) rs = rows-map (map (put b d)) (map (put b (h d))) (put-map b d) rs
-  changed-map z (delBlock b) rs = rows-map (keep (otherBlock b)) (keep (otherBlock b)) (keep-map (mapBlock h) (otherBlock b) (otherBlock b) (λ x. refl)) rs
-  changed-map z (delList l) rs = keep-map (mapRow h) (otherRow l) (otherRow l) (λ r. refl) rs
+  changed-map (takeList l) rs = sym (map-append (mapRow h) rs (row l [] ∷ []))
+  changed-map (putFirst b l) rs = at-map (λ bs. block b none ∷ bs) (λ bs. block b none ∷ bs) (λ xs. refl) l rs
+  changed-map (putAfter b l p) rs = at-map (insertAfter p (block b none)) (insertAfter p (block b none)) (insert-map p b) l rs
+  changed-map (write b d) rs = rows-map (map (put b d)) (map (put b (h d))) (put-map b d) rs
+  changed-map (delBlock b) rs = rows-map (keep (otherBlock b)) (keep (otherBlock b)) (keep-map (mapBlock h) (otherBlock b) (otherBlock b) (λ x. refl)) rs
+  changed-map (delList l) rs = keep-map (mapRow h) (otherRow l) (otherRow l) (λ r. refl) rs
 
   pub applies-map : (c : Change D) (rs : List (Row D)) → applies (mapChange h c) (map (mapRow h) rs) ≡ applies c rs
   unfolding applies mapChange
@@ -93,29 +89,29 @@ module _ {D E : Type 0} (h : D → E) where
   applies-map (delBlock b) rs = placed-map b rs
   applies-map (delList l) rs = taken-map l rs
 
-  pub apply-map : (z : D) (c : Change D) (s : State D) → apply (h z) (mapChange h c) (mapState h s) ≡ mapOption (mapState h) (apply z c s)
+  pub apply-map : (c : Change D) (s : State D) → apply (mapChange h c) (mapState h s) ≡ Option·map (mapState h) (apply c s)
   unfolding apply
-  apply-map z c s = rw (applies-map c (s .lists), changed-map z c (s .lists)) (guard-map (mapState h) (applies c (s .lists)) (some (state (changed z c (s .lists)))))
+  apply-map c s = rw (applies-map c (s .lists), changed-map c (s .lists)) (guard-map (mapState h) (applies c (s .lists)) (some (state (changed c (s .lists)))))
 
-  pub applyAll-map : (z : D) (cs : List (Change D)) (s : State D) → applyAll (h z) (map (mapChange h) cs) (mapState h s) ≡ mapOption (mapState h) (applyAll z cs s)
+  pub applyAll-map : (cs : List (Change D)) (s : State D) → applyAll (map (mapChange h) cs) (mapState h s) ≡ Option·map (mapState h) (applyAll cs s)
   unfolding applyAll
-  applyAll-map z [] s = refl
-  applyAll-map z (c ∷ cs) s = rw (apply-map z c s) (go (λ t. applyAll-map z cs t) (apply z c s))
+  applyAll-map [] s = refl
+  applyAll-map (c ∷ cs) s = rw (apply-map c s) (go (λ t. applyAll-map cs t) (apply c s))
     where
-      go : ((t : State D) → applyAll (h z) (map (mapChange h) cs) (mapState h t) ≡ mapOption (mapState h) (applyAll z cs t)) → (o : Option (State D))
-          → bind (mapOption (mapState h) o) (λ t. applyAll (h z) (map (mapChange h) cs) t) ≡ mapOption (mapState h) (bind o (λ t. applyAll z cs t))
+      go : ((t : State D) → applyAll (map (mapChange h) cs) (mapState h t) ≡ Option·map (mapState h) (applyAll cs t)) → (o : Option (State D))
+          → bind (Option·map (mapState h) o) (λ t. applyAll (map (mapChange h) cs) t) ≡ Option·map (mapState h) (bind o (λ t. applyAll cs t))
       go ih none = refl
       go ih (some t) = ih t
 
-  orElse-map : (s : State D) (o : Option (State D)) → orElse (mapState h s) (mapOption (mapState h) o) ≡ mapState h (orElse s o)
+  orElse-map : (s : State D) (o : Option (State D)) → orElse (mapState h s) (Option·map (mapState h) o) ≡ mapState h (orElse s o)
   unfolding orElse
   orElse-map s none = refl
   orElse-map s (some t) = refl
 
-  pub overlay-map : (z : D) (cs : List (Change D)) (s : State D) → overlay (h z) (map (mapChange h) cs) (mapState h s) ≡ mapState h (overlay z cs s)
+  pub overlay-map : (cs : List (Change D)) (s : State D) → overlay (map (mapChange h) cs) (mapState h s) ≡ mapState h (overlay cs s)
   unfolding overlay
-  overlay-map z [] s = refl
-  overlay-map z (c ∷ cs) s = rw (overlay, apply-map z c s, orElse-map s (apply z c s)) (overlay-map z cs (orElse s (apply z c s)))
+  overlay-map [] s = refl
+  overlay-map (c ∷ cs) s = rw (overlay, apply-map c s, orElse-map s (apply c s)) (overlay-map cs (orElse s (apply c s)))
 
   -- what is looked up
   nums-map : (xs : List (Block D)) → map (λ x. x .num) (map (mapBlock h) xs) ≡ map (λ x. x .num) xs
@@ -139,7 +135,7 @@ module _ {D E : Type 0} (h : D → E) where
   listNums-map [] = refl
   listNums-map (r ∷ rs) = ap {B = List ℕ} (λ ns. r .num ∷ ns) (listNums-map rs)
 
-  contentIn-map : (xs : List (Block D)) (b : ℕ) → contentIn (map (mapBlock h) xs) b ≡ mapOption h (contentIn xs b)
+  contentIn-map : (xs : List (Block D)) (b : ℕ) → contentIn (map (mapBlock h) xs) b ≡ Option·map h (contentIn xs b)
   unfolding contentIn
   contentIn-map [] b = refl
   contentIn-map (x ∷ xs) b = ⊎-elim
@@ -147,12 +143,12 @@ module _ {D E : Type 0} (h : D → E) where
       (λ (e : eqb (x .num) b ≡ false). rw (e, contentIn) (contentIn-map xs b))
       (either (eqb (x .num) b))
 
-  pub contentOf-map : (rs : List (Row D)) (b : ℕ) → contentOf (map (mapRow h) rs) b ≡ mapOption h (contentOf rs b)
+  pub contentOf-map : (rs : List (Row D)) (b : ℕ) → contentOf (map (mapRow h) rs) b ≡ Option·map h (contentOf rs b)
   unfolding contentOf
   contentOf-map [] b = refl
   contentOf-map (r ∷ rs) b = rw (contentIn-map (r .blocks) b, contentOf) (go (contentOf-map rs b) (contentIn (r .blocks) b))
     where
-      go : contentOf (map (mapRow h) rs) b ≡ mapOption h (contentOf rs b) → (o : Option D)
-          → _≡_ {A = Option E} (elim (mapOption h o) [ none ↦ contentOf (map (mapRow h) rs) b | some x ↦ some x ]) (mapOption h (elim o [ none ↦ contentOf rs b | some x ↦ some x ]))
+      go : contentOf (map (mapRow h) rs) b ≡ Option·map h (contentOf rs b) → (o : Option D)
+          → _≡_ {A = Option E} (elim (Option·map h o) [ none ↦ contentOf (map (mapRow h) rs) b | some x ↦ some x ]) (Option·map h (elim o [ none ↦ contentOf rs b | some x ↦ some x ]))
       go ih none = ih
       go ih (some x) = refl

@@ -2,6 +2,7 @@
 use mathlib.Core.Path.{_≡_, refl, sym, ap, _∙_}
 use mathlib.Core.Logic.{⊎-elim}
 use mathlib.Core.Bool.{Bool, true, false, _&&_, cond, true≢false, false≢true}
+use mathlib.Core.Option.{some}
 use mathlib.Core.List.{List, [], _∷_, _++_, map, append-assoc}
 use Prim.Native.Nat.{ℕ, _+_}
 use lib.Dec.{eqb}
@@ -188,7 +189,7 @@ row-at l (r ∷ rs) h a = ⊎-elim
 put-num : (b d : ℕ) (x : Block ℕ) → (put b d x) .num ≡ x .num
 put-num b d x = go (eqb (x .num) b) refl
   where
-    go : (t : Bool) → eqb (x .num) b ≡ t → (cond t (block b d) x) .num ≡ x .num
+    go : (t : Bool) → eqb (x .num) b ≡ t → (cond t (block b (some d)) x) .num ≡ x .num
     go true e = sym (eqb-true (x .num) b e)
     go false e = refl
 

@@ -43,36 +43,36 @@ module _ {D : Type 0} (p : ℕ → Bool) where
       go true a ih = rw a ih
       go false a ih = ih
 
-  changed-numbered : (z : D) (c : Change D) (rs : List (Row D)) → mayTake c ≡ true → numbered rs ≡ true → numbered (changed z c rs) ≡ true
+  changed-numbered : (c : Change D) (rs : List (Row D)) → mayTake c ≡ true → numbered rs ≡ true → numbered (changed c rs) ≡ true
   unfolding changed all
-  changed-numbered z (takeList l) rs m h = all-append (λ r. p (r .num)) rs (row l [] ∷ []) h (rw m)
-  changed-numbered z (putFirst b l) rs m h = map-numbered (at l (λ bs. block b z ∷ bs)) (at-num l (λ bs. block b z ∷ bs)) rs h
-  changed-numbered z (putAfter b l q) rs m h = map-numbered (at l (insertAfter q (block b z))) (at-num l (insertAfter q (block b z))) rs h
-  changed-numbered z (write b d) rs m h = map-numbered (onBlocks (map (put b d))) (λ r. refl) rs h
-  changed-numbered z (delBlock b) rs m h = map-numbered (onBlocks (keep (otherBlock b))) (λ r. refl) rs h
-  changed-numbered z (delList l) rs m h = keep-numbered (otherRow l) rs h
+  changed-numbered (takeList l) rs m h = all-append (λ r. p (r .num)) rs (row l [] ∷ []) h (rw m)
+  changed-numbered (putFirst b l) rs m h = map-numbered (at l (λ bs. block b none ∷ bs)) (at-num l (λ bs. block b none ∷ bs)) rs h
+  changed-numbered (putAfter b l q) rs m h = map-numbered (at l (insertAfter q (block b none))) (at-num l (insertAfter q (block b none))) rs h
+  changed-numbered (write b d) rs m h = map-numbered (onBlocks (map (put b d))) (λ r. refl) rs h
+  changed-numbered (delBlock b) rs m h = map-numbered (onBlocks (keep (otherBlock b))) (λ r. refl) rs h
+  changed-numbered (delList l) rs m h = keep-numbered (otherRow l) rs h
 
-  pub apply-numbered : (z : D) (c : Change D) (s t : State D) → mayTake c ≡ true → apply z c s ≡ some t → numbered (s .lists) ≡ true → numbered (t .lists) ≡ true
-  apply-numbered z c s t m e h = let (a, f) = apply-some z c s t e in rw f (changed-numbered z c (s .lists) m h)
+  pub apply-numbered : (c : Change D) (s t : State D) → mayTake c ≡ true → apply c s ≡ some t → numbered (s .lists) ≡ true → numbered (t .lists) ≡ true
+  apply-numbered c s t m e h = let (a, f) = apply-some c s t e in rw f (changed-numbered c (s .lists) m h)
 
-  pub applyAll-numbered : (z : D) (cs : List (Change D)) (s t : State D) → all mayTake cs ≡ true → applyAll z cs s ≡ some t → numbered (s .lists) ≡ true → numbered (t .lists) ≡ true
+  pub applyAll-numbered : (cs : List (Change D)) (s t : State D) → all mayTake cs ≡ true → applyAll cs s ≡ some t → numbered (s .lists) ≡ true → numbered (t .lists) ≡ true
   unfolding applyAll all
-  applyAll-numbered z [] s t m e h = subst (λ (x : State D). numbered (x .lists) ≡ true) (Option·some-injective _ _ e) h
-  applyAll-numbered z (c ∷ cs) s t m e h =
-      let (u, f, g) = bind-some (apply z c s) (λ x. applyAll z cs x) t e in
+  applyAll-numbered [] s t m e h = subst (λ (x : State D). numbered (x .lists) ≡ true) (Option·some-injective _ _ e) h
+  applyAll-numbered (c ∷ cs) s t m e h =
+      let (u, f, g) = bind-some (apply c s) (λ x. applyAll cs x) t e in
       let (a, b) = and-true (mayTake c) (all mayTake cs) m in
-      applyAll-numbered z cs u t b g (apply-numbered z c s u a f h)
+      applyAll-numbered cs u t b g (apply-numbered c s u a f h)
 
-  pub overlay-numbered : (z : D) (cs : List (Change D)) (s : State D) → all mayTake cs ≡ true → numbered (s .lists) ≡ true → numbered (overlay z cs s .lists) ≡ true
+  pub overlay-numbered : (cs : List (Change D)) (s : State D) → all mayTake cs ≡ true → numbered (s .lists) ≡ true → numbered (overlay cs s .lists) ≡ true
   unfolding overlay orElse all
-  overlay-numbered z [] s m h = h
-  overlay-numbered z (c ∷ cs) s m h =
+  overlay-numbered [] s m h = h
+  overlay-numbered (c ∷ cs) s m h =
       let (a, b) = and-true (mayTake c) (all mayTake cs) m in
-      overlay-numbered z cs (orElse s (apply z c s)) b (go a (apply z c s) refl)
+      overlay-numbered cs (orElse s (apply c s)) b (go a (apply c s) refl)
     where
-      go : mayTake c ≡ true → (o : Option (State D)) → apply z c s ≡ o → numbered (orElse s o .lists) ≡ true
+      go : mayTake c ≡ true → (o : Option (State D)) → apply c s ≡ o → numbered (orElse s o .lists) ≡ true
       go a none e = h
-      go a (some t) e = apply-numbered z c s t a e h
+      go a (some t) e = apply-numbered c s t a e h
 
 -- Lists counted by their numbers.
 module _ {A : Type 0} where

@@ -1,16 +1,17 @@
 -- Owners and places: how the tables have lists and their blocks, what a change of either table leaves of that, and what the owners say of a state.
-use mathlib.Core.Path.{_≡_, refl, _∙_}
+use mathlib.Core.Path.{_≡_, refl, ap, _∙_}
 use mathlib.Core.Logic.{⊎-elim}
 use mathlib.Core.Bool.{Bool, true, false, _&&_, cond, false≢true}
+use mathlib.Core.Option.{some}
 use mathlib.Core.List.{List, [], _∷_, _++_, map}
-use Prim.Native.Nat.{ℕ, _+_, _≤_, _<_}
+use Prim.Native.Nat.{ℕ, zero, suc, _+_, _≤_, _<_}
 use native.Mathlib.Omega.{arith}
 use lib.Dec.{eqb}
 use lib.ListN.{length, getD, set}
 use lib.Seq.{getD-set-other, getD-set-same}
 use Rattle.lists.specs.Basic.{keep}
 use Rattle.lists.specs.State.{Block, Row, onRow, onBlocksOf, taken, placed, onList, insertAfter, at, put, onBlocks, otherBlock, block}
-use Rattle.lists.specs.promises.Tables.{Away, HasBlock, HasBlocks, HasLists, IsList, blockNodes, nodes}
+use Rattle.lists.specs.promises.Tables.{Away, HasBlock, HasBlocks, HasLists, IsList, blockNodes, nodes, locatedAt}
 use Rattle.lists.proofs.Basic.{either, or-both, or-cases, or-right, and-true, eqb-true, eqb-neq, eq-true}
 use Rattle.lists.proofs.Chain.{away-append}
 
@@ -43,7 +44,7 @@ module _ (o q p r : List ℕ) where
   blocks-same : (l : ℕ) (xs : List (Block ℕ)) → Same o q (blockNodes xs) → Same p r (blockNodes xs) → HasBlocks o p l xs → HasBlocks q r l xs
   blocks-same l [] h k w = tt
   blocks-same l (x ∷ xs) h k w = (
-    record { range = w .0 .range; owned = h .0 ∙ w .0 .owned; stands = k .0 ∙ w .0 .stands },
+    record { range = w .0 .range; owned = h .0 ∙ w .0 .owned; stands = ap locatedAt (k .0) ∙ w .0 .stands },
     blocks-same l xs (h .1) (k .1) (w .1),
   )
 
@@ -98,14 +99,18 @@ module _ (o p : List ℕ) where
   has-keep b [] h = tt
   has-keep b (r ∷ rs) h = (record { range = h .0 .range; owned = h .0 .owned }, blocks-keep (r .num) b (r .blocks) (h .1), has-keep b rs (h .2))
 
+pub located-some : (d : ℕ) → 1 ≤ d → locatedAt d ≡ some d
+located-some zero h = absurd (omega arith)
+located-some (suc d) h = refl
+
 -- the content of block b stands at location d
-module _ (o p : List ℕ) (b d : ℕ) (g : b < length p) where
+module _ (o p : List ℕ) (b d : ℕ) (g : b < length p) (f : 1 ≤ d) where
   block-write : (l : ℕ) (x : Block ℕ) → HasBlock o p l x → HasBlock o (set p b d) l (put b d x)
   block-write l x k = go (eqb (x .num) b) refl
     where
-      go : (u : Bool) → eqb (x .num) b ≡ u → HasBlock o (set p b d) l (cond u (block b d) x)
-      go true e = let q : x .num ≡ b = eqb-true (x .num) b e in record { range = rw q at (k .range); owned = rw q at (k .owned); stands = getD-set-same p b d 0 g }
-      go false e = record { range = k .range; owned = k .owned; stands = getD-set-other p b (x .num) d 0 (eqb-neq (x .num) b e) ∙ k .stands }
+      go : (u : Bool) → eqb (x .num) b ≡ u → HasBlock o (set p b d) l (cond u (block b (some d)) x)
+      go true e = let q : x .num ≡ b = eqb-true (x .num) b e in record { range = rw q at (k .range); owned = rw q at (k .owned); stands = ap locatedAt (getD-set-same p b d 0 g) ∙ located-some d f }
+      go false e = record { range = k .range; owned = k .owned; stands = ap locatedAt (getD-set-other p b (x .num) d 0 (eqb-neq (x .num) b e)) ∙ k .stands }
 
   blocks-write : (l : ℕ) (xs : List (Block ℕ)) → HasBlocks o p l xs → HasBlocks o (set p b d) l (map (put b d) xs)
   blocks-write l [] h = tt

@@ -12,7 +12,7 @@ use lib.Seq.{getD-set-other, getD-set-same}
 use Rattle.lists.specs.Basic.{bind, keep, orElse}
 use Rattle.lists.specs.Change.{Change, takeList, putFirst, putAfter, write, delBlock, delList}
 use Rattle.lists.specs.State.{State, Block, Row, taken, placed, onList, insertAfter, at, put, onBlocks, otherBlock, otherRow, block, row, changed, applies, apply}
-use Rattle.lists.specs.promises.Tables.{Tables, tables, nextOf, prevOf, ownerOf, insertNode, cutNodes, locate, cleared, freeNodes, cutList, putFits, putDone, suits, done, Did, Away, Apart, Linked, blockNodes, nodes, chain, IsBlock, IsList, HasBlock, HasBlocks, HasLists, Sized, Shows, Ranged, Represents}
+use Rattle.lists.specs.promises.Tables.{Tables, tables, nextOf, prevOf, ownerOf, insertNode, cutNodes, withLocation, cleared, freeNodes, cutList, putFits, putDone, suits, done, Did, Away, Apart, Linked, blockNodes, nodes, chain, IsBlock, IsList, HasBlock, HasBlocks, HasLists, Sized, Shows, Ranged, Represents, locatedAt}
 use Rattle.lists.proofs.Basic.{either, or-both, and-true, not-false, eqb-true, eqb-neq, getD-same, and-swap, and-implied, not-not}
 use Rattle.lists.proofs.Chain.{Small, headOf, last, away-left, away-right, away-append, apart-left, apart-right, apart-insert, apart-cut, apart-middle, small-left, small-right, last-snoc, next-at, prev-at, linked-tail, linked-insert, linked-cut}
 use Rattle.lists.proofs.Nodes.{Grown, nodes-append, nodes-write, first-grown, after-grown, block-shrunk, row-at, onList-taken}
@@ -86,11 +86,11 @@ module _ (t : Tables) (rs : List (Row ℕ)) (s : Shows t rs) where
   has-new : (n l d : ℕ) → Away n (nodes rs) → HasLists (set (t .owner) n l) (set (t .location) n d) rs
   has-new n l d h = has-same (t .owner) (set (t .owner) n l) (t .location) (set (t .location) n d) rs (same-set (t .owner) n l (nodes rs) h) (same-set (t .location) n d (nodes rs) h) (s .has)
 
-  new-block : (b l d : ℕ) → IsBlock b → HasBlock (set (t .owner) b l) (set (t .location) b d) l (block b d)
+  new-block : (b l d : ℕ) → IsBlock b → HasBlock (set (t .owner) b l) (set (t .location) b d) l (block b (locatedAt d))
   new-block b l d g = record {
     range = g;
     owned = getD-set-same (t .owner) b l 0 (omega (arith, s .sized .owner));
-    stands = getD-set-same (t .location) b d 0 (omega (arith, s .sized .location));
+    stands = ap locatedAt (getD-set-same (t .location) b d 0 (omega (arith, s .sized .location)));
   }
 
   shows-take : (l : ℕ) → IsList l → taken l rs ≡ false → Shows (insertNode (prevOf t 255) (64 + l) l t) (rs ++ row l [] ∷ [])
@@ -104,22 +104,21 @@ module _ (t : Tables) (rs : List (Row ℕ)) (s : Shows t rs) where
       (record { range = g; owned = getD-set-same (t .owner) (64 + l) l 0 (omega (arith, s .sized .owner)) }, tt, tt))
 
   shows-put : (b l x d : ℕ) (f : List (Block ℕ) → List (Block ℕ)) → IsBlock b → placed b rs ≡ false → Grown (nodes rs) (nodes (map (at l f) rs)) x b
-      → ((o p : List ℕ) → HasBlock o p l (block b d) → (xs : List (Block ℕ)) → HasBlocks o p l xs → HasBlocks o p l (f xs))
-      → Shows (locate b d (insertNode x b l t)) (map (at l f) rs)
-  unfolding insertNode locate
+      → ((o p : List ℕ) → HasBlock o p l (block b (locatedAt d)) → (xs : List (Block ℕ)) → HasBlocks o p l xs → HasBlocks o p l (f xs))
+      → Shows (withLocation b d (insertNode x b l t)) (map (at l f) rs)
+  unfolding insertNode
   shows-put b l x d f g h w k =
       let a : Away b (nodes rs) = unplaced-away (t .owner) (t .location) b rs (g .1) (s .has) h in
       shows-insert t rs (map (at l f) rs) s (w .front ++ x ∷ []) (w .back) x b l (set (t .location) b d)
       (w .was ∙ simp append-assoc) (w .now ∙ simp append-assoc) (last-snoc 0 (w .front) x) (g .0) (omega arith) a (simp length-set (s .sized .location))
       (has-at (set (t .owner) b l) (set (t .location) b d) l f (k (set (t .owner) b l) (set (t .location) b d) (new-block b l d g)) rs (has-new b l d a))
 
-  shows-write : (b d : ℕ) → IsBlock b → Shows (locate b d t) (map (onBlocks (map (put b d))) rs)
-  unfolding locate
-  shows-write b d g = record {
+  shows-write : (b d : ℕ) → IsBlock b → 1 ≤ d → Shows (withLocation b d t) (map (onBlocks (map (put b d))) rs)
+  shows-write b d g f = record {
     sized = record { next = s .sized .next; prev = s .sized .prev; owner = s .sized .owner; location = simp length-set (s .sized .location) };
     apart = rw (nodes-write b d rs) (s .apart);
     linked = rw (nodes-write b d rs) (s .linked);
-    has = has-write (t .owner) (t .location) b d (omega (arith, s .sized .location)) rs (s .has);
+    has = has-write (t .owner) (t .location) b d (omega (arith, s .sized .location)) f rs (s .has);
     free = λ m h. s .free m (rw (nodes-write b d rs) at h);
   }
 
@@ -193,19 +192,19 @@ module _ (t : Tables) (rs : List (Row ℕ)) (s : Shows t rs) where
       (λ u. s .free m (rw was (away-append m A (S ++ B) (away-left m A B z) (away-append m S B u (away-right m A B z)))))) in
       rw (taken-owner (t .owner) (t .location) l rs (s .has) h, q) done
 
-  shows-done : (c : Change ℕ) → Ranged c → applies c rs ≡ true → Shows (done c t) (changed 0 c rs)
+  shows-done : (c : Change ℕ) → Ranged c → applies c rs ≡ true → Shows (done c t) (changed c rs)
   unfolding applies changed done putDone
   shows-done (takeList l) g h = rw (node-of l (g .1)) (shows-take l g (not-false (taken l rs) h))
   shows-done (putFirst b l) g h =
       let (p, q) = and-true (taken l rs) (not (placed b rs)) h in
       rw (node-of l (g .1 .1))
-      (shows-put b l (64 + l) 0 (λ bs. block b 0 ∷ bs) (g .0) (not-false (placed b rs) q) (first-grown l (block b 0) rs p apart-nodes) (λ o v k xs w. (k, w)))
+      (shows-put b l (64 + l) 0 (λ bs. block b none ∷ bs) (g .0) (not-false (placed b rs) q) (first-grown l (block b none) rs p apart-nodes) (λ o v k xs w. (k, w)))
   shows-done (putAfter b l p) g h =
       let (u, v) = and-true (taken l rs && not (placed b rs)) (onList l p rs) h in
       let (x, y) = and-true (taken l rs) (not (placed b rs)) u in
-      shows-put b l p 0 (insertAfter p (block b 0)) (g .0) (not-false (placed b rs) y) (after-grown l p (block b 0) rs v apart-nodes)
-      (λ o q k xs w. blocks-after o q l p (block b 0) k xs w)
-  shows-done (write b d) g h = shows-write b d g
+      shows-put b l p 0 (insertAfter p (block b none)) (g .0) (not-false (placed b rs) y) (after-grown l p (block b none) rs v apart-nodes)
+      (λ o q k xs w. blocks-after o q l p (block b none) k xs w)
+  shows-done (write b d) g h = shows-write b d (g .0) (g .1)
   shows-done (delBlock b) g h = shows-delBlock b g h
   shows-done (delList l) g h = rw (node-of l (g .1)) (shows-delList l g h)
 
@@ -215,13 +214,13 @@ module _ (t : Tables) (rs : List (Row ℕ)) (s : Shows t rs) where
   fits-applies (putFirst b l) g = rw (placed-free t rs s b (g .0), taken-own t rs s l (g .1)) (and-swap (not (placed b rs)) (taken l rs))
   fits-applies (putAfter b l p) g =
       rw (placed-free t rs s b (g .0), on-own t rs s l p (g .1) (g .2)) (and-implied (taken l rs) (not (placed b rs)) (onList l p rs) (onList-taken l p rs))
-  fits-applies (write b d) g = rw (placed-free t rs s b g) (not-not (placed b rs))
+  fits-applies (write b d) g = rw (placed-free t rs s b (g .0)) (not-not (placed b rs))
   fits-applies (delBlock b) g = rw (placed-free t rs s b g) (not-not (placed b rs))
   fits-applies (delList l) g = rw (taken-free t rs s l g) (not-not (taken l rs))
 
 -- A function that acts, and the state.
 module _ (c : Change ℕ) (t : Tables) (r : Bool) (u : Tables) (s : State ℕ) (g : Ranged c) (h : Shows t (s .lists)) (d : Did c t r u) where
-  pub did-apply : Represents (apply 0 c s) r u
+  pub did-apply : Represents (apply c s) r u
   unfolding apply
   did-apply = ⊎-elim
       (λ e. rw e (d .answer ∙ fits-applies t (s .lists) h c g ∙ e, rw (d .left, fits-applies t (s .lists) h c g, e) (shows-done t (s .lists) h c g e)))
@@ -229,7 +228,7 @@ module _ (c : Change ℕ) (t : Tables) (r : Bool) (u : Tables) (s : State ℕ) (
       (either (applies c (s .lists)))
 
   -- where it is skipped if it does not apply
-  pub did-overlay : Shows u (orElse s (apply 0 c s) .lists)
+  pub did-overlay : Shows u (orElse s (apply c s) .lists)
   unfolding apply orElse
   did-overlay = ⊎-elim
       (λ e. rw (d .left, fits-applies t (s .lists) h c g) (rw e (shows-done t (s .lists) h c g e)))

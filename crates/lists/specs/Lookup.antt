@@ -1,20 +1,25 @@
 -- What is looked up in a state: the content of a block, the block after another on its list, the lists in the order of their taking.
-use mathlib.Core.Bool.{true, false}
+use mathlib.Core.Bool.{Bool, true, false}
 use mathlib.Core.Option.{Option, none, some}
 use mathlib.Core.List.{List, [], _∷_, map}
 use Prim.Native.Nat.{ℕ}
 use lib.Dec.{eqb}
 use lib.ListN.{getD}
+use Rattle.lists.specs.Basic.{isSome}
 use Rattle.lists.specs.State.{Block, Row}
 
--- the content of block b
+-- the content of block b; none where it is on no list, or "was not written since its present put"
 unfoldable pub contentIn : {D : Type 0} → List (Block D) → ℕ → Option D
 contentIn [] b = none
-contentIn (x ∷ xs) b = elim (eqb (x .num) b) [ true ↦ some (x .content) | false ↦ contentIn xs b ]
+contentIn (x ∷ xs) b = elim (eqb (x .num) b) [ true ↦ x .content | false ↦ contentIn xs b ]
 
 unfoldable pub contentOf : {D : Type 0} → List (Row D) → ℕ → Option D
 contentOf [] b = none
 contentOf (r ∷ rs) b = elim (contentIn (r .blocks) b) [ none ↦ contentOf rs b | some x ↦ some x ]
+
+-- is it written?
+unfoldable pub written : {D : Type 0} → ℕ → List (Row D) → Bool
+written b rs = isSome (contentOf rs b)
 
 -- the numbers of list l's blocks, in order
 unfoldable pub blocksOf : {D : Type 0} → List (Row D) → ℕ → List ℕ

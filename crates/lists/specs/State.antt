@@ -1,16 +1,16 @@
--- What a state is, and how a change acts on it. D is what stands for a block's content; z is the blank one.
+-- What a state is, and how a change acts on it. D is what stands for the content that a write carries.
 use mathlib.Core.Bool.{Bool, true, false, _&&_, _||_, not, cond}
-use mathlib.Core.Option.{Option, none, some}
+use mathlib.Core.Option.{Option, none, some, Option·map}
 use mathlib.Core.List.{List, [], _∷_, _++_, map}
 use Prim.Native.Nat.{ℕ}
 use lib.Dec.{eqb}
 use Rattle.lists.specs.Basic.{guard, bind, orElse, any, keep}
 use Rattle.lists.specs.Change.{Change, takeList, putFirst, putAfter, write, delBlock, delList}
 
--- "A state is the lists taken, the blocks on each in order, and 256 bytes for each such block."
+-- "A state is the lists taken, the blocks on each in order, and 256 bytes for each such block" that was "written since its present put".
 pub record Block (D : Type 0) : Type 0 where
   pub num : ℕ
-  pub content : D
+  pub content : Option D
 
 -- a list taken, with its blocks in order
 pub record Row (D : Type 0) : Type 0 where
@@ -21,7 +21,7 @@ pub record Row (D : Type 0) : Type 0 where
 pub record State (D : Type 0) : Type 0 where
   pub lists : List (Row D)
 
-abbrev pub block : {D : Type 0} → ℕ → D → Block D
+abbrev pub block : {D : Type 0} → ℕ → Option D → Block D
 block b d = record { num = b; content = d }
 
 abbrev pub row : {D : Type 0} → ℕ → List (Block D) → Row D
@@ -77,7 +77,7 @@ abbrev pub at : {D : Type 0} → ℕ → (List (Block D) → List (Block D)) →
 at l f r = cond (isRow l r) (onBlocks f r) r
 
 abbrev pub put : {D : Type 0} → ℕ → D → Block D → Block D
-put b d x = cond (isBlockNum b x) (block b d) x
+put b d x = cond (isBlockNum b x) (block b (some d)) x
 
 abbrev pub otherBlock : {D : Type 0} → ℕ → Block D → Bool
 otherBlock b x = not (isBlockNum b x)
@@ -85,31 +85,31 @@ otherBlock b x = not (isBlockNum b x)
 abbrev pub otherRow : {D : Type 0} → ℕ → Row D → Bool
 otherRow l r = not (isRow l r)
 
--- The lists after a change that applies: "a block just put holds 256 zeros", here z. "Deleting a list frees its blocks too."
-unfoldable pub changed : {D : Type 0} → D → Change D → List (Row D) → List (Row D)
-changed z (takeList l) rs = rs ++ row l [] ∷ []
-changed z (putFirst b l) rs = map (at l (λ bs. block b z ∷ bs)) rs
-changed z (putAfter b l p) rs = map (at l (insertAfter p (block b z))) rs
-changed z (write b d) rs = map (onBlocks (map (put b d))) rs
-changed z (delBlock b) rs = map (onBlocks (keep (otherBlock b))) rs
-changed z (delList l) rs = keep (otherRow l) rs
+-- The lists after a change that applies. "Deleting a list frees its blocks too."
+unfoldable pub changed : {D : Type 0} → Change D → List (Row D) → List (Row D)
+changed (takeList l) rs = rs ++ row l [] ∷ []
+changed (putFirst b l) rs = map (at l (λ bs. block b none ∷ bs)) rs
+changed (putAfter b l p) rs = map (at l (insertAfter p (block b none))) rs
+changed (write b d) rs = map (onBlocks (map (put b d))) rs
+changed (delBlock b) rs = map (onBlocks (keep (otherBlock b))) rs
+changed (delList l) rs = keep (otherRow l) rs
 
-unfoldable pub apply : {D : Type 0} → D → Change D → State D → Option (State D)
-apply z c s = guard (applies c (s .lists)) (some (state (changed z c (s .lists))))
+unfoldable pub apply : {D : Type 0} → Change D → State D → Option (State D)
+apply c s = guard (applies c (s .lists)) (some (state (changed c (s .lists))))
 
 -- changes in order, all of which must apply
-unfoldable pub applyAll : {D : Type 0} → D → List (Change D) → State D → Option (State D)
-applyAll z [] s = some s
-applyAll z (c ∷ cs) s = bind (apply z c s) (λ t. applyAll z cs t)
+unfoldable pub applyAll : {D : Type 0} → List (Change D) → State D → Option (State D)
+applyAll [] s = some s
+applyAll (c ∷ cs) s = bind (apply c s) (λ t. applyAll cs t)
 
 -- "replayed in order; an entry that doesn't apply is skipped"
-unfoldable pub overlay : {D : Type 0} → D → List (Change D) → State D → State D
-overlay z [] s = s
-overlay z (c ∷ cs) s = overlay z cs (orElse s (apply z c s))
+unfoldable pub overlay : {D : Type 0} → List (Change D) → State D → State D
+overlay [] s = s
+overlay (c ∷ cs) s = overlay cs (orElse s (apply c s))
 
 -- a state with other contents
 abbrev pub mapBlock : {D E : Type 0} → (D → E) → Block D → Block E
-mapBlock h x = block (x .num) (h (x .content))
+mapBlock h x = block (x .num) (Option·map h (x .content))
 
 abbrev pub mapRow : {D E : Type 0} → (D → E) → Row D → Row E
 mapRow h r = row (r .num) (map (mapBlock h) (r .blocks))

@@ -21,8 +21,8 @@ const END: u8 = 255;
 // The lists' nodes stand above the blocks', the last of which is BLOCKS.
 const LIST_NODES: u8 = 64;
 
-// The location of a fresh block's content.
-const BLANK: u16 = 0;
+// The location of a block that was not written since it was put.
+pub const UNWRITTEN: u16 = 0;
 
 // Where a node's bytes stand: from NODE * x on, and the high byte of its location at HIGH + x.
 const NODE: usize = 4;
@@ -151,7 +151,7 @@ fn put(nodes: &mut [u8; 1280], block: u8, list: u8, x: u8) -> bool
         return false;
     }
     insert(nodes, x, block, list);
-    set_location(nodes, block, BLANK);
+    set_location(nodes, block, UNWRITTEN);
     true
 }
 
@@ -252,7 +252,7 @@ pub fn is_on(nodes: &[u8; 1280], list: u8, block: u8) -> bool
     owner_of(nodes, block) == list
 }
 
-// The location of the content of a block that is on some list.
+// The location of the content of a block that is on some list; 0 if it was not written.
 pub fn location_of(nodes: &[u8; 1280], block: u8) -> u16
     ensures { λ r. ⌜ SaysLocation (tablesIn (now (nodes .entry))) block r ⌝ }
 {

@@ -1,14 +1,12 @@
 -- 256 bytes of a buffer put into a destination of 256 bytes, and the buffer that a location names.
 use mathlib.Core.Path.{_≡_, sym, ap, _∙_}
-use mathlib.Core.Logic.{_≢_}
 use mathlib.Core.List.{List, _++_, append-nil}
-use Prim.Native.Nat.{ℕ, suc, _+_, _-_, _*_, _≤_, _<_}
+use Prim.Native.Nat.{ℕ, _+_, _-_, _*_, _≤_, _<_}
 use native.Mathlib.Omega.{arith}
-use borrow.Author.Tests.{lt-ltb}
+use borrow.Author.Tests.{lt-ltb, le-ltb}
 use lib.ListN.{length, take, drop, length-take, length-drop, drop-of-length-le}
-use Rattle.log.specs.Card.{zeros, slot, splice}
+use Rattle.log.specs.Card.{slot, splice}
 use Rattle.log.specs.promises.Location.{contentAt}
-use Rattle.log.proofs.Locations.{content-queue, content-journal}
 
 -- all of the destination is new
 pub splice-whole : (d v : List ℕ) → length v ≡ 256 → length d ≡ 256 → splice d 0 v ≡ v
@@ -26,19 +24,14 @@ slot-part l k = let e : 256 * k + 256 - 256 * k ≡ 256 = omega arith in ap (λ 
 
 -- the buffer that location m names
 module _ (c q j : List ℕ) (m : ℕ) where
-  pub at-blank : m ≡ 0 → contentAt c q j m ≡ zeros
+  pub at-card : m < 1025 → contentAt c q j m ≡ slot c (m - 1)
   unfolding contentAt
-  at-blank e = rw (e, contentAt)
-
-  pub at-card : m ≢ 0 → m < 1025 → contentAt c q j m ≡ slot c (m - 1)
-  unfolding contentAt
-  at-card z h = go (m - 1) (omega arith)
-    where
-      go : (n : ℕ) → m ≡ suc n → contentAt c q j m ≡ slot c n
-      go n e = rw (e, contentAt, lt-ltb n 1024 (omega arith))
+  at-card h = rw (lt-ltb m 1025 h)
 
   pub at-queue : 1025 ≤ m → m < 1057 → contentAt c q j m ≡ slot q (m - 1025)
-  at-queue h k = let e : m ≡ 1025 + (m - 1025) = omega arith in ap (contentAt c q j) e ∙ content-queue c q j (m - 1025) (omega arith)
+  unfolding contentAt
+  at-queue h k = rw (le-ltb m 1025 h, lt-ltb m 1057 k)
 
   pub at-journal : 1057 ≤ m → contentAt c q j m ≡ slot j (m - 1057)
-  at-journal h = let e : m ≡ 1057 + (m - 1057) = omega arith in ap (contentAt c q j) e ∙ content-journal c q j (m - 1057)
+  unfolding contentAt
+  at-journal h = rw (le-ltb m 1025 (omega arith), le-ltb m 1057 h)

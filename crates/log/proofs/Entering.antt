@@ -31,9 +31,9 @@ use Rattle.log.proofs.Parsing.{part-size}
 use Rattle.log.proofs.Feeding.{NoCommit, fieldsChange, ended, legal-ranged, read-now, read-later}
 
 -- A parsed entry, which is x, read.
-module _ (m : Memory) (run : ℕ) (e x : LogEntry) (q : e ≡ x) (d : ℕ) where
+module _ (m : Memory) (run : ℕ) (e x : LogEntry) (q : e ≡ x) (d : ℕ) (f : 1 ≤ d) where
   reads-now : (b : Bool) (u : Tables) → NoCommit x → DidSome (fieldsChange x d) (m .tables) b u → Reads m run false e d b (ended m u)
-  reads-now b u n w r k l = rw q (read-now x n m run r k d (legal-ranged x n (rw q at l)) b u w)
+  reads-now b u n w r k l = rw q (read-now x n m run r k d (legal-ranged x n d f (rw q at l)) b u w)
 
   reads-later : (d′ : ℕ) → NoCommit x → entered true x ≡ some (asEntry true x) → fieldsChange x d′ ≡ fieldsChange x d
       → Reads m run true e d true
@@ -41,7 +41,7 @@ module _ (m : Memory) (run : ℕ) (e x : LogEntry) (q : e ≡ x) (d : ℕ) where
         tables = m .tables;
         members = memberSet (m .members) run (fieldsOf x .kind) (fieldsOf x .block) (fieldsOf x .list) (fieldsOf x .predecessor) d′;
       })
-  reads-later d′ n p v r k l = rw (q, p) (read-later x n m run r k d (legal-ranged x n (rw q at l)) d′ v)
+  reads-later d′ n p v r k l = rw (q, p) (read-later x n m run r k d (legal-ranged x n d f (rw q at l)) d′ v)
 
 reads-commit : (m : Memory) (run : ℕ) (e : LogEntry) (n d : ℕ) → e ≡ Commit n → (b : Bool) (m′ : Memory) → Commits m run n b m′ → Reads m run false e d b m′
 unfolding asEntry mapEntry legal
@@ -53,9 +53,14 @@ module _ (m : Memory) (run : ℕ) (e x : LogEntry) (q : e ≡ x) (d a k : ℕ) w
   enters-if t true m′ s j g u w = rw (g, u, q) (refl, rw q at w)
   enters-if t false m′ s j g u w = rw g w
 
+  -- a take or a commit with the mark
+  pub enters-never : (m′ : Memory) → entered true x ≡ none → Enters m run true e d a k Stuck m′
+  enters-never m′ p r h l = rw (q, p) refl
+
+module _ (m : Memory) (run : ℕ) (e x : LogEntry) (q : e ≡ x) (d a k : ℕ) (f : 1 ≤ d) where
   pub enters-now : (b : Bool) (u : Tables) (s : Step) (j : ℕ) → s ≡ stepIf b a j 0 → j ≡ k + usedBy (carried (asEntry false x)) → NoCommit x → DidSome (fieldsChange x d) (m .tables) b u
       → Enters m run false e d a k s (ended m u)
-  enters-now b u s j g l n w = enters-if false b (ended m u) s j g l (reads-now m run e x q d b u n w)
+  enters-now b u s j g l n w = enters-if m run e x q d a k false b (ended m u) s j g l (reads-now m run e x q d f b u n w)
 
   pub enters-later : (d′ : ℕ) (s : Step) (j : ℕ) → s ≡ stepIf true a j (run + 1) → j ≡ k + usedBy (carried (asEntry false x)) → NoCommit x → entered true x ≡ some (asEntry true x)
       → fieldsChange x d′ ≡ fieldsChange x d
@@ -64,11 +69,7 @@ module _ (m : Memory) (run : ℕ) (e x : LogEntry) (q : e ≡ x) (d a k : ℕ) w
         tables = m .tables;
         members = memberSet (m .members) run (fieldsOf x .kind) (fieldsOf x .block) (fieldsOf x .list) (fieldsOf x .predecessor) d′;
       })
-  enters-later d′ s j g l n o v = enters-if true true _ s j g l (reads-later m run e x q d d′ n o v)
-
-  -- a take or a commit with the mark
-  pub enters-never : (m′ : Memory) → entered true x ≡ none → Enters m run true e d a k Stuck m′
-  enters-never m′ p r h l = rw (q, p) refl
+  enters-later d′ s j g l n o v = enters-if m run e x q d a k true true _ s j g l (reads-later m run e x q d f d′ n o v)
 
 pub enters-commit : (m : Memory) (run : ℕ) (e : LogEntry) (n d a k : ℕ) (q : e ≡ Commit n) (b : Bool) (m′ : Memory) (s : Step) → s ≡ stepIf b a k 0 → Commits m run n b m′
     → Enters m run false e d a k s m′
@@ -127,11 +128,11 @@ used-one (some d) = omega arith
 
 -- The items from an entry on.
 module _ (f : ℕ → ℕ → ℕ) (g k n i : ℕ) (bs : List ℕ) (is : List (Item ℕ)) (r : Reader ℕ) where
-  items-bad : entryAt k bs ≡ none → walk 0 r (itemsOf f g (suc n) i k bs ++ is) ≡ fault g i
+  items-bad : entryAt k bs ≡ none → walk r (itemsOf f g (suc n) i k bs ++ is) ≡ fault g i
   unfolding itemsOf walk
   items-bad h = rw (h, itemsOf)
 
-  items-stuck : (y : Entry ℕ) (rest : List ℕ) → entryAt k bs ≡ some (y, rest) → read 0 r (mapEntry (f g) y) ≡ none → walk 0 r (itemsOf f g (suc n) i k bs ++ is) ≡ fault g i
+  items-stuck : (y : Entry ℕ) (rest : List ℕ) → entryAt k bs ≡ some (y, rest) → read r (mapEntry (f g) y) ≡ none → walk r (itemsOf f g (suc n) i k bs ++ is) ≡ fault g i
   unfolding itemsOf walk
   items-stuck y rest h w = rw (h, itemsOf) (rw (w, walk))
 
@@ -166,8 +167,8 @@ module _ (c : List ℕ) (g : ℕ) (cur : Cursor) (m m′ : Memory) where
     steps-refused : Reads m (cur .run) t x (cardLocation g (cur .slots)) false m′ → Advances c g cur m Stuck m′
     steps-refused w r k j i is = go (entered t x) refl (w r k (f .ranged))
       where
-        go : (o : Option (Entry ℕ)) → entered t x ≡ o → bind o (λ y. read 0 r (mapEntry (λ s. cardLocation g (cur .slots)) y)) ≡ none
-            → walk 0 r (itemsOf cardLocation g (suc j) i (cur .slots) (bytesFrom c g (cur .at)) ++ is) ≡ fault g i
+        go : (o : Option (Entry ℕ)) → entered t x ≡ o → bind o (λ y. read r (mapEntry (λ s. cardLocation g (cur .slots)) y)) ≡ none
+            → walk r (itemsOf cardLocation g (suc j) i (cur .slots) (bytesFrom c g (cur .at)) ++ is) ≡ fault g i
         go none u z = items-bad cardLocation g (cur .slots) j i (bytesFrom c g (cur .at)) is r (here-is none u)
         go (some y) u z = items-stuck cardLocation g (cur .slots) j i (bytesFrom c g (cur .at)) is r y (bytesFrom c g n) (here-is (some y) u) (rw (placed y u) at z)
 
@@ -194,7 +195,7 @@ module _ (c : List ℕ) (g : ℕ) (cur : Cursor) (m m′ : Memory) where
             omega (arith, f .onward, f .until)
 
         go : (r : Reader ℕ) (o : Option (Entry ℕ)) → entered t x ≡ o
-            → ReadTo (bind o (λ y. read 0 r (mapEntry (λ s. cardLocation g (cur .slots)) y))) true m′ (runAfter t (cur .run))
+            → ReadTo (bind o (λ y. read r (mapEntry (λ s. cardLocation g (cur .slots)) y))) true m′ (runAfter t (cur .run))
             → Went c g cur r (cursor n (cur .slots + usedBy (carried (asEntry false x))) (runAfter t (cur .run))) m′
         go r none u z = absurd (Option·none-ne-some _ (z .1))
         go r (some y) u z =

@@ -1,12 +1,12 @@
 -- Small logs and places, computed. Each comes out otherwise under a wrong definition that lies near at hand; tests/wrong-definitions tries those.
 use mathlib.Core.Path.{_≡_, refl, sym, ap}
 use mathlib.Core.Bool.{true≢false}
-use mathlib.Core.Option.{some, Option·some-injective}
+use mathlib.Core.Option.{none, some, Option·some-injective}
 use mathlib.Core.List.{List, [], _∷_, _++_}
 use Prim.Native.Nat.{ℕ}
 use native.Mathlib.Omega.{arith}
 use lib.ListN.{replicate}
-use Rattle.lists.specs.Change.{takeList, putFirst, mapChange, carriedBy}
+use Rattle.lists.specs.Change.{takeList, putFirst, write, delBlock, mapChange, carriedBy}
 use Rattle.lists.specs.State.{state, row, block, taken, placed, applies, changed, apply, applyAll}
 use Rattle.log.specs.Entry.{plain, member, commit, mapEntry, carried, changeBytes, encode, raw, entryLength, legalChange, hasMember, legal, changeOf, checked, entryOf, decode}
 use Rattle.log.specs.Reader.{start, settled, lastOf, read, replay}
@@ -41,15 +41,22 @@ front-not-first t = let q : _≡_ {A = ℕ} 1 0 = t .behind 1 (omega arith) (ome
 
 -- "a commit, which takes the last so many members standing directly before it, [..]; earlier members of that run are dead"
 pub dead-members-stay-dead :
-    replay {D = ℕ} 0 start (plain (takeList 1) ∷ member (putFirst 1 1) ∷ member (putFirst 2 1) ∷ commit 1 ∷ []) ≡ some (settled (state (row 1 (block 2 0 ∷ []) ∷ [])))
+    replay {D = ℕ} start (plain (takeList 1) ∷ member (putFirst 1 1) ∷ member (putFirst 2 1) ∷ commit 1 ∷ []) ≡ some (settled (state (row 1 (block 2 none ∷ []) ∷ [])))
 unfolding taken placed applies changed apply applyAll lastOf read replay
 dead-members-stay-dead = refl
 
 -- a run goes on into the next segment
 pub run-crosses-segments :
-    walk {D = ℕ} 0 start (good 0 0 (plain (takeList 1)) ∷ good 0 1 (member (putFirst 1 1)) ∷ good 1 0 (commit 1) ∷ []) ≡ sound (settled (state (row 1 (block 1 0 ∷ []) ∷ [])))
+    walk {D = ℕ} start (good 0 0 (plain (takeList 1)) ∷ good 0 1 (member (putFirst 1 1)) ∷ good 1 0 (commit 1) ∷ []) ≡ sound (settled (state (row 1 (block 1 none ∷ []) ∷ [])))
 unfolding taken placed applies changed apply applyAll lastOf read walk
 run-crosses-segments = refl
+
+-- a block is "written since its present put", or not
+pub put-again-unwritten :
+    replay {D = ℕ} start (plain (takeList 1) ∷ plain (putFirst 1 1) ∷ plain (write 1 9) ∷ plain (delBlock 1) ∷ plain (putFirst 1 1) ∷ plain (putFirst 2 1) ∷ plain (write 2 9) ∷ [])
+    ≡ some (settled (state (row 1 (block 2 (some 9) ∷ block 1 none ∷ []) ∷ [])))
+unfolding taken placed applies changed apply read replay
+put-again-unwritten = refl
 
 -- "the log never uses a slot again": a dead member's is not the next one
 pub dead-slots-stay-used :

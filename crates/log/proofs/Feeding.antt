@@ -17,6 +17,7 @@ use Rattle.lists.specs.Change.{Change, takeList, putFirst, putAfter, write, del
 use Rattle.lists.specs.State.{State, apply, applyAll}
 use Rattle.lists.specs.promises.Tables.{Tables, Shows, Ranged, Represents, Did, DidSome, ofKind}
 use Rattle.lists.proofs.Basic.{and-true}
+use Rattle.lists.proofs.Naturality.{change-comp}
 use Rattle.lists.proofs.Represents.{did-apply}
 use Rattle.log.specs.Entry.{plain, member, commit, mapEntry, isBlock, isList, isSlot, legalChange, legal, hasMember, raw, asChange, asEntry}
 use Rattle.log.specs.Reader.{Reader, reader, settled, read, lastOf}
@@ -145,12 +146,12 @@ module _ (m : Memory) (run : ℕ) (r : Reader ℕ) (k : Keeps m run r) where
   read-settled (some s) true u h = (settled s, refl, kept-settled u s (h .1))
   read-settled (some s) false u h = absurd (false≢true (h .0))
 
-  pub read-plain : (c : Change ℕ) (b : Bool) (u : Tables) → Ranged c → Did c (m .tables) b u → ReadTo (read 0 r (plain c)) b (ended m u) 0
+  pub read-plain : (c : Change ℕ) (b : Bool) (u : Tables) → Ranged c → Did c (m .tables) b u → ReadTo (read r (plain c)) b (ended m u) 0
   unfolding read
-  read-plain c b u g d = read-settled (apply 0 c (r .state)) b u (did-apply c (m .tables) b u (r .state) g (k .shows) d)
+  read-plain c b u g d = read-settled (apply c (r .state)) b u (did-apply c (m .tables) b u (r .state) g (k .shows) d)
 
   pub read-member : (t b l p d : ℕ) (c : Change ℕ) → ofKind t b l p d ≡ some c → Ranged c
-      → ReadTo (read 0 r (member c)) true (record { tables = m .tables; members = memberSet (m .members) run t b l p d }) (run + 1)
+      → ReadTo (read r (member c)) true (record { tables = m .tables; members = memberSet (m .members) run t b l p d }) (run + 1)
   unfolding read
   read-member t b l p d c q g = (
     reader (r .run ++ c ∷ []) (r .state),
@@ -158,35 +159,35 @@ module _ (m : Memory) (run : ℕ) (r : Reader ℕ) (k : Keeps m run r) where
     record { shows = k .shows; recalls = recalls-more (m .members) run (r .run) (k .recalls) t b l p d c q g },
   )
 
-  pub read-commit : (n : ℕ) (b : Bool) (u : Tables) → n ≤ run → Represents (applyAll 0 (lastOf n (r .run)) (r .state)) b u → ReadTo (read 0 r (commit n)) b (ended m u) 0
+  pub read-commit : (n : ℕ) (b : Bool) (u : Tables) → n ≤ run → Represents (applyAll (lastOf n (r .run)) (r .state)) b u → ReadTo (read r (commit n)) b (ended m u) 0
   unfolding read
   read-commit n b u h w =
-      rw (le-leb n (length (r .run)) (omega (arith, k .recalls .size))) (read-settled (applyAll 0 (lastOf n (r .run)) (r .state)) b u w)
+      rw (le-leb n (length (r .run)) (omega (arith, k .recalls .size))) (read-settled (applyAll (lastOf n (r .run)) (r .state)) b u w)
 
-  pub read-short : (n : ℕ) → run < n → read 0 r (commit n) ≡ none
+  pub read-short : (n : ℕ) → run < n → read r (commit n) ≡ none
   unfolding read
   read-short n h = rw (lt-leb n (length (r .run)) (omega (arith, k .recalls .size)))
 
 -- A commit's members act, one by one: those from number j on are to come.
 module _ (cs : List (Change ℕ)) (j : ℕ) (s : State ℕ) (t : Tables) where
-  pub turn-made : j < length cs → Represents (apply 0 (getD cs j (takeList 0)) s) true t
-      → (q : State ℕ) × Shows t (q .lists) × (applyAll 0 (drop (j + 1) cs) q ≡ applyAll 0 (drop j cs) s)
+  pub turn-made : j < length cs → Represents (apply (getD cs j (takeList 0)) s) true t
+      → (q : State ℕ) × Shows t (q .lists) × (applyAll (drop (j + 1) cs) q ≡ applyAll (drop j cs) s)
   unfolding applyAll
-  turn-made h = rw (add-one j, drop-cons cs j (takeList 0) h) (go (apply 0 (getD cs j (takeList 0)) s))
+  turn-made h = rw (add-one j, drop-cons cs j (takeList 0) h) (go (apply (getD cs j (takeList 0)) s))
     where
-      go : (o : Option (State ℕ)) → Represents o true t → (q : State ℕ) × Shows t (q .lists) × (applyAll 0 (drop (suc j) cs) q ≡ bind o (λ u. applyAll 0 (drop (suc j) cs) u))
+      go : (o : Option (State ℕ)) → Represents o true t → (q : State ℕ) × Shows t (q .lists) × (applyAll (drop (suc j) cs) q ≡ bind o (λ u. applyAll (drop (suc j) cs) u))
       go none a = absurd (true≢false a)
       go (some q) a = (q, a .1, refl)
 
-  pub turn-refused : j < length cs → Represents (apply 0 (getD cs j (takeList 0)) s) false t → applyAll 0 (drop j cs) s ≡ none
+  pub turn-refused : j < length cs → Represents (apply (getD cs j (takeList 0)) s) false t → applyAll (drop j cs) s ≡ none
   unfolding applyAll
-  turn-refused h = rw (drop-cons cs j (takeList 0) h) (go (apply 0 (getD cs j (takeList 0)) s))
+  turn-refused h = rw (drop-cons cs j (takeList 0) h) (go (apply (getD cs j (takeList 0)) s))
     where
-      go : (o : Option (State ℕ)) → Represents o false t → bind o (λ u. applyAll 0 (drop (suc j) cs) u) ≡ none
+      go : (o : Option (State ℕ)) → Represents o false t → bind o (λ u. applyAll (drop (suc j) cs) u) ≡ none
       go none a = refl
       go (some q) a = absurd (false≢true (a .0))
 
-  pub all-made : (o : Option (State ℕ)) → length cs ≤ j → Shows t (s .lists) → applyAll 0 (drop j cs) s ≡ o → Represents o true t
+  pub all-made : (o : Option (State ℕ)) → length cs ≤ j → Shows t (s .lists) → applyAll (drop j cs) s ≡ o → Represents o true t
   unfolding applyAll
   all-made o h w e = subst (λ (x : Option (State ℕ)). Represents x true t) (rw (drop-of-length-le cs h) at e) (refl, w)
 
@@ -205,7 +206,7 @@ abbrev pub fieldsChange : LogEntry → ℕ → Option (Change ℕ)
 fieldsChange e d = ofKind (fieldsOf e .kind) (fieldsOf e .block) (fieldsOf e .list) (fieldsOf e .predecessor) d
 
 -- its write at location d
-abbrev changeAt : LogEntry → ℕ → Change ℕ
+abbrev pub changeAt : LogEntry → ℕ → Change ℕ
 changeAt e d = mapChange (λ s. d) (asChange e)
 
 fields-change : (e : LogEntry) (d : ℕ) → NoCommit e → fieldsChange e d ≡ some (changeAt e d)
@@ -231,52 +232,49 @@ entry-change t (Commit n) h = absurd (h refl)
 range : (l h x : ℕ) → (leb l x && leb x h) ≡ true → (l ≤ x) × (x ≤ h)
 range l h x e = let (p, q) = and-true (leb l x) (leb x h) e in (leb-true l x p, leb-true x h q)
 
-change-ranged : (c : Change ℕ) → legalChange c ≡ true → Ranged c
-unfolding legalChange
-change-ranged (takeList l) h = range 1 16 l h
-change-ranged (putFirst b l) h = let (p, q) = and-true (isBlock b) (isList l) h in (range 1 64 b p, range 1 16 l q)
-change-ranged (putAfter b l x) h =
+-- a legal change, its write at location d
+change-ranged : (d : ℕ) → 1 ≤ d → (c : Change ℕ) → legalChange c ≡ true → Ranged (mapChange (λ s. d) c)
+unfolding legalChange mapChange
+change-ranged d g (takeList l) h = range 1 16 l h
+change-ranged d g (putFirst b l) h = let (p, q) = and-true (isBlock b) (isList l) h in (range 1 64 b p, range 1 16 l q)
+change-ranged d g (putAfter b l x) h =
     let (p, q) = and-true (isBlock b && isList l) (isBlock x) h in
     let (u, v) = and-true (isBlock b) (isList l) p in
     (range 1 64 b u, range 1 16 l v, range 1 64 x q)
-change-ranged (write b s) h = range 1 64 b (and-true (isBlock b) (isSlot s) h .0)
-change-ranged (delBlock b) h = range 1 64 b h
-change-ranged (delList l) h = range 1 16 l h
+change-ranged d g (write b s) h = (range 1 64 b (and-true (isBlock b) (isSlot s) h .0), g)
+change-ranged d g (delBlock b) h = range 1 64 b h
+change-ranged d g (delList l) h = range 1 16 l h
 
-ranged-map : (f : ℕ → ℕ) (c : Change ℕ) → (Ranged (mapChange f c) → Ranged c) × (Ranged c → Ranged (mapChange f c))
-unfolding mapChange
-ranged-map f (takeList l) = ((λ h. h), λ h. h)
-ranged-map f (putFirst b l) = ((λ h. h), λ h. h)
-ranged-map f (putAfter b l p) = ((λ h. h), λ h. h)
-ranged-map f (write b s) = ((λ h. h), λ h. h)
-ranged-map f (delBlock b) = ((λ h. h), λ h. h)
-ranged-map f (delList l) = ((λ h. h), λ h. h)
-
-module _ (e : LogEntry) (n : NoCommit e) where
-  pub legal-ranged : legal (asEntry false e) ≡ true → Ranged (asChange e)
+module _ (e : LogEntry) (n : NoCommit e) (d : ℕ) (p : 1 ≤ d) where
+  pub legal-ranged : legal (asEntry false e) ≡ true → Ranged (changeAt e d)
   unfolding legal
-  legal-ranged h = change-ranged (asChange e) (rw (entry-change false e n) at h)
+  legal-ranged h = change-ranged d p (asChange e) (rw (entry-change false e n) at h)
 
-  raw-ranged : (t : Bool) → legal (raw 0 (asEntry t e)) ≡ true → Ranged (asChange e)
+  -- whatever its slot
+  slotless-ranged : legalChange (mapChange (λ s. 0) (asChange e)) ≡ true → Ranged (changeAt e d)
+  slotless-ranged h = subst Ranged (change-comp (λ s. d) (λ s. 0) (asChange e)) (change-ranged d p (mapChange (λ s. 0) (asChange e)) h)
+
+  raw-ranged : (t : Bool) → legal (raw 0 (asEntry t e)) ≡ true → Ranged (changeAt e d)
   unfolding legal raw mapEntry
   raw-ranged true h =
       let k : legal (mapEntry (λ s. 0) (member (asChange e))) ≡ true = rw (entry-change true e n) at h in
-      ranged-map (λ s. 0) (asChange e) .0 (change-ranged (mapChange (λ s. 0) (asChange e)) (and-true (hasMember (mapChange (λ s. 0) (asChange e))) _ k .1))
+      slotless-ranged (and-true (hasMember (mapChange (λ s. 0) (asChange e))) _ k .1)
   raw-ranged false h =
       let k : legal (mapEntry (λ s. 0) (plain (asChange e))) ≡ true = rw (entry-change false e n) at h in
-      ranged-map (λ s. 0) (asChange e) .0 (change-ranged (mapChange (λ s. 0) (asChange e)) k)
+      slotless-ranged k
 
-  module _ (m : Memory) (run : ℕ) (r : Reader ℕ) (k : Keeps m run r) (d : ℕ) (g : Ranged (asChange e)) where
+module _ (e : LogEntry) (n : NoCommit e) where
+  module _ (m : Memory) (run : ℕ) (r : Reader ℕ) (k : Keeps m run r) (d : ℕ) (g : Ranged (changeAt e d)) where
     -- made at once
-    pub read-now : (b : Bool) (u : Tables) → DidSome (fieldsChange e d) (m .tables) b u → ReadTo (read 0 r (mapEntry (λ s. d) (asEntry false e))) b (ended m u) 0
+    pub read-now : (b : Bool) (u : Tables) → DidSome (fieldsChange e d) (m .tables) b u → ReadTo (read r (mapEntry (λ s. d) (asEntry false e))) b (ended m u) 0
     unfolding mapEntry
     read-now b u w =
         rw (entry-change false e n)
-        (read-plain m run r k (changeAt e d) b u (ranged-map (λ s. d) (asChange e) .1 g) (rw (fields-change e d n) at w))
+        (read-plain m run r k (changeAt e d) b u g (rw (fields-change e d n) at w))
 
     -- kept for a commit; where it is no write, any location serves
     pub read-later : (d′ : ℕ) → fieldsChange e d′ ≡ fieldsChange e d
-        → ReadTo (read 0 r (mapEntry (λ s. d) (asEntry true e))) true
+        → ReadTo (read r (mapEntry (λ s. d) (asEntry true e))) true
         (record {
           tables = m .tables;
           members = memberSet (m .members) run (fieldsOf e .kind) (fieldsOf e .block) (fieldsOf e .list) (fieldsOf e .predecessor) d′;
@@ -285,7 +283,7 @@ module _ (e : LogEntry) (n : NoCommit e) where
     read-later d′ q =
         rw (entry-change true e n)
         (read-member m run r k (fieldsOf e .kind) (fieldsOf e .block) (fieldsOf e .list) (fieldsOf e .predecessor) d′ (changeAt e d) (q ∙ fields-change e d n)
-        (ranged-map (λ s. d) (asChange e) .1 g))
+        g)
 
 -- What is fed.
 pub run-settled : (n : ℕ) (b : Bool) → RunUpTo n (fedIf b)
@@ -296,29 +294,29 @@ fed-read : (o : Option (Reader ℕ)) (b : Bool) (m : Memory) → ReadTo o b m 0 
 fed-read o true m h = h
 fed-read o false m h = h
 
-module _ (m : Memory) (run : ℕ) (r : Reader ℕ) (k : Keeps m run r) (d : ℕ) (t : Bool) (e : LogEntry) (l : legal (raw 0 (asEntry t e)) ≡ true) where
-  pub fed-commit : (b : Bool) (m′ : Memory) → fieldsOf e .kind ≡ 0 → Commits m run (fieldsOf e .count) b m′ → FedTo (read 0 r (mapEntry (λ s. d) (asEntry t e))) (fedIf b) m′
+module _ (m : Memory) (run : ℕ) (r : Reader ℕ) (k : Keeps m run r) (d : ℕ) (f : 1 ≤ d) (t : Bool) (e : LogEntry) (l : legal (raw 0 (asEntry t e)) ≡ true) where
+  pub fed-commit : (b : Bool) (m′ : Memory) → fieldsOf e .kind ≡ 0 → Commits m run (fieldsOf e .count) b m′ → FedTo (read r (mapEntry (λ s. d) (asEntry t e))) (fedIf b) m′
   unfolding asEntry mapEntry legal raw
   fed-commit b m′ z w = go e z l w
     where
       go : (x : LogEntry) → fieldsOf x .kind ≡ 0 → legal (raw 0 (asEntry t x)) ≡ true → Commits m run (fieldsOf x .count) b m′
-          → FedTo (read 0 r (mapEntry (λ s. d) (asEntry t x))) (fedIf b) m′
+          → FedTo (read r (mapEntry (λ s. d) (asEntry t x))) (fedIf b) m′
       go (Take a) h i w = absurd (omega arith)
       go (PutFirst a c) h i w = absurd (omega arith)
       go (PutAfter a c p) h i w = absurd (omega arith)
       go (Write a s) h i w = absurd (omega arith)
       go (DeleteBlock a) h i w = absurd (omega arith)
       go (DeleteList a) h i w = absurd (omega arith)
-      go (Commit n) h i w = fed-read (read 0 r (commit n)) b m′ (w r k (leb-true n 15 i))
+      go (Commit n) h i w = fed-read (read r (commit n)) b m′ (w r k (leb-true n 15 i))
 
   module _ (n : NoCommit e) where
     pub fed-member : t ≡ true
-        → FedTo (read 0 r (mapEntry (λ s. d) (asEntry t e))) (Run (run + 1))
+        → FedTo (read r (mapEntry (λ s. d) (asEntry t e))) (Run (run + 1))
         (record {
           tables = m .tables;
           members = memberSet (m .members) run (fieldsOf e .kind) (fieldsOf e .block) (fieldsOf e .list) (fieldsOf e .predecessor) d;
         })
-    fed-member q = rw q (read-later e n m run r k d (raw-ranged e n t l) d refl)
+    fed-member q = rw q (read-later e n m run r k d (raw-ranged e n d f t l) d refl)
 
-    pub fed-plain : (b : Bool) (u : Tables) → t ≡ false → DidSome (fieldsChange e d) (m .tables) b u → FedTo (read 0 r (mapEntry (λ s. d) (asEntry t e))) (fedIf b) (ended m u)
-    fed-plain b u q w = rw q (fed-read (read 0 r (mapEntry (λ s. d) (asEntry false e))) b (ended m u) (read-now e n m run r k d (raw-ranged e n t l) b u w))
+    pub fed-plain : (b : Bool) (u : Tables) → t ≡ false → DidSome (fieldsChange e d) (m .tables) b u → FedTo (read r (mapEntry (λ s. d) (asEntry t e))) (fedIf b) (ended m u)
+    fed-plain b u q w = rw q (fed-read (read r (mapEntry (λ s. d) (asEntry false e))) b (ended m u) (read-now e n m run r k d (raw-ranged e n d f t l) b u w))

@@ -20,21 +20,19 @@ use Rattle.log.proofs.Walking.{card-small}
 module _ (c q j : List ℕ) where
   pub content-card : (g k : ℕ) → g < 64 → k < 16 → contentAt c q j (cardLocation g k) ≡ cardSlot c g k
   unfolding contentAt cardSlot
-  content-card g k h l = let e : 16 * g + 1 + k ≡ suc (16 * g + k) = omega arith in rw (e, lt-ltb (16 * g + k) 1024 (omega arith))
+  content-card g k h l = let e : 16 * g + 1 + k - 1 ≡ 16 * g + k = omega arith in rw (lt-ltb (16 * g + 1 + k) 1025 (omega arith), e)
 
   pub content-queue : (p : ℕ) → p < 32 → contentAt c q j (queueLocation p) ≡ slot q p
   unfolding contentAt
   content-queue p h =
-      let e : 1025 + p ≡ suc (1024 + p) = omega arith in
-      let d : 1024 + p - 1024 ≡ p = omega arith in
-      rw (e, le-ltb (1024 + p) 1024 (omega arith), lt-ltb (1024 + p) 1056 (omega arith), d)
+      let e : 1025 + p - 1025 ≡ p = omega arith in
+      rw (le-ltb (1025 + p) 1025 (omega arith), lt-ltb (1025 + p) 1057 (omega arith), e)
 
   pub content-journal : (p : ℕ) → contentAt c q j (journalLocation p) ≡ slot j p
   unfolding contentAt
   content-journal p =
-      let e : 1057 + p ≡ suc (1056 + p) = omega arith in
-      let d : 1056 + p - 1056 ≡ p = omega arith in
-      rw (e, le-ltb (1056 + p) 1024 (omega arith), le-ltb (1056 + p) 1056 (omega arith), d)
+      let e : 1057 + p - 1057 ≡ p = omega arith in
+      rw (le-ltb (1057 + p) 1025 (omega arith), le-ltb (1057 + p) 1057 (omega arith), e)
 
 -- Two ways to say what stands in the slots, that agree on a card's slots, give the same items.
 module _ {D : Type 0} (f h : ℕ → D) (same : (k : ℕ) → k ≤ 13 → f k ≡ h k) where
@@ -84,14 +82,14 @@ module _ {D : Type 0} (f h : ℕ → ℕ → D) (same : (g k : ℕ) → g < 64 �
       go ih (suc n) = rw (itemsOf-same g (count c g) 0 0 (segmentEntries c g) (omega arith), ih)
 
 -- the card's log, walked at locations, with the contents that those name
-pub mounted-at : (c q j : List ℕ) → cardLength c ≡ true → mounted c ≡ mapOutcome (contentAt c q j) (walkCard cardLocation 0 c)
+pub mounted-at : (c q j : List ℕ) → cardLength c ≡ true → mounted c ≡ mapOutcome (contentAt c q j) (walkCard cardLocation c)
 unfolding mounted contentAt walkCard
 mounted-at c q j l =
     rw (items-same (cardSlot c) (λ g k. contentAt c q j (cardLocation g k)) (λ g k a b. sym (content-card c q j g k a (omega arith))) c (segmentsIn c) 0 (omega (arith, card-small c l .1)))
-    (walkCard-map (contentAt c q j) cardLocation 0 c)
+    (walkCard-map (contentAt c q j) cardLocation c)
 
-pub sound-at : (c q j : List ℕ) (r : Reader ℕ) → cardLength c ≡ true → walkCard cardLocation 0 c ≡ sound r → mounted c ≡ sound (mapReader (contentAt c q j) r)
+pub sound-at : (c q j : List ℕ) (r : Reader ℕ) → cardLength c ≡ true → walkCard cardLocation c ≡ sound r → mounted c ≡ sound (mapReader (contentAt c q j) r)
 sound-at c q j r l h = mounted-at c q j l ∙ rw h
 
-pub fault-at : (c : List ℕ) (g i : ℕ) → cardLength c ≡ true → walkCard cardLocation 0 c ≡ fault g i → mounted c ≡ fault g i
+pub fault-at : (c : List ℕ) (g i : ℕ) → cardLength c ≡ true → walkCard cardLocation c ≡ fault g i → mounted c ≡ fault g i
 fault-at c g i l h = mounted-at c [] [] l ∙ rw h

@@ -1,13 +1,12 @@
 -- The stores of a `LogEntry` at its place, by number: those of its data if it writes, those of its bytes, and the count's.
 use mathlib.Core.Path.{_≡_, refl, sym, ap, _∙_, subst}
 use mathlib.Core.Bool.{Bool, true, false}
-use mathlib.Core.Option.{Option, none, some}
+use mathlib.Core.Option.{Option, none, some, Option·map}
 use mathlib.Core.List.{List}
 use Prim.Native.Nat.{ℕ, suc, _+_, _*_, _-_, _<_, _≤_}
 use native.Mathlib.Omega.{arith}
 use lib.ListN.{length, getD, set}
 use borrow.Rule.Slice.PartMut.{midOf, putMid, mid-len, set-mid-at}
-use Rattle.lists.proofs.Naturality.{mapOption}
 use Rattle.log.specs.declared.entry.LogEntry.{LogEntry}
 use Rattle.log.specs.declared.place.Place.{Place}
 use Rattle.log.specs.Entry.{Entry, mapEntry, carried, encode, raw, entryLength, asEntry}
@@ -45,7 +44,7 @@ module _ (d : Content) (z : length d ≡ 256) (m : Bool) (e : LogEntry) where
   going-sized : Sized (carried (going d m e))
   going-sized = subst Sized (sym (carried-map (λ s. d) (asEntry m e))) (go (carried (asEntry m e)))
     where
-      go : (o : Option ℕ) → Sized (mapOption (λ s. d) o)
+      go : (o : Option ℕ) → Sized (Option·map (λ s. d) o)
       go none = tt
       go (some s) = z
 
@@ -53,7 +52,7 @@ module _ (d : Content) (z : length d ≡ 256) (m : Bool) (e : LogEntry) where
   unfolding dataOf
   going-data j = rw (carried-map (λ s. d) (asEntry m e)) (go (carried (asEntry m e)))
     where
-      go : (o : Option ℕ) → j < length (dataOf (mapOption (λ s. d) o)) → getD (dataOf (mapOption (λ s. d) o)) j 0 ≡ getD d j 0
+      go : (o : Option ℕ) → j < length (dataOf (Option·map (λ s. d) o)) → getD (dataOf (Option·map (λ s. d) o)) j 0 ≡ getD d j 0
       go none l = absurd (omega arith)
       go (some s) l = refl
 

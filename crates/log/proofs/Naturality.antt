@@ -1,7 +1,7 @@
 -- Content is carried along: a map of contents commutes with the reader and with the walk, and no place on the card depends on contents.
 use mathlib.Core.Path.{_≡_, refl, sym, ap, _∙_}
 use mathlib.Core.Bool.{cond}
-use mathlib.Core.Option.{Option, none, some}
+use mathlib.Core.Option.{Option, none, some, Option·map}
 use mathlib.Core.List.{List, [], _∷_, _++_, map, map-append}
 use Prim.Native.Nat.{ℕ, zero, suc, _+_, _-_}
 use lib.Dec.{leb, eqb}
@@ -10,7 +10,7 @@ use Rattle.lists.specs.Basic.{bind}
 use Rattle.lists.specs.Change.{Change, mapChange}
 use Rattle.lists.specs.State.{State, apply, applyAll, mapState}
 use Rattle.lists.proofs.Basic.{map-drop}
-use Rattle.lists.proofs.Naturality.{mapOption, guard-map, change-comp, carriedBy-map, apply-map, applyAll-map}
+use Rattle.lists.proofs.Naturality.{guard-map, change-comp, carriedBy-map, apply-map, applyAll-map}
 use Rattle.log.specs.Entry.{Entry, plain, member, commit, mapEntry, carried, raw, entryLength}
 use Rattle.log.specs.Reader.{Reader, reader, settled, start, lastOf, read, replay}
 use Rattle.log.specs.Card.{Item, good, bad, itemsOf, entryAt, usedBy, segmentItems, segmentEntries, segmentsIn, afterEmpty, items, count, Outcome, sound, fault, walk, walkCard}
@@ -35,45 +35,45 @@ entry-comp h f (member c) = ap member (change-comp h f c)
 entry-comp h f (commit n) = refl
 
 module _ {D E : Type 0} (h : D → E) where
-  settle-map : (o : Option (State D)) → bind (mapOption (mapState h) o) (λ s. some (settled s)) ≡ mapOption (mapReader h) (bind o (λ s. some (settled s)))
+  settle-map : (o : Option (State D)) → bind (Option·map (mapState h) o) (λ s. some (settled s)) ≡ Option·map (mapReader h) (bind o (λ s. some (settled s)))
   settle-map none = refl
   settle-map (some s) = refl
 
-  pub read-map : (z : D) (r : Reader D) (e : Entry D) → read (h z) (mapReader h r) (mapEntry h e) ≡ mapOption (mapReader h) (read z r e)
+  pub read-map : (r : Reader D) (e : Entry D) → read (mapReader h r) (mapEntry h e) ≡ Option·map (mapReader h) (read r e)
   unfolding read mapEntry lastOf
-  read-map z r (plain c) = rw (apply-map h z c (r .state)) (settle-map (apply z c (r .state)))
-  read-map z r (member c) = ap (λ (x : List (Change E)). some (reader x (mapState h (r .state)))) (sym (map-append (mapChange h) (r .run) (c ∷ [])))
-  read-map z r (commit n) =
+  read-map r (plain c) = rw (apply-map h c (r .state)) (settle-map (apply c (r .state)))
+  read-map r (member c) = ap (λ (x : List (Change E)). some (reader x (mapState h (r .state)))) (sym (map-append (mapChange h) (r .run) (c ∷ [])))
+  read-map r (commit n) =
       rw (
         length-map (r .run) (mapChange h),
         ← map-drop (mapChange h) (length (r .run) - n) (r .run),
-        applyAll-map h z (drop (length (r .run) - n) (r .run)) (r .state),
-        settle-map (applyAll z (drop (length (r .run) - n) (r .run)) (r .state)),
+        applyAll-map h (drop (length (r .run) - n) (r .run)) (r .state),
+        settle-map (applyAll (drop (length (r .run) - n) (r .run)) (r .state)),
       )
-      (guard-map (mapReader h) (leb n (length (r .run))) (bind (applyAll z (drop (length (r .run) - n) (r .run)) (r .state)) (λ s. some (settled s))))
+      (guard-map (mapReader h) (leb n (length (r .run))) (bind (applyAll (drop (length (r .run) - n) (r .run)) (r .state)) (λ s. some (settled s))))
 
-  pub replay-map : (z : D) (r : Reader D) (es : List (Entry D)) → replay (h z) (mapReader h r) (map (mapEntry h) es) ≡ mapOption (mapReader h) (replay z r es)
+  pub replay-map : (r : Reader D) (es : List (Entry D)) → replay (mapReader h r) (map (mapEntry h) es) ≡ Option·map (mapReader h) (replay r es)
   unfolding replay
-  replay-map z r [] = refl
-  replay-map z r (e ∷ es) = rw (read-map z r e) (go (λ q. replay-map z q es) (read z r e))
+  replay-map r [] = refl
+  replay-map r (e ∷ es) = rw (read-map r e) (go (λ q. replay-map q es) (read r e))
     where
-      go : ((q : Reader D) → replay (h z) (mapReader h q) (map (mapEntry h) es) ≡ mapOption (mapReader h) (replay z q es)) → (o : Option (Reader D))
-          → bind (mapOption (mapReader h) o) (λ q. replay (h z) q (map (mapEntry h) es)) ≡ mapOption (mapReader h) (bind o (λ q. replay z q es))
+      go : ((q : Reader D) → replay (mapReader h q) (map (mapEntry h) es) ≡ Option·map (mapReader h) (replay q es)) → (o : Option (Reader D))
+          → bind (Option·map (mapReader h) o) (λ q. replay q (map (mapEntry h) es)) ≡ Option·map (mapReader h) (bind o (λ q. replay q es))
       go ih none = refl
       go ih (some q) = ih q
 
-  pub walk-map : (z : D) (r : Reader D) (is : List (Item D)) → walk (h z) (mapReader h r) (map (mapItem h) is) ≡ mapOutcome h (walk z r is)
+  pub walk-map : (r : Reader D) (is : List (Item D)) → walk (mapReader h r) (map (mapItem h) is) ≡ mapOutcome h (walk r is)
   unfolding walk
-  walk-map z r [] = refl
-  walk-map z r (good g i e ∷ is) = rw (read-map z r e, walk) (go (λ q. walk-map z q is) (read z r e))
+  walk-map r [] = refl
+  walk-map r (good g i e ∷ is) = rw (read-map r e, walk) (go (λ q. walk-map q is) (read r e))
     where
-      go : ((q : Reader D) → walk (h z) (mapReader h q) (map (mapItem h) is) ≡ mapOutcome h (walk z q is)) → (o : Option (Reader D))
-          → _≡_ {A = Outcome E} (elim (mapOption (mapReader h) o) [ none ↦ fault g i | some q ↦ walk (h z) q (map (mapItem h) is) ]) (mapOutcome h (elim o [ none ↦ fault g i | some q ↦ walk z q is ]))
+      go : ((q : Reader D) → walk (mapReader h q) (map (mapItem h) is) ≡ mapOutcome h (walk q is)) → (o : Option (Reader D))
+          → _≡_ {A = Outcome E} (elim (Option·map (mapReader h) o) [ none ↦ fault g i | some q ↦ walk q (map (mapItem h) is) ]) (mapOutcome h (elim o [ none ↦ fault g i | some q ↦ walk q is ]))
       go ih none = refl
       go ih (some q) = ih q
-  walk-map z r (bad g i ∷ is) = refl
+  walk-map r (bad g i ∷ is) = refl
 
-  pub carried-map : (e : Entry D) → carried (mapEntry h e) ≡ mapOption h (carried e)
+  pub carried-map : (e : Entry D) → carried (mapEntry h e) ≡ Option·map h (carried e)
   unfolding mapEntry carried
   carried-map (plain c) = carriedBy-map h c
   carried-map (member c) = carriedBy-map h c
@@ -112,12 +112,12 @@ module _ {D E : Type 0} (h : D → E) where
         go ih zero = afterEmpty-map c m (suc g)
         go ih (suc n) = map-append (mapItem h) (itemsOf f g (count c g) 0 0 (segmentEntries c g)) (items f c m (suc g)) ∙ rw (itemsOf-map g (count c g) 0 0 (segmentEntries c g), ih)
 
-    pub walkCard-map : (z : D) (c : List ℕ) → walkCard (λ a b. h (f a b)) (h z) c ≡ mapOutcome h (walkCard f z c)
+    pub walkCard-map : (c : List ℕ) → walkCard (λ a b. h (f a b)) c ≡ mapOutcome h (walkCard f c)
     unfolding walkCard
-    walkCard-map z c = rw (← items-map c (segmentsIn c) 0) (walk-map z start (items f c (segmentsIn c) 0))
+    walkCard-map c = rw (← items-map c (segmentsIn c) 0) (walk-map start (items f c (segmentsIn c) 0))
 
   -- The place behind an item does not depend on content.
-  usedBy-map : (o : Option D) → usedBy (mapOption h o) ≡ usedBy o
+  usedBy-map : (o : Option D) → usedBy (Option·map h o) ≡ usedBy o
   unfolding usedBy
   usedBy-map none = refl
   usedBy-map (some d) = refl

@@ -47,28 +47,28 @@ pub start-range : {D : Type 0} → InRange {D = D} start
 unfolding all
 start-range = record { lists = refl; run = refl }
 
-module _ {D : Type 0} (z : D) where
+module _ {D : Type 0} where
   settled-range : (o : Option (State D)) (q : Reader D) → bind o (λ s. some (settled s)) ≡ some q → ((t : State D) → o ≡ some t → numbered isList (t .lists) ≡ true) → InRange q
   unfolding all
   settled-range o q e f =
       let (t, a, b) = bind-some o (λ s. some (settled s)) q e in
       subst InRange (Option·some-injective _ _ b) (record { lists = f t a; run = refl })
 
-  read-range : (r q : Reader D) (e : Entry D) → mayEnter e ≡ true → read z r e ≡ some q → InRange r → InRange q
+  read-range : (r q : Reader D) (e : Entry D) → mayEnter e ≡ true → read r e ≡ some q → InRange r → InRange q
   unfolding read mayEnter lastOf all
-  read-range r q (plain c) m h i = settled-range (apply z c (r .state)) q h (λ t e. apply-numbered isList z c (r .state) t m e (i .lists))
+  read-range r q (plain c) m h i = settled-range (apply c (r .state)) q h (λ t e. apply-numbered isList c (r .state) t m e (i .lists))
   read-range r q (member c) m h i =
       subst InRange (Option·some-injective _ _ h) (record { lists = i .lists; run = all-append (mayTake isList) (r .run) (c ∷ []) (i .run) (rw m) })
   read-range r q (commit n) m h i =
-      let (a, b) = guard-some (leb n (length (r .run))) (bind (applyAll z (lastOf n (r .run)) (r .state)) (λ s. some (settled s))) q h in
-      settled-range (applyAll z (lastOf n (r .run)) (r .state)) q b
-      (λ t e. applyAll-numbered isList z (lastOf n (r .run)) (r .state) t (all-drop (mayTake isList) (length (r .run) - n) (r .run) (i .run)) e (i .lists))
+      let (a, b) = guard-some (leb n (length (r .run))) (bind (applyAll (lastOf n (r .run)) (r .state)) (λ s. some (settled s))) q h in
+      settled-range (applyAll (lastOf n (r .run)) (r .state)) q b
+      (λ t e. applyAll-numbered isList (lastOf n (r .run)) (r .state) t (all-drop (mayTake isList) (length (r .run) - n) (r .run) (i .run)) e (i .lists))
 
-  pub replay-range : (r q : Reader D) (es : List (Entry D)) → all mayEnter es ≡ true → replay z r es ≡ some q → InRange r → InRange q
+  pub replay-range : (r q : Reader D) (es : List (Entry D)) → all mayEnter es ≡ true → replay r es ≡ some q → InRange r → InRange q
   unfolding replay all
   replay-range r q [] m h i = subst InRange (Option·some-injective _ _ h) i
   replay-range r q (e ∷ es) m h i =
-      let (x, a, b) = bind-some (read z r e) (λ y. replay z y es) q h in
+      let (x, a, b) = bind-some (read r e) (λ y. replay y es) q h in
       let (u, v) = and-true (mayEnter e) (all mayEnter es) m in
       replay-range x q es v b (read-range r x e u a i)
 

@@ -1,7 +1,7 @@
 -- An acceptable card holds entries, and its state is their replay (`carries-read`): the converse of `carries-walk`.
 use mathlib.Core.Path.{_≡_, refl, sym, ap, _∙_, subst}
 use mathlib.Core.Bool.{true}
-use mathlib.Core.Option.{Option, none, some, Option·some-injective}
+use mathlib.Core.Option.{Option, none, some, Option·some-injective, Option·map}
 use mathlib.Core.List.{List, [], _∷_, _++_, append-assoc}
 use Prim.Native.Nat.{ℕ, zero, suc, _+_, _*_, _/_, _≤_, _<_}
 use native.Mathlib.Omega.{arith}
@@ -11,10 +11,9 @@ use lib.Seq.{getD-take, getD-drop, length-take-le}
 use Rattle.lists.specs.Basic.{guard, joined}
 use Rattle.lists.specs.Change.{Change, takeList, putFirst, putAfter, write, delBlock, delList, mapChange, carriedBy}
 use Rattle.lists.proofs.Basic.{eqb-true, leb-true, and-true, bind-some, guard-some, getD-same}
-use Rattle.lists.proofs.Naturality.{mapOption}
 use Rattle.log.specs.Entry.{Entry, plain, member, commit, mapEntry, carried, encode, raw, legal, legalChange, hasMember, isBlock, isSlot, decode}
 use Rattle.log.specs.Reader.{Reader, read, replay, start}
-use Rattle.log.specs.Card.{Content, zeros, cardSlot, count, segmentEntries, usedBy, isNext, entryAt, Item, good, bad, itemsOf, segmentItems, afterEmpty, items, sound, fault, walk, walkCard, mounted}
+use Rattle.log.specs.Card.{Content, cardSlot, count, segmentEntries, usedBy, isNext, entryAt, Item, good, bad, itemsOf, segmentItems, afterEmpty, items, sound, fault, walk, walkCard, mounted}
 use Rattle.log.specs.Store.{dataOf}
 use Rattle.log.proofs.Slot.{Stands, same-getD, length-slot, getD-slot}
 use Rattle.log.proofs.Decode.{decode-complete}
@@ -56,7 +55,7 @@ entry-slot k (commit j) h n m = omega arith
 
 -- what stands in the next slot
 slot-sized : (c : List ℕ) (g k : ℕ) (o : Option ℕ) → 4096 * g + 3584 ≤ length c → k + usedBy o ≤ 14 → isNext k o ≡ true
-    → Sized (mapOption (cardSlot c g) o) × Stands c (4096 * g + 256 * k) (dataOf (mapOption (cardSlot c g) o))
+    → Sized (Option·map (cardSlot c g) o) × Stands c (4096 * g + 256 * k) (dataOf (Option·map (cardSlot c g) o))
 unfolding usedBy isNext dataOf cardSlot
 slot-sized c g k none l m n = (tt, λ j h. absurd (omega arith))
 slot-sized c g k (some t) l m n =
@@ -68,20 +67,20 @@ slot-sized c g k (some t) l m n =
 never : (g i : ℕ) (z : Reader Content) → fault g i ≡ sound z → ⊥
 never g i z h = let q : _≡_ {A = ℕ} 0 1 = cc in omega arith
 
-walk-bad : (g i : ℕ) (is : List (Item Content)) (r z : Reader Content) → walk zeros r (bad g i ∷ is) ≡ sound z → ⊥
+walk-bad : (g i : ℕ) (is : List (Item Content)) (r z : Reader Content) → walk r (bad g i ∷ is) ≡ sound z → ⊥
 unfolding walk
 walk-bad g i is r z h = never g i z h
 
-walk-good : (g i : ℕ) (e : Entry Content) (is : List (Item Content)) (r z : Reader Content) → walk zeros r (good g i e ∷ is) ≡ sound z
-    → (q : Reader Content) × (read zeros r e ≡ some q) × (walk zeros q is ≡ sound z)
+walk-good : (g i : ℕ) (e : Entry Content) (is : List (Item Content)) (r z : Reader Content) → walk r (good g i e ∷ is) ≡ sound z
+    → (q : Reader Content) × (read r e ≡ some q) × (walk q is ≡ sound z)
 unfolding walk
-walk-good g i e is r z h = go (read zeros r e) refl
+walk-good g i e is r z h = go (read r e) refl
   where
-    go : (o : Option (Reader Content)) → read zeros r e ≡ o → (q : Reader Content) × (read zeros r e ≡ some q) × (walk zeros q is ≡ sound z)
+    go : (o : Option (Reader Content)) → read r e ≡ o → (q : Reader Content) × (read r e ≡ some q) × (walk q is ≡ sound z)
     go none p = absurd (never g i z (rw (p, walk) at h))
     go (some q) p = (q, p, rw (p, walk) at h)
 
-walk-end : (r z : Reader Content) → walk zeros r [] ≡ sound z → r ≡ z
+walk-end : (r z : Reader Content) → walk r [] ≡ sound z → r ≡ z
 unfolding walk
 walk-end r z w = same r z w
   where
@@ -106,10 +105,10 @@ record Heard (c : List ℕ) (g n k : ℕ) (bs : List ℕ) (r z : Reader Content)
   filled : FilledAt c (4096 * g) k entries
   few : slotsAfter k entries ≤ 14
   reader : Reader Content
-  replays : replay zeros r entries ≡ some reader
-  onward : walk zeros reader more ≡ sound z
+  replays : replay r entries ≡ some reader
+  onward : walk reader more ≡ sound z
 
-heard-none : (c : List ℕ) (g k : ℕ) (bs : List ℕ) (r z : Reader Content) (more : List (Item Content)) → k ≤ 14 → walk zeros r more ≡ sound z → Heard c g zero k bs r z more
+heard-none : (c : List ℕ) (g k : ℕ) (bs : List ℕ) (r z : Reader Content) (more : List (Item Content)) → k ≤ 14 → walk r more ≡ sound z → Heard c g zero k bs r z more
 unfolding codes slotsAfter replay
 heard-none c g k bs r z more m h = record { entries = []; size = refl; behind = bs; bytes = refl; fine = tt; filled = tt; few = m; reader = r; replays = refl; onward = h }
 
@@ -118,8 +117,8 @@ more-bytes bs x ys cs d all p q r = p ∙ ap (λ (l : List ℕ). x ++ l) q ∙ s
 
 heard-one : (c : List ℕ) (g n i k : ℕ) (bs : List ℕ) (r z : Reader Content) (more : List (Item Content)) → 4096 * g + 3584 ≤ length c → k ≤ 14
     → (x : Entry ℕ × List ℕ) → entryAt k bs ≡ some x
-    → ((k′ : ℕ) (bs′ : List ℕ) (r′ : Reader Content) → k′ ≤ 14 → walk zeros r′ (itemsOf (cardSlot c) g n (suc i) k′ bs′ ++ more) ≡ sound z → Heard c g n k′ bs′ r′ z more)
-    → walk zeros r (good g i (mapEntry (cardSlot c g) (x .0)) ∷ (itemsOf (cardSlot c) g n (suc i) (k + usedBy (carried (x .0))) (x .1) ++ more)) ≡ sound z
+    → ((k′ : ℕ) (bs′ : List ℕ) (r′ : Reader Content) → k′ ≤ 14 → walk r′ (itemsOf (cardSlot c) g n (suc i) k′ bs′ ++ more) ≡ sound z → Heard c g n k′ bs′ r′ z more)
+    → walk r (good g i (mapEntry (cardSlot c g) (x .0)) ∷ (itemsOf (cardSlot c) g n (suc i) (k + usedBy (carried (x .0))) (x .1) ++ more)) ≡ sound z
     → Heard c g (suc n) k bs r z more
 unfolding codes slotsAfter replay
 heard-one c g n i k bs r z more l m x q ih h =
@@ -128,7 +127,7 @@ heard-one c g n i k bs r z more l m x q ih h =
     let s = cardSlot c g in
     let e = mapEntry s (x .0) in
     let back : raw k e ≡ x .0 = raw-again s k (x .0) nx in
-    let v : carried e ≡ mapOption s (carried (x .0)) = carried-map s (x .0) in
+    let v : carried e ≡ Option·map s (carried (x .0)) = carried-map s (x .0) in
     let u : usedBy (carried e) ≡ usedBy (carried (x .0)) = used-map s (x .0) in
     let f : k + usedBy (carried (x .0)) ≤ 14 = entry-slot k (x .0) lg nx m in
     let (r′, p, w) = walk-good g i e (itemsOf (cardSlot c) g n (suc i) (k + usedBy (carried (x .0))) (x .1) ++ more) r z h in
@@ -149,12 +148,12 @@ heard-one c g n i k bs r z more l m x q ih h =
     }
 
 heard : (c : List ℕ) (g n i k : ℕ) (bs : List ℕ) (r z : Reader Content) (more : List (Item Content)) → 4096 * g + 3584 ≤ length c → k ≤ 14
-    → walk zeros r (itemsOf (cardSlot c) g n i k bs ++ more) ≡ sound z → Heard c g n k bs r z more
+    → walk r (itemsOf (cardSlot c) g n i k bs ++ more) ≡ sound z → Heard c g n k bs r z more
 unfolding itemsOf
 heard c g zero i k bs r z more l m h = heard-none c g k bs r z more m h
 heard c g (suc n) i k bs r z more l m h = go (λ k′ bs′ r′ m′ h′. heard c g n (suc i) k′ bs′ r′ z more l m′ h′) (entryAt k bs) refl
   where
-    go : ((k′ : ℕ) (bs′ : List ℕ) (r′ : Reader Content) → k′ ≤ 14 → walk zeros r′ (itemsOf (cardSlot c) g n (suc i) k′ bs′ ++ more) ≡ sound z → Heard c g n k′ bs′ r′ z more)
+    go : ((k′ : ℕ) (bs′ : List ℕ) (r′ : Reader Content) → k′ ≤ 14 → walk r′ (itemsOf (cardSlot c) g n (suc i) k′ bs′ ++ more) ≡ sound z → Heard c g n k′ bs′ r′ z more)
         → (o : Option (Entry ℕ × List ℕ)) → entryAt k bs ≡ o → Heard c g (suc n) k bs r z more
     go ih none q = absurd (walk-bad g i more r z (rw (q, itemsOf) at h))
     go ih (some x) q = heard-one c g n i k bs r z more l m x q ih (rw (q, itemsOf) at h)
@@ -185,18 +184,18 @@ record Regained (c : List ℕ) (g m : ℕ) (r z : Reader Content) : Type 0 where
   size : length segs ≡ m
   packed : Packed segs
   holds : (h : ℕ) → h < m → Holds c (g + h) (getD segs h [])
-  replays : replay zeros r (joined segs) ≡ some z
+  replays : replay r (joined segs) ≡ some z
 
 first-or : (c : List ℕ) (g m : ℕ) → ((h : ℕ) → h < m → count c (suc g + h) ≡ 0) → count c g ≡ 0 → (h : ℕ) → h < suc m → count c (g + h) ≡ 0
 first-or c g m f e zero l = ap (count c) (add-zero g) ∙ e
 first-or c g m f e (suc h) l = ap (count c) (add-suc g h ∙ sym (suc-add g h)) ∙ f h (omega arith)
 
-empty-rest : (c : List ℕ) (m g : ℕ) (r z : Reader Content) → walk zeros r (afterEmpty c m g) ≡ sound z → ((h : ℕ) → h < m → count c (g + h) ≡ 0) × (r ≡ z)
+empty-rest : (c : List ℕ) (m g : ℕ) (r z : Reader Content) → walk r (afterEmpty c m g) ≡ sound z → ((h : ℕ) → h < m → count c (g + h) ≡ 0) × (r ≡ z)
 unfolding afterEmpty
 empty-rest c zero g r z w = (λ h l. absurd (omega arith), walk-end r z w)
 empty-rest c (suc m) g r z w = go (λ v. empty-rest c m (suc g) r z v) (count c g) refl
   where
-    go : (walk zeros r (afterEmpty c m (suc g)) ≡ sound z → ((h : ℕ) → h < m → count c (suc g + h) ≡ 0) × (r ≡ z))
+    go : (walk r (afterEmpty c m (suc g)) ≡ sound z → ((h : ℕ) → h < m → count c (suc g + h) ≡ 0) × (r ≡ z))
         → (n : ℕ) → count c g ≡ n → ((h : ℕ) → h < suc m → count c (g + h) ≡ 0) × (r ≡ z)
     go ih zero e = let k = ih (rw (e, afterEmpty) at w) in (λ h l. first-or c g m (k .0) e h l, k .1)
     go ih (suc n) e = absurd (walk-bad g 0 [] r z (rw (e, afterEmpty) at w))
@@ -217,7 +216,7 @@ regain-empty c g m r z f e = record {
   size = length-replicate m [];
   packed = packed-nils m;
   holds = λ h l. rw (getD-same {A = List (Entry Content)} m h []) (count-zero c (g + h) (f h l));
-  replays = ap (replay zeros r) (joined-none m) ∙ ap {B = Option (Reader Content)} some e;
+  replays = ap (replay r) (joined-none m) ∙ ap {B = Option (Reader Content)} some e;
 }
 
 regain-more : (c : List ℕ) (g n m : ℕ) (r z : Reader Content) (more : List (Item Content)) → 4096 * g + 4096 ≤ length c
@@ -228,7 +227,7 @@ regain-more c g n m r z more l t e k = record {
   size = ap suc (k .size);
   packed = packed-more (t .entries) (t .size);
   holds = λ h i. held h i;
-  replays = replay-append zeros r (t .entries) (joined (k .segs)) ∙ rw (t .replays) (k .replays);
+  replays = replay-append r (t .entries) (joined (k .segs)) ∙ rw (t .replays) (k .replays);
 }
   where
     packed-more : (es : List (Entry Content)) → length es ≡ suc n → Packed (es ∷ k .segs)
@@ -239,12 +238,12 @@ regain-more c g n m r z more l t e k = record {
     held zero i = rw (add-zero g) (segment-holds c g (suc n) r z more l t e)
     held (suc h) i = subst (λ (j : ℕ). Holds c j (getD (k .segs) h [])) (suc-add g h ∙ sym (add-suc g h)) (k .holds h (omega arith))
 
-sized-items : (c : List ℕ) (g n : ℕ) (more : List (Item Content)) (r z : Reader Content) → count c g ≡ n → walk zeros r (segmentItems (cardSlot c) c g ++ more) ≡ sound z
-    → walk zeros r (itemsOf (cardSlot c) g n 0 0 (segmentEntries c g) ++ more) ≡ sound z
+sized-items : (c : List ℕ) (g n : ℕ) (more : List (Item Content)) (r z : Reader Content) → count c g ≡ n → walk r (segmentItems (cardSlot c) c g ++ more) ≡ sound z
+    → walk r (itemsOf (cardSlot c) g n 0 0 (segmentEntries c g) ++ more) ≡ sound z
 unfolding segmentItems
 sized-items c g n more r z e w = rw e at w
 
-regained : (m g : ℕ) (c : List ℕ) (r z : Reader Content) → 4096 * (g + m) ≤ length c → walk zeros r (items (cardSlot c) c m g) ≡ sound z → Regained c g m r z
+regained : (m g : ℕ) (c : List ℕ) (r z : Reader Content) → 4096 * (g + m) ≤ length c → walk r (items (cardSlot c) c m g) ≡ sound z → Regained c g m r z
 unfolding items
 regained zero g c r z l w = regain-empty c g 0 r z (λ h i. absurd (omega arith)) (walk-end r z w)
 regained (suc m) g c r z l w = go (λ r′ w′. regained m (suc g) c r′ z (omega arith) w′) (count c g) refl
@@ -252,23 +251,23 @@ regained (suc m) g c r z l w = go (λ r′ w′. regained m (suc g) c r′ z (om
     more : List (Item Content)
     more = items (cardSlot c) c m (suc g)
 
-    go : ((r′ : Reader Content) → walk zeros r′ (items (cardSlot c) c m (suc g)) ≡ sound z → Regained c (suc g) m r′ z)
+    go : ((r′ : Reader Content) → walk r′ (items (cardSlot c) c m (suc g)) ≡ sound z → Regained c (suc g) m r′ z)
         → (n : ℕ) → count c g ≡ n → Regained c g (suc m) r z
     go ih zero e =
         let k = empty-rest c m (suc g) r z (rw (e, items) at w) in
         regain-empty c g (suc m) r z (first-or c g m (k .0) e) (k .1)
     go ih (suc n) e =
-        let w′ : walk zeros r (segmentItems (cardSlot c) c g ++ more) ≡ sound z = rw (e, items) at w in
+        let w′ : walk r (segmentItems (cardSlot c) c g ++ more) ≡ sound z = rw (e, items) at w in
         let t : Heard c g (suc n) 0 (segmentEntries c g) r z more =
         heard c g (suc n) 0 0 (segmentEntries c g) r z more (omega arith) (omega arith) (sized-items c g (suc n) more r z e w′) in
         regain-more c g n m r z more (omega arith) t e (ih (t .reader) (t .onward))
 
 pub carries-read : (n : ℕ) (c : List ℕ) (z : Reader Content) → 0 < n → length c ≡ 4096 * n → mounted c ≡ sound z
-    → (ess : List (List (Entry Content))) × Carries c ess × (replay zeros start (joined ess) ≡ some z)
+    → (ess : List (List (Entry Content))) × Carries c ess × (replay start (joined ess) ≡ some z)
 unfolding mounted walkCard
 carries-read n c z p l w =
     let q : length c / 4096 ≡ n = omega arith in
-    let k : Regained c 0 n start z = regained n 0 c start z (omega arith) (ap (λ (m : ℕ). walk zeros start (items (cardSlot c) c m 0)) (sym q) ∙ w) in (
+    let k : Regained c 0 n start z = regained n 0 c start z (omega arith) (ap (λ (m : ℕ). walk start (items (cardSlot c) c m 0)) (sym q) ∙ w) in (
       k .segs,
       record {
         size = l ∙ ap (λ (m : ℕ). 4096 * m) (sym (k .size));

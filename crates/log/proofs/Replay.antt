@@ -10,10 +10,10 @@ use Rattle.log.specs.Reader.{Reader, read, replay}
 use Rattle.log.specs.Card.{Item, good, Outcome, sound, walk}
 
 module _ {D : Type 0} where
-  pub replay-append : (z : D) (r : Reader D) (xs ys : List (Entry D)) → replay z r (xs ++ ys) ≡ bind (replay z r xs) (λ q. replay z q ys)
+  pub replay-append : (r : Reader D) (xs ys : List (Entry D)) → replay r (xs ++ ys) ≡ bind (replay r xs) (λ q. replay q ys)
   unfolding replay
-  replay-append z r [] ys = refl
-  replay-append z r (e ∷ xs) ys = bind-ext (read z r e) _ _ (λ q. replay-append z q xs ys) ∙ sym (bind-bind (read z r e) (λ q. replay z q xs) (λ q. replay z q ys))
+  replay-append r [] ys = refl
+  replay-append r (e ∷ xs) ys = bind-ext (read r e) _ _ (λ q. replay-append q xs ys) ∙ sym (bind-bind (read r e) (λ q. replay q xs) (λ q. replay q ys))
 
   -- the items of segment g that are entries, the first of them number i
   unfoldable pub goods : ℕ → ℕ → List (Entry D) → List (Item D)
@@ -25,17 +25,17 @@ module _ {D : Type 0} where
   goodsAll g [] = []
   goodsAll g (es ∷ ess) = goods g 0 es ++ goodsAll (suc g) ess
 
-  module _ (z : D) where
-    pub walk-goods : (g i : ℕ) (es : List (Entry D)) (is : List (Item D)) (r q : Reader D) → replay z r es ≡ some q → walk z r (goods g i es ++ is) ≡ walk z q is
+  module _ where
+    pub walk-goods : (g i : ℕ) (es : List (Entry D)) (is : List (Item D)) (r q : Reader D) → replay r es ≡ some q → walk r (goods g i es ++ is) ≡ walk q is
     unfolding walk goods replay
-    walk-goods g i [] is r q h = ap {B = Outcome D} (λ o. elim o [ none ↦ walk z r is | some x ↦ walk z x is ]) h
+    walk-goods g i [] is r q h = ap {B = Outcome D} (λ o. elim o [ none ↦ walk r is | some x ↦ walk x is ]) h
     walk-goods g i (e ∷ es) is r q h =
-        let (y, a, b) = bind-some (read z r e) (λ x. replay z x es) q h in
+        let (y, a, b) = bind-some (read r e) (λ x. replay x es) q h in
         rw (a, walk) (walk-goods g (suc i) es is y q b)
 
-    pub walk-all : (g : ℕ) (ess : List (List (Entry D))) (r q : Reader D) → replay z r (joined ess) ≡ some q → walk z r (goodsAll g ess) ≡ sound q
+    pub walk-all : (g : ℕ) (ess : List (List (Entry D))) (r q : Reader D) → replay r (joined ess) ≡ some q → walk r (goodsAll g ess) ≡ sound q
     unfolding walk goodsAll replay joined
     walk-all g [] r q h = ap {B = Outcome D} (λ o. elim o [ none ↦ sound r | some x ↦ sound x ]) h
     walk-all g (es ∷ ess) r q h =
-        let (y, a, b) = bind-some (replay z r es) (λ x. replay z x (joined ess)) q (sym (replay-append z r es (joined ess)) ∙ h) in
+        let (y, a, b) = bind-some (replay r es) (λ x. replay x (joined ess)) q (sym (replay-append r es (joined ess)) ∙ h) in
         walk-goods g 0 es (goodsAll (suc g) ess) r y a ∙ walk-all (suc g) ess y q b

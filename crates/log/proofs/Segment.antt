@@ -2,7 +2,7 @@
 use mathlib.Core.Path.{_≡_, refl, sym, ap, _∙_, subst}
 use mathlib.Core.Logic.{_≢_}
 use mathlib.Core.Bool.{true}
-use mathlib.Core.Option.{Option, none, some}
+use mathlib.Core.Option.{Option, none, some, Option·map}
 use mathlib.Core.List.{List, [], _∷_, _++_, append-assoc}
 use Prim.Native.Nat.{ℕ, suc, _+_, _*_, _/_, _≤_, _<_}
 use native.Mathlib.Omega.{arith}
@@ -12,10 +12,9 @@ use lib.Seq.{getD-take, length-take-le}
 use Rattle.lists.specs.Basic.{joined}
 use Rattle.lists.specs.Change.{Change, takeList, putFirst, putAfter, write, delBlock, delList, mapChange, carriedBy}
 use Rattle.lists.proofs.Basic.{eqb-same, eqb-false, eq-true}
-use Rattle.lists.proofs.Naturality.{mapOption}
 use Rattle.log.specs.Entry.{Entry, plain, member, commit, mapEntry, carried, encode, raw, legal}
 use Rattle.log.specs.Reader.{Reader, replay, start}
-use Rattle.log.specs.Card.{Content, zeros, cardSlot, count, segmentEntries, segmentsIn, usedBy, isNext, entryAt, Item, good, itemsOf, segmentItems, afterEmpty, items, sound, walkCard, mounted}
+use Rattle.log.specs.Card.{Content, cardSlot, count, segmentEntries, segmentsIn, usedBy, isNext, entryAt, Item, good, itemsOf, segmentItems, afterEmpty, items, sound, walkCard, mounted}
 use Rattle.log.specs.declared.place.Place.{Place}
 use Rattle.log.specs.Store.{opened, after, afterAll, behind, behindAll, tail, dataOf}
 use Rattle.log.proofs.Slot.{Stands, same-getD, stands-drop, slot-stands}
@@ -93,7 +92,7 @@ data-length none z = refl
 data-length (some d) z = z
 
 -- An entry is read back from its bytes, and its data from its slot.
-next-map : (k : ℕ) (o : Option Content) → isNext k (mapOption (λ d. k) o) ≡ true
+next-map : (k : ℕ) (o : Option Content) → isNext k (Option·map (λ d. k) o) ≡ true
 unfolding isNext
 next-map k none = refl
 next-map k (some d) = eqb-same k
@@ -198,9 +197,9 @@ carries-items c ess h =
     (items-card c 0 ess (omega (arith, h .size)) (h .packed) (all-hold c 0 ess (λ k l. subst (λ (n : ℕ). Holds c n (getD ess k [])) (sym (zero-add k)) (h .holds k l))))
 
 -- a card whose segments hold entries that replay is accepted, and gives the replay's state
-pub carries-walk : (c : List ℕ) (ess : List (List (Entry Content))) (z : Reader Content) → Carries c ess → replay zeros start (joined ess) ≡ some z → mounted c ≡ sound z
+pub carries-walk : (c : List ℕ) (ess : List (List (Entry Content))) (z : Reader Content) → Carries c ess → replay start (joined ess) ≡ some z → mounted c ≡ sound z
 unfolding mounted walkCard
-carries-walk c ess z h r = rw (carries-items c ess h) (walk-all zeros 0 ess start z r)
+carries-walk c ess z h r = rw (carries-items c ess h) (walk-all 0 ess start z r)
 
 -- the place behind its log is the one behind those entries
 pub carries-tail : (c : List ℕ) (ess : List (List (Entry Content))) → Carries c ess → tail c ≡ behindAll (opened 0) (goodsAll 0 ess)

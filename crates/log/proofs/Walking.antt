@@ -35,7 +35,7 @@ pub record Past (c : List ℕ) (g n i : ℕ) (cur : Cursor) (r : Reader ℕ) (m 
       × ((is : List (Item ℕ)) → behindAll p₀ (segmentItems cardLocation c g ++ is) ≡ behindAll p (itemsFrom c g cur (n - i) i ++ is))
   pub reader : Reader ℕ
   pub kept : Keeps m (cur .run) reader
-  pub walked : (is : List (Item ℕ)) → walk 0 r (segmentItems cardLocation c g ++ is) ≡ walk 0 reader (itemsFrom c g cur (n - i) i ++ is)
+  pub walked : (is : List (Item ℕ)) → walk r (segmentItems cardLocation c g ++ is) ≡ walk reader (itemsFrom c g cur (n - i) i ++ is)
 
 segment-start : (c : List ℕ) (g n run : ℕ) → n ≡ count c g → segmentItems cardLocation c g ≡ itemsFrom c g (cursor (4096 * g + 3585) 0 run) (n - 0) 0
 unfolding segmentItems segmentEntries
@@ -54,8 +54,8 @@ past-start c g n run r m h k = record {
     none = omega arith
 
 module _ (c : List ℕ) (g n i : ℕ) (cur : Cursor) (r : Reader ℕ) (m : Memory) (past : Past c g n i cur r m) where
-  pub past-stuck : i < n → ((j k : ℕ) (is : List (Item ℕ)) → walk 0 (past .reader) (itemsFrom c g cur (suc j) k ++ is) ≡ fault g k)
-      → (is : List (Item ℕ)) → walk 0 r (segmentItems cardLocation c g ++ is) ≡ fault g i
+  pub past-stuck : i < n → ((j k : ℕ) (is : List (Item ℕ)) → walk (past .reader) (itemsFrom c g cur (suc j) k ++ is) ≡ fault g k)
+      → (is : List (Item ℕ)) → walk r (segmentItems cardLocation c g ++ is) ≡ fault g i
   past-stuck h f is = let e : n - i ≡ suc (n - (i + 1)) = omega arith in past .walked is ∙ rw e (f (n - (i + 1)) i is)
 
   pub past-more : (next : Cursor) (m′ : Memory) → i < n → 4096 * g + 3585 ≤ cur .at → Went c g cur (past .reader) next m′ → Past c g n (i + 1) next r m′
@@ -111,7 +111,7 @@ pub record Upto (c : List ℕ) (n g run : ℕ) (p : Place) (m : Memory) : Type 0
   pub place : tail c ≡ behindAll p (items cardLocation c (n - g) g)
   pub reader : Reader ℕ
   pub kept : Keeps m run reader
-  pub walked : walkCard cardLocation 0 c ≡ walk 0 reader (items cardLocation c (n - g) g)
+  pub walked : walkCard cardLocation c ≡ walk reader (items cardLocation c (n - g) g)
 
 pub card-small : (c : List ℕ) → cardLength c ≡ true → (length c ≡ 4096 * segmentsIn c) × (segmentsIn c ≤ 64)
 unfolding cardLength
@@ -162,11 +162,11 @@ module _ (c : List ℕ) (n g run : ℕ) (p : Place) (m : Memory) (upto : Upto c 
   pub upto-empty : g < n → getD c (4096 * g + 3584) 0 ≡ 0 → run ≤ 64 * 255 → (u : ℕ) → FirstUsed c (g + 1) n u → n ≤ u → Sounds c p run m
   upto-empty h k r u f l = sounds r (empty-items h k ∙ f ∙ rw (le-ltb u n l))
 
-  pub upto-used : g < n → getD c (4096 * g + 3584) 0 ≡ 0 → (u : ℕ) → FirstUsed c (g + 1) n u → u < n → walkCard cardLocation 0 c ≡ fault u 0
+  pub upto-used : g < n → getD c (4096 * g + 3584) 0 ≡ 0 → (u : ℕ) → FirstUsed c (g + 1) n u → u < n → walkCard cardLocation c ≡ fault u 0
   unfolding walk
   upto-used h k u f l = let e : items cardLocation c (n - g) g ≡ bad u 0 ∷ [] = empty-items h k ∙ f ∙ rw (lt-ltb u n l) in upto .walked ∙ rw e
 
-  pub upto-broken : g < n → getD c (4096 * g + 3584) 0 ≢ 0 → (i : ℕ) → ((is : List (Item ℕ)) → walk 0 (upto .reader) (segmentItems cardLocation c g ++ is) ≡ fault g i) → walkCard cardLocation 0 c ≡ fault g i
+  pub upto-broken : g < n → getD c (4096 * g + 3584) 0 ≢ 0 → (i : ℕ) → ((is : List (Item ℕ)) → walk (upto .reader) (segmentItems cardLocation c g ++ is) ≡ fault g i) → walkCard cardLocation c ≡ fault g i
   upto-broken h k i f = upto .walked ∙ rw (used-items h k) (f (items cardLocation c (n - (g + 1)) (g + 1)))
 
   pub upto-more : g < n → getD c (4096 * g + 3584) 0 ≢ 0 → (p′ : Place) (run′ : ℕ) (m′ : Memory) → p′ .segment ≡ g → Through c g (upto .reader) p′ run′ m′ → Upto c n (g + 1) run′ p′ m′

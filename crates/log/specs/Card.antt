@@ -9,9 +9,8 @@ use mathlib.Core.Option.{Option, none, some}
 use mathlib.Core.List.{List, [], _∷_, _++_}
 use Prim.Native.Nat.{ℕ, zero, suc, _+_, _*_, _/_, _%_}
 use lib.Dec.{leb, eqb}
-use lib.ListN.{length, drop, take, getD, replicate}
+use lib.ListN.{length, drop, take, getD}
 use Rattle.lists.specs.Basic.{guard, bind}
-use Rattle.lists.specs.State.{State}
 use Rattle.log.specs.Entry.{Entry, mapEntry, carried, decode}
 use Rattle.log.specs.Reader.{Reader, read, start}
 
@@ -33,12 +32,9 @@ entriesOffset = 3585
 abbrev pub entryBytes : ℕ
 entryBytes = 511
 
--- 256 bytes; "a block just put holds 256 zeros"
+-- 256 bytes
 abbrev pub Content : Type 0
 Content = List ℕ
-
-unfoldable pub zeros : Content
-zeros = replicate slotBytes 0
 
 -- the 256 bytes number k of a buffer
 unfoldable pub slot : List ℕ → ℕ → Content
@@ -116,14 +112,14 @@ pub data Outcome (D : Type 0) : Type 0 where
   sound : Reader D → Outcome D
   fault : ℕ → ℕ → Outcome D
 
-unfoldable pub walk : {D : Type 0} → D → Reader D → List (Item D) → Outcome D
-walk z r [] = sound r
-walk z r (good g i e ∷ is) = elim (read z r e) [ none ↦ fault g i | some r′ ↦ walk z r′ is ]
-walk z r (bad g i ∷ is) = fault g i
+unfoldable pub walk : {D : Type 0} → Reader D → List (Item D) → Outcome D
+walk r [] = sound r
+walk r (good g i e ∷ is) = elim (read r e) [ none ↦ fault g i | some r′ ↦ walk r′ is ]
+walk r (bad g i ∷ is) = fault g i
 
-unfoldable pub walkCard : {D : Type 0} → (ℕ → ℕ → D) → D → List ℕ → Outcome D
-walkCard f z c = walk z start (items f c (segmentsIn c) 0)
+unfoldable pub walkCard : {D : Type 0} → (ℕ → ℕ → D) → List ℕ → Outcome D
+walkCard f c = walk start (items f c (segmentsIn c) 0)
 
 -- the walk with the contents that stand on the card
 unfoldable pub mounted : List ℕ → Outcome Content
-mounted c = walkCard (cardSlot c) zeros c
+mounted c = walkCard (cardSlot c) c

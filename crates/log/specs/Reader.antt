@@ -29,11 +29,11 @@ lastOf n l = drop (length l - n) l
 -- "Plain entries act in turn. Members act only at a commit, which takes the last so many members standing directly before it, in their order;
 -- earlier members of that run are dead. So is a run followed by a plain entry or by the end." none: "commits no longer than their run, every
 -- acting entry applicable" is broken here.
-unfoldable pub read : {D : Type 0} → D → Reader D → Entry D → Option (Reader D)
-read z r (plain c) = bind (apply z c (r .state)) (λ s. some (settled s))
-read z r (member c) = some (reader (r .run ++ c ∷ []) (r .state))
-read z r (commit n) = guard (leb n (length (r .run))) (bind (applyAll z (lastOf n (r .run)) (r .state)) (λ s. some (settled s)))
+unfoldable pub read : {D : Type 0} → Reader D → Entry D → Option (Reader D)
+read r (plain c) = bind (apply c (r .state)) (λ s. some (settled s))
+read r (member c) = some (reader (r .run ++ c ∷ []) (r .state))
+read r (commit n) = guard (leb n (length (r .run))) (bind (applyAll (lastOf n (r .run)) (r .state)) (λ s. some (settled s)))
 
-unfoldable pub replay : {D : Type 0} → D → Reader D → List (Entry D) → Option (Reader D)
-replay z r [] = some r
-replay z r (e ∷ es) = bind (read z r e) (λ r′. replay z r′ es)
+unfoldable pub replay : {D : Type 0} → Reader D → List (Entry D) → Option (Reader D)
+replay r [] = some r
+replay r (e ∷ es) = bind (read r e) (λ r′. replay r′ es)

@@ -13,7 +13,7 @@ const QUEUE: usize = QUEUE_AT as usize;
 
 const JOURNALS: usize = JOURNALS_AT as usize;
 
-// The 256 bytes that a location names.
+// The 256 bytes that a location names, which is not 0.
 pub fn copy_content(
     card: &[u8],
     queue_data: &[u8],
@@ -21,14 +21,9 @@ pub fn copy_content(
     location: u16,
     dest: &mut [u8],
 )
-    requires { ⌜ (length (contentAt (now card) (now queue_data) (now journal_data) location) ≡ 256) × (length (now dest) ≡ 256) ⌝ }
+    requires { ⌜ (1 ≤ location) × (length (contentAt (now card) (now queue_data) (now journal_data) location) ≡ 256) × (length (now dest) ≡ 256) ⌝ }
     ensures { λ r. ⌜ now (dest .exit) ≡ contentAt (now (card .entry)) (now (queue_data .entry)) (now (journal_data .entry)) location ⌝ }
 {
-    if location == 0 {
-        let blank = [0u8; 256];
-        copy_in(dest, 0, &blank);
-        return;
-    }
     let at = location as usize;
     if at < QUEUE {
         copy_slot(card, at - 1, dest);

@@ -1,5 +1,5 @@
-// Where a block's content stands, as one number, so that a table holds it: 0 is the blank; then come the card's slots, then the places of the queue data,
-// then those of the journal data.
+// Where a block's content stands, as one number, so that a table holds it: from 1 on the card's slots, then the places of the queue data, then those of the
+// journal data. 0 is none.
 use super::layout::SEGMENT;
 use super::layout::SLOT;
 ghost use mathlib.Core.Path.{_≡_};

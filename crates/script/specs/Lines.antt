@@ -67,3 +67,7 @@ cutLine n = bytes "cut " ++ decimal n ++ 10 ∷ []
 -- `block B: HEX`
 unfoldable pub blockLine : ℕ → List ℕ → List ℕ
 blockLine b content = bytes "block " ++ decimal b ++ bytes ": " ++ hexText content ++ 10 ∷ []
+
+-- "`list` and `show` print `block B: unwritten`"
+unfoldable pub unwrittenLine : ℕ → List ℕ
+unwrittenLine b = bytes "block " ++ decimal b ++ bytes ": unwritten" ++ 10 ∷ []

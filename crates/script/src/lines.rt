@@ -6,7 +6,7 @@ use text::put::put_bytes;
 ghost use mathlib.Core.Path.{_≡_};
 ghost use Rattle.text.specs.Written.{Puts};
 ghost use Rattle.listing.specs.Listing.{numbers, listLine};
-ghost use Rattle.script.specs.Lines.{numberLine, pairLine, tripleLine, cutLine, blockLine, spaced};
+ghost use Rattle.script.specs.Lines.{numberLine, pairLine, tripleLine, cutLine, blockLine, unwrittenLine, spaced};
 
 // `A`
 pub fn put_number(out: &mut [u8], at: usize, a: u64) -> usize
@@ -84,6 +84,16 @@ pub fn put_block(out: &mut [u8], at: usize, block: u8, content: &[u8]) -> usize
     position = put_decimal(out, position, block as u64);
     position = put_bytes(out, position, b": ");
     position = put_hex(out, position, content);
+    put_byte(out, position, b'\n')
+}
+
+// `block B: unwritten`
+pub fn put_unwritten(out: &mut [u8], at: usize, block: u8) -> usize
+    ensures { λ r. ⌜ Puts (now (out .entry)) at (unwrittenLine block) (now (out .exit)) r ⌝ }
+{
+    let mut position = put_bytes(out, at, b"block ");
+    position = put_decimal(out, position, block as u64);
+    position = put_bytes(out, position, b": unwritten");
     put_byte(out, position, b'\n')
 }
 

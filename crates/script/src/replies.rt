@@ -129,5 +129,6 @@ pub fn number_of(x: Refusal) -> u64
         Refusal::JournalFull => 11,
         Refusal::Conflict => 12,
         Refusal::QueueFull => 13,
+        Refusal::Unwritten => 15,
     }
 }

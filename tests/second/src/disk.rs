@@ -1,4 +1,4 @@
-//! The calls: document 01, "The calls", "Flush" and "The questions, in order".
+//! The calls: document 01, "The calls", "Flush" and "The questions, in order"; document 02, E4.
 //!
 //! Each call asks its questions in the order of their numbers and returns the first that is answered no; "a call
 //! passes over what it doesn't use". Numbers come as wide as a caller may write them and are never cut.
@@ -36,6 +36,8 @@ pub enum Refusal {
     Conflict = 12,
     /// The queue doesn't take what is added.
     QueueFull = 13,
+    /// The block was not written since its present put.
+    Unwritten = 15,
 }
 
 impl Refusal {
@@ -305,17 +307,15 @@ impl Lent<'_> {
 
     // ---- Look-ups ----------------------------------------------------------------------------------------------
 
-    /// Read: the 256 bytes of `block` in a view. Asks 1, 3, 4, 5, 8.
+    /// Read: the 256 bytes of `block` in a view. Asks 1, 3, 4, 5, 8, 15.
     pub fn read(&self, view: u64, block: u64, destination: &mut [u8]) -> Result<(), Refusal> {
         let versions = self.versions()?;
         let view = self.view(&versions, view)?;
         let block = number_in_range(block, 1, BLOCKS)?;
         length_is(destination, BLOCK_BYTES)?;
-        let content = view.content(block).ok_or(Refusal::Block)?;
-        match self.bytes_of(content) {
-            Some(bytes) => destination.copy_from_slice(bytes),
-            None => destination.fill(0),
-        }
+        block_is_on_a_list(&view, block)?;
+        let content = view.content(block).ok_or(Refusal::Unwritten)?;
+        destination.copy_from_slice(self.bytes_of(content));
         Ok(())
     }
 
@@ -421,15 +421,14 @@ impl Lent<'_> {
         }
     }
 
-    /// The bytes of a content, None for zeros.
-    fn bytes_of(&self, content: Content) -> Option<&[u8]> {
+    /// The bytes of a content.
+    fn bytes_of(&self, content: Content) -> &[u8] {
         let (buffer, at): (&[u8], usize) = match content {
-            Content::Zeros => return None,
             Content::Slot { segment, slot } => (self.card, log::slot_at(usize::from(segment), slot)),
             Content::Queue { place } => (self.queue_data, usize::from(place) * BLOCK_BYTES),
             Content::Journal { unit, entry } => (self.journal_data, journal_data_at(unit, usize::from(entry))),
         };
-        Some(&buffer[at..][..BLOCK_BYTES])
+        &buffer[at..][..BLOCK_BYTES]
     }
 }
 

@@ -1,4 +1,4 @@
-//! What the lister prints for a card: document 01, "Runs with known outcome".
+//! What the lister prints for a card: document 01, "Runs with known outcome"; document 02, E4.
 
 use std::fmt::Write;
 
@@ -8,6 +8,9 @@ use crate::state::{Content, State};
 
 const LENGTH_REFUSED: &str = "refused 1\n";
 const LOG_REFUSED: &str = "refused 2\n";
+
+/// What stands in place of a content where there is none: "The lister prints `block 4: unwritten` for such a block."
+pub const UNWRITTEN: &str = "unwritten";
 
 /// The lister's lines for the bytes of a card.
 pub fn lines(card: &[u8]) -> String {
@@ -22,11 +25,12 @@ pub fn lines(card: &[u8]) -> String {
     for list in (1..=LISTS).filter(|&list| state.is_taken(list)) {
         lines.push_str(&list_line(state, list));
     }
-    for block in 1..=BLOCKS {
-        if let Some(content) = state.content(block) {
-            // Writing to a string cannot fail.
-            let _ = writeln!(lines, "block {block}: {}", sum(card, content));
-        }
+    for block in (1..=BLOCKS).filter(|&block| state.is_on_a_list(block)) {
+        // Writing to a string cannot fail.
+        let _ = match state.content(block) {
+            Some(content) => writeln!(lines, "block {block}: {}", sum(card, content)),
+            None => writeln!(lines, "block {block}: {UNWRITTEN}"),
+        };
     }
     lines
 }
@@ -41,13 +45,13 @@ pub fn list_line(state: &State, list: u8) -> String {
     line
 }
 
-/// The sum of the bytes of a block of the persistent state, which are zeros or stand in a slot.
+/// The sum of the bytes of a content of the persistent state, which stand in a slot.
 fn sum(card: &[u8], content: Content) -> u32 {
     match content {
         Content::Slot { segment, slot } => card[slot_at(usize::from(segment), slot)..][..BLOCK_BYTES]
             .iter()
             .map(|&byte| u32::from(byte))
             .sum(),
-        Content::Zeros | Content::Queue { .. } | Content::Journal { .. } => 0,
+        Content::Queue { .. } | Content::Journal { .. } => 0,
     }
 }

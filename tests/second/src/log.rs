@@ -118,17 +118,16 @@ impl Log {
             };
             let decoded = Entry::decode(&bytes[at..]).map_err(fault)?;
             at += decoded.length;
-            let mut content = Content::Zeros;
             if decoded.entry.is_write() {
                 if decoded.slot != slots {
                     return Err(fault(Cause::Slot));
                 }
                 slots += 1;
-                content = Content::Slot {
-                    segment: segment as u8,
-                    slot: decoded.slot,
-                };
             }
+            let content = Content::Slot {
+                segment: segment as u8,
+                slot: decoded.slot,
+            };
             self.reading.read(decoded.entry, content).map_err(|stop| match stop {
                 Stop::Run => fault(Cause::Run),
                 Stop::Inapplicable => fault(Cause::Inapplicable),

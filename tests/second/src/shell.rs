@@ -256,8 +256,10 @@ impl Shell {
         }
         for block in state.lists().iter().flat_map(|&list| state.blocks_on(list)) {
             let mut data = [0; BLOCK_BYTES];
-            if lent.read(view, u64::from(block), &mut data).is_ok() {
-                print(output, format_args!("block {block}: {}", hex(&data)));
+            match lent.read(view, u64::from(block), &mut data) {
+                Ok(()) => print(output, format_args!("block {block}: {}", hex(&data))),
+                // The view is open and has the block on a list, so that nothing else is refused.
+                Err(_) => print(output, format_args!("block {block}: {}", lister::UNWRITTEN)),
             }
         }
     }

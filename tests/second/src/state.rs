@@ -1,13 +1,12 @@
-//! What a state is and how entries act on it: document 01, "What a state is".
+//! What a state is and how entries act on it: document 01, "What a state is", and document 02, E4: a block has a content
+//! only if it was "written since its present put".
 
 use crate::entry::{Change, Entry};
 use crate::limits::{BLOCKS, JOURNAL, LISTS};
 
-/// Where the 256 bytes of a block stand.
+/// Where the 256 bytes that a write brings stand.
 #[derive(Clone, Copy, PartialEq, Eq, Debug)]
 pub enum Content {
-    /// "A block just put holds 256 zeros."
-    Zeros,
     /// A slot of the card.
     Slot {
         /// From 0.
@@ -29,7 +28,7 @@ pub enum Content {
     },
 }
 
-/// The lists taken, the blocks on each in order, and for each of these blocks its content.
+/// The lists taken, the blocks on each in order, and the content of each of these blocks that is written.
 ///
 /// Tables have one element for each number and one for number 0, which means "none".
 #[derive(Clone, Copy, Debug)]
@@ -46,8 +45,8 @@ pub struct State {
     next: [u8; BLOCKS as usize + 1],
     /// The list that a block is on, 0 if it is on none.
     list_of: [u8; BLOCKS as usize + 1],
-    /// The content of a block that is on a list.
-    content: [Content; BLOCKS as usize + 1],
+    /// The content of a block that is on a list, none if it was not written since its put.
+    content: [Option<Content>; BLOCKS as usize + 1],
 }
 
 impl State {
@@ -59,7 +58,7 @@ impl State {
         first: [0; LISTS as usize + 1],
         next: [0; BLOCKS as usize + 1],
         list_of: [0; BLOCKS as usize + 1],
-        content: [Content::Zeros; BLOCKS as usize + 1],
+        content: [None; BLOCKS as usize + 1],
     };
 
     /// The lists taken, in the order of their taking.
@@ -85,9 +84,9 @@ impl State {
         self.list_of(block).is_some()
     }
 
-    /// The content of `block`, 1 to 64, if it is on some list.
+    /// The content of `block`, 1 to 64, if it is on some list and was "written since its present put".
     pub fn content(&self, block: u8) -> Option<Content> {
-        self.list_of(block).map(|_| self.content[usize::from(block)])
+        self.content[usize::from(block)].filter(|_| self.is_on_a_list(block))
     }
 
     /// The block after `predecessor` on `list`; predecessor 0 asks for the first, and 0 is the end.
@@ -108,7 +107,7 @@ impl State {
         })
     }
 
-    /// Makes `change`, with the content that a write brings. Says whether it applies; if not, nothing changes.
+    /// Makes `change`, with the content that it brings if it is a write. Says whether it applies; if not, nothing changes.
     #[must_use]
     pub fn apply(&mut self, change: Change, content: Content) -> bool {
         match change {
@@ -141,7 +140,7 @@ impl State {
             Change::Write { block } => {
                 let applies = self.is_on_a_list(block);
                 if applies {
-                    self.content[usize::from(block)] = content;
+                    self.content[usize::from(block)] = Some(content);
                 }
                 applies
             }
@@ -173,7 +172,7 @@ impl State {
         self.next[usize::from(block)] = self.block_after(list, predecessor);
         self.set_block_after(list, predecessor, block);
         self.list_of[usize::from(block)] = list;
-        self.content[usize::from(block)] = Content::Zeros;
+        self.content[usize::from(block)] = None;
     }
 
     fn delete_block(&mut self, block: u8, list: u8) {
@@ -220,7 +219,7 @@ pub struct Run {
 impl Run {
     /// A run without members.
     pub const EMPTY: Run = Run {
-        last: [(Change::TakeList { list: 1 }, Content::Zeros); JOURNAL],
+        last: [(Change::TakeList { list: 1 }, Content::Queue { place: 0 }); JOURNAL],
         length: 0,
     };
 

@@ -1,6 +1,6 @@
 //! The book of document 01 ("Flush", demand 3), kept beside random scripts: the committed state is what the history
 //! makes, the persistent one what its longest prefix makes whose closing stores are on the card, and a mount gives
-//! that state, whatever was cut.
+//! that state, whatever was cut. Which blocks are unwritten is part of a state (document 02, E4).
 //!
 //! The book is fed the lines of a script, which calls are accepted, which are refused 12, and the numbers given. It
 //! shares nothing with the library but the sizes: states are lists of lists here.
@@ -35,8 +35,8 @@ impl Change {
     }
 }
 
-/// A block's number and its bytes.
-type Block = (u8, [u8; BLOCK_BYTES]);
+/// A block's number and its bytes, none until it is written.
+type Block = (u8, Option<[u8; BLOCK_BYTES]>);
 
 /// Lists taken in the order of their taking, each with its blocks.
 #[derive(Default)]
@@ -84,14 +84,14 @@ impl Model {
                             .expect("it is on the list")
                     }
                 };
-                blocks.insert(place, (block, [0; BLOCK_BYTES]));
+                blocks.insert(place, (block, None));
             }
             Change::Write { block, ref data } => {
                 let mut blocks = self.lists.iter_mut().flat_map(|(_, blocks)| blocks);
                 blocks
                     .find(|(other, _)| *other == block)
                     .expect("the block is on a list")
-                    .1 = **data;
+                    .1 = Some(**data);
             }
             Change::DeleteBlock { block } => {
                 let before: usize = self.lists.iter().map(|(_, blocks)| blocks.len()).sum();
@@ -116,13 +116,20 @@ impl Model {
             writeln!(lines, "list {list}:{numbers}").unwrap();
         }
         for (block, data) in self.lists.iter().flat_map(|(_, blocks)| blocks) {
-            let length = data.iter().rposition(|&byte| byte != 0).map_or(0, |last| last + 1);
-            let digits: String = data[..length].iter().map(|byte| format!("{byte:02x}")).collect();
-            let digits = if digits.is_empty() { "-" } else { &digits };
+            let digits = data.map_or("unwritten".to_string(), |data| digits(&data));
             writeln!(lines, "block {block}: {digits}").unwrap();
         }
         lines
     }
+}
+
+/// As the shell prints bytes.
+fn digits(data: &[u8; BLOCK_BYTES]) -> String {
+    let length = data.iter().rposition(|&byte| byte != 0).map_or(0, |last| last + 1);
+    if length == 0 {
+        return "-".to_string();
+    }
+    data[..length].iter().map(|byte| format!("{byte:02x}")).collect()
 }
 
 /// One entry of the serial history: a simple change, or the changes of an End.

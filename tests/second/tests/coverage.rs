@@ -9,6 +9,7 @@ use second::limits::{BLOCKS, BLOCK_BYTES, JOURNAL, LISTS, QUEUE, SEGMENT_BYTES, 
 use second::lister;
 use second::log::{stores_of, Log};
 use second::shell::Shell;
+use second::state::State;
 
 const SEEDS: u64 = 200;
 
@@ -21,7 +22,7 @@ const QUESTIONS: &[(&str, &[u64])] = &[
     ("write", &[1, 3, 4, 5, 8, 11, 13]),
     ("delblock", &[1, 3, 4, 5, 8, 11, 13]),
     ("dellist", &[1, 3, 4, 5, 7, 11, 13]),
-    ("read", &[1, 3, 4, 5, 8]),
+    ("read", &[1, 3, 4, 5, 8, 15]),
     ("begin", &[1, 3, 4, 6]),
     ("end", &[1, 3, 4, 12, 13]),
     ("flush", &[1, 3, 5]),
@@ -68,6 +69,10 @@ impl Reached {
             }
             "mount" if answer == "0" => self.observe_log(shell),
             "flush" if answer == "0" => self.observe_flush(printed, shell),
+            "read" if answer == "15" => self.add(format!("unwritten, read in {}", view_of(&line))),
+            "show" if printed.contains("unwritten") => self.add(format!("unwritten, shown in {}", view_of(&line))),
+            "list" => self.add_if(printed.contains("unwritten"), "unwritten, listed"),
+            "read" => self.add_if(printed == "0 -\n", "zeros, read"),
             _ => {}
         }
         self.observe_record(shell);
@@ -121,12 +126,40 @@ impl Reached {
             open.clone().any(|unit| record.unit(unit).journal().len() == JOURNAL),
             "a full journal",
         );
+        let (committed, persistent) = (versions.committed, versions.log.reading.state);
+        self.add_if(
+            loses_a_content(&persistent, &committed),
+            "written in view 5, put again in view 0",
+        );
+        self.add_if(
+            loses_a_content(&committed, &persistent),
+            "written in view 0, unwritten in view 5",
+        );
         for unit in open {
-            let mut state = versions.committed;
+            let mut state = committed;
             let all_apply = record.unit(unit).replay(unit, &mut state);
             self.add_if(!all_apply, "a view with entries skipped");
+            self.add_if(
+                loses_a_content(&state, &committed),
+                "written in a unit, unwritten in view 0",
+            );
         }
     }
+}
+
+/// The view that a line names: 0, 5 or a unit's.
+fn view_of(line: &str) -> &'static str {
+    match line.split_ascii_whitespace().nth(1).and_then(|word| word.parse().ok()) {
+        Some(0_u64) => "view 0",
+        Some(5) => "view 5",
+        _ => "a unit's view",
+    }
+}
+
+/// Whether a block that is on lists of both states is written in `state` and unwritten in `other`.
+fn loses_a_content(state: &State, other: &State) -> bool {
+    (1..=BLOCKS)
+        .any(|block| state.content(block).is_some() && other.is_on_a_list(block) && other.content(block).is_none())
 }
 
 #[test]
@@ -184,6 +217,17 @@ fn scripts_reach_every_refusal_ending_and_fault() {
         "four units",
         "a full journal",
         "a view with entries skipped",
+        "unwritten, read in view 0",
+        "unwritten, read in a unit's view",
+        "unwritten, read in view 5",
+        "unwritten, shown in view 0",
+        "unwritten, shown in a unit's view",
+        "unwritten, shown in view 5",
+        "unwritten, listed",
+        "zeros, read",
+        "written in view 5, put again in view 0",
+        "written in view 0, unwritten in view 5",
+        "written in a unit, unwritten in view 0",
     ] {
         reached.assert(state);
     }
@@ -211,6 +255,7 @@ fn cards_reach_every_answer_of_the_lister() {
         let first = lines.lines().next().unwrap_or("");
         reached.add(if first.starts_with("refused") { first } else { "listed" });
         reached.add_if(lines.contains("block"), "blocks");
+        reached.add_if(lines.contains(": unwritten"), "an unwritten block");
         reached.add_if(lines.lines().any(|line| line.ends_with(':')), "an empty list");
         reached.add_if(card.len() == 17 * SEGMENT_BYTES, "17 segments");
         reached.add_if(first.starts_with("segments 16"), "16 segments");
@@ -224,6 +269,7 @@ fn cards_reach_every_answer_of_the_lister() {
         "refused 2",
         "listed",
         "blocks",
+        "an unwritten block",
         "an empty list",
         "17 segments",
         "16 segments",

@@ -1,4 +1,5 @@
-//! The "Runs with known outcome" of document 01, in their order; those that it marks P are named so.
+//! The "Runs with known outcome" of document 01, in their order; those that it marks P are named so. Then what document 02,
+//! E4 says of blocks that nobody wrote.
 
 use second::disk::{Ending, Flushed, Lent, MountRefusal, Refusal};
 use second::entry::Cause;
@@ -75,9 +76,27 @@ impl Owner {
         assert_eq!(self.lend().mount(), Ok(()));
     }
 
+    /// A read; refused, it leaves the destination as it was.
     fn read(&mut self, view: u64, block: u64) -> Result<[u8; BLOCK_BYTES], Refusal> {
-        let mut data = [165; BLOCK_BYTES];
-        self.lend().read(view, block, &mut data).map(|()| data)
+        const BEFORE: [u8; BLOCK_BYTES] = [165; BLOCK_BYTES];
+        let mut data = BEFORE;
+        let answer = self.lend().read(view, block, &mut data);
+        assert!(answer.is_ok() || data == BEFORE);
+        answer.map(|()| data)
+    }
+
+    /// The answers of reads of `block` in these views: 0, or the refusal's number.
+    fn reads<const VIEWS: usize>(&mut self, block: u64, views: [u64; VIEWS]) -> [u8; VIEWS] {
+        views.map(|view| self.read(view, block).map_or_else(Refusal::number, |_| 0))
+    }
+
+    /// List 1 with block 1 put and nobody's write, flushed.
+    fn unwritten() -> Owner {
+        let mut owner = Owner::formatted(1);
+        assert_eq!(owner.lend().new_list(0), Ok(1));
+        assert_eq!(owner.lend().new_block(0, 1, 0), Ok(1));
+        assert_eq!(owner.flush(65_535), flushed(7, Ending::Drained));
+        owner
     }
 }
 
@@ -98,12 +117,19 @@ fn p_flush_takes_267_stores() {
     assert_eq!(owner.card[..BLOCK_BYTES], seven());
 }
 
+/// "Document 01's 266-store case now shows block 1 unwritten."
 #[test]
-fn p_after_266_stores_block_1_holds_zeros() {
+fn p_after_266_stores_block_1_is_unwritten() {
     let mut owner = Owner::begun(1);
     assert_eq!(owner.flush(266), flushed(266, Ending::Spent));
+    assert_eq!(owner.reads(1, [0, 5]), [0, 15]);
     owner.remount();
-    assert_eq!(owner.read(0, 1), Ok([0; BLOCK_BYTES]));
+    assert_eq!(owner.reads(1, [0, 5]), [15, 15]);
+    assert_eq!(owner.lend().next_block(0, 1, 0), Ok(1));
+    assert_eq!(
+        lister::lines(&owner.card),
+        "segments 1 used 1 entries 2\nlist 1: 1\nblock 1: unwritten\n"
+    );
 }
 
 #[test]
@@ -382,4 +408,146 @@ fn conflict_count_stops() {
     }
     owner.remount();
     assert_eq!(owner.lend().conflicts(), Ok(0));
+}
+
+// ---- Document 02, E4 ------------------------------------------------------------------------------------------------
+
+/// "A write of 256 zeros counts as written."
+#[test]
+fn a_write_of_zeros_counts() {
+    let mut owner = Owner::unwritten();
+    assert_eq!(owner.reads(1, [0, 5]), [15, 15]);
+    assert_eq!(owner.lend().write(0, 1, &[0; BLOCK_BYTES]), Ok(()));
+    assert_eq!(owner.read(0, 1), Ok([0; BLOCK_BYTES]));
+    assert_eq!(owner.read(5, 1), Err(Refusal::Unwritten));
+    assert_eq!(owner.flush(65_535), flushed(260, Ending::Drained));
+    owner.remount();
+    assert_eq!(owner.read(5, 1), Ok([0; BLOCK_BYTES]));
+    assert_eq!(
+        lister::lines(&owner.card),
+        "segments 1 used 1 entries 3\nlist 1: 1\nblock 1: 0\n"
+    );
+}
+
+/// "Not written since its present put": an earlier write is not since.
+#[test]
+fn a_block_deleted_and_put_again_is_unwritten_again() {
+    let mut owner = Owner::begun_and_flushed();
+    assert_eq!(owner.lend().delete_block(0, 1), Ok(()));
+    assert_eq!(owner.read(0, 1), Err(Refusal::Block));
+    // The numbers go round once: 2 to 64 on list 1, then 1 again.
+    for block in 2..=64 {
+        assert_eq!(owner.lend().new_block(0, 1, 0), Ok(block));
+        assert!(owner.flush(65_535).is_ok());
+    }
+    assert_eq!(owner.lend().new_block(0, 1, 0), Ok(1));
+    assert_eq!(owner.reads(1, [0, 5]), [15, 8]);
+    assert!(owner.flush(65_535).is_ok());
+    assert_eq!(owner.reads(1, [0, 5]), [15, 15]);
+    owner.remount();
+    assert_eq!(owner.reads(1, [0, 5]), [15, 15]);
+    assert_eq!(owner.lend().write(0, 1, &seven()), Ok(()));
+    assert_eq!(owner.read(0, 1), Ok(seven()));
+}
+
+/// The same by deleting the list, and mounting before the put: numbers begin with 1 again.
+#[test]
+fn a_block_of_a_deleted_list_is_unwritten_when_put_again() {
+    let mut owner = Owner::begun_and_flushed();
+    assert_eq!(owner.lend().delete_list(0, 1), Ok(()));
+    assert_eq!(owner.lend().new_list(0), Ok(2));
+    assert_eq!(owner.flush(65_535), flushed(6, Ending::Drained));
+    owner.remount();
+    assert_eq!(owner.lend().new_block(0, 2, 0), Ok(1));
+    assert_eq!(owner.read(0, 1), Err(Refusal::Unwritten));
+    assert_eq!(owner.flush(65_535), flushed(4, Ending::Drained));
+    assert_eq!(
+        lister::lines(&owner.card),
+        "segments 1 used 1 entries 6\nlist 2: 1\nblock 1: unwritten\n"
+    );
+}
+
+/// "By that view's state": a unit's write is in its view alone until its End.
+#[test]
+fn a_units_write_is_seen_in_its_view_until_end() {
+    let mut owner = Owner::unwritten();
+    assert_eq!(owner.lend().begin(1), Ok(()));
+    assert_eq!(owner.lend().begin(2), Ok(()));
+    assert_eq!(owner.lend().write(1, 1, &seven()), Ok(()));
+    assert_eq!(owner.read(1, 1), Ok(seven()));
+    assert_eq!(owner.reads(1, [0, 1, 2, 5]), [15, 0, 15, 15]);
+    assert_eq!(owner.lend().end(1), Ok(()));
+    assert_eq!(owner.reads(1, [0, 1, 2, 5]), [0, 4, 0, 15]);
+    assert_eq!(owner.read(2, 1), Ok(seven()));
+    // The member alone is dead: the write counts with its commit.
+    assert_eq!(owner.flush(262), flushed(262, Ending::Spent));
+    assert_eq!(owner.read(5, 1), Err(Refusal::Unwritten));
+    assert_eq!(owner.flush(1), flushed(1, Ending::Drained));
+    assert_eq!(owner.read(5, 1), Ok(seven()));
+}
+
+/// A block that a unit puts is unwritten in its view until the unit writes it, and in the others once it ends.
+#[test]
+fn a_block_put_in_a_unit_is_unwritten_there() {
+    let mut owner = Owner::unwritten();
+    assert_eq!(owner.lend().begin(3), Ok(()));
+    assert_eq!(owner.lend().new_block(3, 1, 1), Ok(2));
+    assert_eq!(owner.reads(2, [0, 3, 5]), [8, 15, 8]);
+    assert_eq!(owner.lend().end(3), Ok(()));
+    assert_eq!(owner.reads(2, [0, 5]), [15, 8]);
+    assert_eq!(owner.flush(65_535), flushed(8, Ending::Drained));
+    assert_eq!(owner.reads(2, [0, 5]), [15, 15]);
+    assert_eq!(
+        lister::lines(&owner.card),
+        "segments 1 used 1 entries 4\nlist 1: 1 2\nblock 1: unwritten\nblock 2: unwritten\n"
+    );
+}
+
+/// A lost unit's write leaves the block unwritten: lost by a cut before its commit, by a mount, or by a conflict.
+#[test]
+fn a_lost_units_write_does_not_count() {
+    let mut owner = Owner::unwritten();
+    assert_eq!(owner.lend().begin(1), Ok(()));
+    assert_eq!(owner.lend().write(1, 1, &seven()), Ok(()));
+    let mut open = owner.clone();
+    open.remount();
+    assert_eq!(open.reads(1, [0, 1, 5]), [15, 4, 15]);
+
+    let mut cut = owner.clone();
+    assert_eq!(cut.lend().end(1), Ok(()));
+    assert_eq!(cut.flush(262), flushed(262, Ending::Spent));
+    cut.remount();
+    assert_eq!(cut.reads(1, [0, 5]), [15, 15]);
+    assert_eq!(
+        lister::lines(&cut.card),
+        "segments 1 used 1 entries 3\nlist 1: 1\nblock 1: unwritten\n"
+    );
+
+    assert_eq!(owner.lend().new_list(0), Ok(2));
+    assert_eq!(owner.lend().delete_list(1, 2), Ok(()));
+    assert_eq!(owner.lend().delete_list(0, 2), Ok(()));
+    assert_eq!(owner.reads(1, [0, 1, 5]), [15, 0, 15]);
+    assert_eq!(owner.lend().end(1), Err(Refusal::Conflict));
+    assert_eq!(owner.reads(1, [0, 1, 5]), [15, 4, 15]);
+}
+
+/// "The refusal is 15, after question 9": the range and the length come before, and the list.
+#[test]
+fn question_15_comes_last() {
+    let mut owner = Owner::unwritten();
+    for (view, block, length, number) in [
+        (6, 1, 256, 4),
+        (1, 1, 256, 4),
+        (0, 0, 256, 5),
+        (0, 65, 256, 5),
+        (0, 1, 255, 5),
+        (0, 1, 257, 5),
+        (0, 2, 256, 8),
+        (0, 1, 256, 15),
+    ] {
+        let mut destination = vec![165; length];
+        let refusal = owner.lend().read(view, block, &mut destination);
+        assert_eq!(refusal.map_err(Refusal::number), Err(number));
+        assert!(destination.iter().all(|&byte| byte == 165));
+    }
 }

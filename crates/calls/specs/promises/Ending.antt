@@ -12,7 +12,6 @@ use Rattle.lists.specs.promises.Tables.{Tables, Shows}
 use Rattle.log.specs.declared.entry.LogEntry.{LogEntry}
 use Rattle.log.specs.Card.{slot}
 use Rattle.log.specs.Entry.{member, raw, legal, asChange}
-use Rattle.log.specs.promises.Location.{blank}
 use Rattle.disk.specs.Record.{Record, unitAt, unitTurned, releasing}
 use Rattle.disk.specs.declared.answer.Reply.{Reply}
 use Rattle.disk.specs.declared.answer.Reply.the-variants.{Accepted, Refused}
@@ -59,4 +58,4 @@ EndsAs a q j r u Accepted q′ r′ =
 
 -- the tables show the committed state
 abbrev pub Ends : Tables → List ℕ → List ℕ → Record → ℕ → Reply → List ℕ → Record → Type 0
-Ends t q j r u x q′ r′ = (st : State ℕ) → Shows t (st .lists) → EndsAs (isSome (applyAll blank (journalHere (unitAt r u) u) st)) q j r u x q′ r′
+Ends t q j r u x q′ r′ = (st : State ℕ) → Shows t (st .lists) → EndsAs (isSome (applyAll (journalHere (unitAt r u) u) st)) q j r u x q′ r′

@@ -12,7 +12,6 @@ use Rattle.log.specs.declared.entry.LogEntry.{LogEntry}
 use Rattle.log.specs.declared.entry.LogEntry.the-variants.{Take, PutFirst, PutAfter}
 use Rattle.log.specs.Entry.{isList, asEntry}
 use Rattle.log.specs.Cell.{cellOf}
-use Rattle.log.specs.promises.Location.{blank}
 use Rattle.disk.specs.Record.{Record, unitAt, holderOf, appended, holding, withLastBlock, withLastList}
 use Rattle.disk.specs.declared.answer.NumberReply.{NumberReply}
 use Rattle.disk.specs.declared.answer.NumberReply.the-variants.{Number, Refused}
@@ -61,7 +60,7 @@ rangedPutQuestions l p b rs = (5, isList l && leb p 64) ∷ putQuestions l p b r
 
 -- stream s's view over the committed state
 abbrev pub viewHere : Record → ℕ → State ℕ → State ℕ
-viewHere r s st = cond (eqb s 0) st (overlay blank (journalHere (unitAt r s) s) st)
+viewHere r s st = cond (eqb s 0) st (overlay (journalHere (unitAt r s) s) st)
 
 abbrev pub Lays : Tables → Record → ℕ → Tables → Type 0
 Lays t r s t′ = (st : State ℕ) → Shows t (st .lists) → Shows t′ (viewHere r s st .lists)

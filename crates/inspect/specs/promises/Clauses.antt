@@ -13,7 +13,6 @@ use Rattle.lists.specs.promises.Tables.{Tables, Shows}
 use Rattle.log.specs.Entry.{Entry, member, raw, legal, isBlock, isList, asChange}
 use Rattle.log.specs.Cell.{entryIn}
 use Rattle.log.specs.Reader.{Reader, replay}
-use Rattle.log.specs.promises.Location.{blank}
 use Rattle.log.specs.promises.Feed.{Memory, Keeps}
 use Rattle.disk.specs.Record.{Unit, Record, noCell, unitAt, isOpen, holderOf, queuePlaces, journalPlaces, unitCount}
 use Rattle.disk.specs.Disk.{disk, queued}
@@ -60,8 +59,8 @@ lawful es = all (λ e. legal (raw 0 e)) es
 
 -- entries es replayed from reader x: whether they are lawful and apply, and what the tables show then
 abbrev pub ReplayTo : List (Entry ℕ) → Reader ℕ → Bool → Tables → Type 0
-ReplayTo es x false t = lawful es && isSome (replay blank x es) ≡ false
-ReplayTo es x true t = (lawful es ≡ true) × (y : Reader ℕ) × (replay blank x es ≡ some y) × Shows t (y .state .lists)
+ReplayTo es x false t = lawful es && isSome (replay x es) ≡ false
+ReplayTo es x true t = (lawful es ≡ true) × (y : Reader ℕ) × (replay x es ≡ some y) × Shows t (y .state .lists)
 
 -- the queue, from whichever reader the lent tables keep
 abbrev pub Replays : Memory → ℕ → Record → Bool → Tables → Type 0
@@ -75,7 +74,7 @@ rowsOf (some x) = x .state .lists
 -- question 3 behind the log, of card c and queue data q; reader x stands at the log's end
 unfoldable pub settledRight : List ℕ → List ℕ → Record → Reader ℕ → Bool
 settledRight c q r x =
-    let o = replay blank x (queueHere r) in
+    let o = replay x (queueHere r) in
     each (lawful (queueHere r) ∷ isSome o ∷ holdersRight r (rowsOf o) ∷ headStanding c (r .done) (queued (disk c q [] r)) ∷ [])
 
 -- the answer b to it, whichever reader the lent tables keep
@@ -85,9 +84,9 @@ Settled c q m run r b = (x : Reader ℕ) → Keeps m run x → b ≡ settledRigh
 -- and if it is yes, the tables show the committed state
 pub record Settles (c q : List ℕ) (m : Memory) (run : ℕ) (r : Record) (b : Bool) (t : Tables) : Type 0 where
   pub answer : Settled c q m run r b
-  pub shows : (x y : Reader ℕ) → Keeps m run x → b ≡ true → replay blank x (queueHere r) ≡ some y → Shows t (y .state .lists)
+  pub shows : (x y : Reader ℕ) → Keeps m run x → b ≡ true → replay x (queueHere r) ≡ some y → Shows t (y .state .lists)
 
 -- and where unit u's journal is laid over a state: whether every change applies, and what the tables show then
 pub record Overlays (t : Tables) (x : Unit) (u : ℕ) (b : Bool) (t′ : Tables) : Type 0 where
-  pub answer : (s : State ℕ) → Shows t (s .lists) → b ≡ isSome (applyAll blank (journalHere x u) s)
-  pub shows : (s : State ℕ) → Shows t (s .lists) → Shows t′ (overlay blank (journalHere x u) s .lists)
+  pub answer : (s : State ℕ) → Shows t (s .lists) → b ≡ isSome (applyAll (journalHere x u) s)
+  pub shows : (s : State ℕ) → Shows t (s .lists) → Shows t′ (overlay (journalHere x u) s .lists)

@@ -16,7 +16,7 @@ use Rattle.lists.specs.Change.{Change, takeList, putFirst, putAfter, wri
 use Rattle.lists.specs.State.{Block, Row, State}
 
 -- The next node and the one before; the list that a block is on, or that a list's node stands for, 0 for a node that is free; the location of a
--- block's content. Location 0 holds what a block just put holds.
+-- block's content, 0 where it was not written.
 pub record Tables : Type 0 where
   pub next : List ℕ
   pub prev : List ℕ
@@ -79,10 +79,6 @@ insertNode x n l t = withOwner n l (linkNodes n (nextOf t x) (linkNodes x n t))
 unfoldable pub cutNodes : ℕ → ℕ → List ℕ → Tables → Tables
 cutNodes x y o t = tables (set (t .next) x y) (set (t .prev) y x) o (t .location)
 
--- the content of block b stands at location d
-unfoldable pub locate : ℕ → ℕ → Tables → Tables
-locate b d t = withLocation b d t
-
 -- how often l stands in a list
 unfoldable pub times : ℕ → List ℕ → ℕ
 times l [] = 0
@@ -115,7 +111,7 @@ unfoldable pub putFits : ℕ → ℕ → ℕ → Tables → Bool
 putFits b l x t = eqb (ownerOf t b) 0 && eqb (ownerOf t x) l
 
 unfoldable pub putDone : ℕ → ℕ → ℕ → Tables → Tables
-putDone b l x t = locate b 0 (insertNode x b l t)
+putDone b l x t = withLocation b 0 (insertNode x b l t)
 
 -- does the change apply?
 unfoldable pub suits : Change ℕ → Tables → Bool
@@ -131,7 +127,7 @@ unfoldable pub done : Change ℕ → Tables → Tables
 done (takeList l) t = insertNode (prevOf t 255) (listNode l) l t
 done (putFirst b l) t = putDone b l (listNode l) t
 done (putAfter b l p) t = putDone b l p t
-done (write b d) t = locate b d t
+done (write b d) t = withLocation b d t
 done (delBlock b) t = cutNodes (prevOf t b) (nextOf t b) (set (t .owner) b 0) t
 done (delList l) t = cutList (listNode l) t
 
@@ -188,11 +184,16 @@ IsBlock b = (1 ≤ b) × (b ≤ 64)
 abbrev pub IsList : ℕ → Type 0
 IsList l = (1 ≤ l) × (l ≤ 16)
 
+-- the content that a table says: at a location, or none
+abbrev pub locatedAt : ℕ → Option ℕ
+locatedAt zero = none
+locatedAt (suc n) = some (suc n)
+
 -- a block of list l, and a list, as the owners o and the locations p have them
 pub record HasBlock (o p : List ℕ) (l : ℕ) (x : Block ℕ) : Type 0 where
   pub range : IsBlock (x .num)
   pub owned : getD o (x .num) 0 ≡ l
-  pub stands : getD p (x .num) 0 ≡ x .content
+  pub stands : locatedAt (getD p (x .num) 0) ≡ x .content
 
 pub record HasList (o : List ℕ) (r : Row ℕ) : Type 0 where
   pub range : IsList (r .num)
@@ -219,12 +220,12 @@ pub record Shows (t : Tables) (rs : List (Row ℕ)) : Type 0 where
   pub has : HasLists (t .owner) (t .location) rs
   pub free : (n : ℕ) → Away n (nodes rs) → ownerOf t n ≡ 0
 
--- numbers in range: only of such changes the tables speak as the state does
+-- numbers in range, and a write that says where: only of such changes the tables speak as the state does
 abbrev pub Ranged : Change ℕ → Type 0
 Ranged (takeList l) = IsList l
 Ranged (putFirst b l) = IsBlock b × IsList l
 Ranged (putAfter b l p) = IsBlock b × IsList l × IsBlock p
-Ranged (write b d) = IsBlock b
+Ranged (write b d) = IsBlock b × (1 ≤ d)
 Ranged (delBlock b) = IsBlock b
 Ranged (delList l) = IsList l
 

@@ -12,7 +12,6 @@ use Rattle.lists.specs.promises.Tables.{Tables, tablesIn, Shows, Ranged, Repres
 use Rattle.log.specs.Entry.{commit, mapEntry, raw, legal, asEntry}
 use Rattle.log.specs.Reader.{Reader, read}
 use Rattle.log.specs.declared.entry.LogEntry.{LogEntry}
-use Rattle.log.specs.promises.Location.{blank}
 use Rattle.log.specs.declared.entry.LogEntry.the-variants.{Take, PutFirst, PutAfter, Write, DeleteBlock, DeleteList, Commit}
 use Rattle.log.specs.declared.feed.Fields.{Fields}
 use Rattle.log.specs.declared.feed.Fed.{Fed}
@@ -62,10 +61,10 @@ ReadTo o true m run = (q : Reader ℕ) × (o ≡ some q) × Keeps m run q
 
 -- member j of the run acts
 abbrev pub ActsMember : Memory → ℕ → Bool → Tables → Type 0
-ActsMember m j b u = (c : Change ℕ) (s : State ℕ) → Recalled (m .members) j c → Shows (m .tables) (s .lists) → Represents (apply blank c s) b u
+ActsMember m j b u = (c : Change ℕ) (s : State ℕ) → Recalled (m .members) j c → Shows (m .tables) (s .lists) → Represents (apply c s) b u
 
 abbrev pub Commits : Memory → ℕ → ℕ → Bool → Memory → Type 0
-Commits m run n b m′ = (r : Reader ℕ) → Keeps m run r → n ≤ 15 → ReadTo (read blank r (commit n)) b m′ 0
+Commits m run n b m′ = (r : Reader ℕ) → Keeps m run r → n ≤ 15 → ReadTo (read r (commit n)) b m′ 0
 
 -- an entry by its fields
 abbrev pub fieldsOf : LogEntry → Fields
@@ -90,7 +89,7 @@ abbrev pub RunUpTo : ℕ → Fed → Type 0
 RunUpTo n Refused = Unit {0}
 RunUpTo n (Run k) = k ≤ n
 
--- a legal entry, a write's data standing at location d
+-- a legal entry, a write's data standing at location d, which is not 0
 pub record Feeds (m : Memory) (run : ℕ) (t : Bool) (e : LogEntry) (d : ℕ) (f : Fed) (m′ : Memory) : Type 0 where
   pub short : RunUpTo (run + 1) f
-  pub reads : (r : Reader ℕ) → Keeps m run r → legal (raw 0 (asEntry t e)) ≡ true → FedTo (read blank r (mapEntry (λ s. d) (asEntry t e))) f m′
+  pub reads : (r : Reader ℕ) → Keeps m run r → legal (raw 0 (asEntry t e)) ≡ true → 1 ≤ d → FedTo (read r (mapEntry (λ s. d) (asEntry t e))) f m′

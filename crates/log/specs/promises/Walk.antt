@@ -12,7 +12,7 @@ use Rattle.lists.specs.Basic.{bind}
 use Rattle.log.specs.Entry.{Entry, mapEntry, carried, entryLength, asEntry, legal}
 use Rattle.log.specs.Reader.{Reader, read}
 use Rattle.log.specs.Card.{part, count, usedBy, Item, good, bad, itemsOf, segmentItems, afterEmpty, sound, fault, walk, walkCard, segmentBytes}
-use Rattle.log.specs.promises.Location.{blank, cardLocation}
+use Rattle.log.specs.promises.Location.{cardLocation}
 use Rattle.log.specs.promises.Found.{entered}
 use Rattle.log.specs.promises.Feed.{Memory, Keeps, ReadTo}
 use Rattle.log.specs.Store.{opened, behindAll, tail}
@@ -33,7 +33,7 @@ runAfter t run = cond t (run + 1) 0
 -- a parsed entry read, a write's data standing at location d
 abbrev pub Reads : Memory → ℕ → Bool → LogEntry → ℕ → Bool → Memory → Type 0
 Reads m run t e d b m′ =
-    (r : Reader ℕ) → Keeps m run r → legal (asEntry false e) ≡ true → ReadTo (bind (entered t e) (λ x. read blank r (mapEntry (λ s. d) x))) b m′ (runAfter t run)
+    (r : Reader ℕ) → Keeps m run r → legal (asEntry false e) ≡ true → ReadTo (bind (entered t e) (λ x. read r (mapEntry (λ s. d) x))) b m′ (runAfter t run)
 
 abbrev pub stepIf : Bool → ℕ → ℕ → ℕ → Step
 stepIf true a k run = Next (record { at = a; slots = k; run = run })
@@ -71,7 +71,7 @@ pub record Went (c : List ℕ) (g : ℕ) (cur : Cursor) (r : Reader ℕ) (next :
   pub at : next .at ≡ cur .at + entryLength entry
   pub slots : next .slots ≡ cur .slots + usedBy (carried entry)
   pub reader : Reader ℕ
-  pub reads : read blank r entry ≡ some reader
+  pub reads : read r entry ≡ some reader
   pub kept : Keeps m (next .run) reader
 
 pub record Stepped (c : List ℕ) (g : ℕ) (cur : Cursor) (m : Memory) (next : Cursor) (m′ : Memory) : Type 0 where
@@ -82,7 +82,7 @@ pub record Stepped (c : List ℕ) (g : ℕ) (cur : Cursor) (m : Memory) (next : 
   pub went : (r : Reader ℕ) → Keeps m (cur .run) r → Went c g cur r next m′
 
 abbrev pub Advances : List ℕ → ℕ → Cursor → Memory → Step → Memory → Type 0
-Advances c g cur m Stuck m′ = (r : Reader ℕ) → Keeps m (cur .run) r → (n i : ℕ) (is : List (Item ℕ)) → walk blank r (itemsFrom c g cur (suc n) i ++ is) ≡ fault g i
+Advances c g cur m Stuck m′ = (r : Reader ℕ) → Keeps m (cur .run) r → (n i : ℕ) (is : List (Item ℕ)) → walk r (itemsFrom c g cur (suc n) i ++ is) ≡ fault g i
 Advances c g cur m (Next next) m′ = Stepped c g cur m next m′
 
 -- the place in segment g that is entered from a place before
@@ -94,7 +94,7 @@ pub record Through (c : List ℕ) (g : ℕ) (r : Reader ℕ) (p : Place) (n : �
   pub place : (p₀ : Place) → seat g p₀ ≡ opened g → (is : List (Item ℕ)) → behindAll p₀ (segmentItems cardLocation c g ++ is) ≡ behindAll p is
   pub reader : Reader ℕ
   pub kept : Keeps m n reader
-  pub walked : (is : List (Item ℕ)) → walk blank r (segmentItems cardLocation c g ++ is) ≡ walk blank reader is
+  pub walked : (is : List (Item ℕ)) → walk r (segmentItems cardLocation c g ++ is) ≡ walk reader is
 
 pub record Passed (c : List ℕ) (g run : ℕ) (m : Memory) (p : Place) (n : ℕ) (m′ : Memory) : Type 0 where
   pub here : p .segment ≡ g
@@ -102,7 +102,7 @@ pub record Passed (c : List ℕ) (g run : ℕ) (m : Memory) (p : Place) (n : ℕ
   pub through : (r : Reader ℕ) → Keeps m run r → Through c g r p n m′
 
 abbrev pub Passes : List ℕ → ℕ → ℕ → Memory → Segment → Memory → Type 0
-Passes c g run m (Broken i) m′ = (r : Reader ℕ) → Keeps m run r → (is : List (Item ℕ)) → walk blank r (segmentItems cardLocation c g ++ is) ≡ fault g i
+Passes c g run m (Broken i) m′ = (r : Reader ℕ) → Keeps m run r → (is : List (Item ℕ)) → walk r (segmentItems cardLocation c g ++ is) ≡ fault g i
 Passes c g run m (Done p n) m′ = Passed c g run m p n m′
 
 -- behind an empty segment, from g up to n: the first used segment, or n
@@ -115,8 +115,8 @@ pub record Sounds (c : List ℕ) (p : Place) (n : ℕ) (m : Memory) : Type 0 whe
   pub short : n ≤ 64 * 255
   pub reader : Reader ℕ
   pub kept : Keeps m n reader
-  pub walked : walkCard cardLocation blank c ≡ sound reader
+  pub walked : walkCard cardLocation c ≡ sound reader
 
 abbrev pub Walks : List ℕ → Walked → Memory → Type 0
-Walks c (Fault g i) m = walkCard cardLocation blank c ≡ fault g i
+Walks c (Fault g i) m = walkCard cardLocation c ≡ fault g i
 Walks c (Sound p n) m = Sounds c p n m

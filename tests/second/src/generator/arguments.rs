@@ -123,6 +123,15 @@ impl Generator<'_> {
         }
     }
 
+    /// A block, now and then one that is unwritten in the view.
+    pub(super) fn block_to_read(&mut self, state: Option<&State>) -> u64 {
+        let unwritten = state.map(unwritten_of).unwrap_or_default();
+        match self.random.pick_if_any(&unwritten) {
+            Some(block) if self.random.chance(30) => u64::from(block),
+            _ => self.block(state),
+        }
+    }
+
     /// A predecessor: 0, or most of the time a block on that list.
     pub(super) fn predecessor(&mut self, state: Option<&State>, list: u64) -> u64 {
         if self.is_wrong() {
@@ -145,7 +154,8 @@ impl Generator<'_> {
     pub(super) fn hex(&mut self) -> String {
         let bytes = match self.random.below(20) {
             0 => return "-".to_string(),
-            1..=14 => self.random.between(1, 4),
+            1 => return "00".repeat(self.random.between(1, BLOCK_BYTES as u64) as usize),
+            2..=14 => self.random.between(1, 4),
             15..=16 => self.random.between(1, BLOCK_BYTES as u64),
             _ => BLOCK_BYTES as u64,
         };
@@ -221,4 +231,11 @@ fn stores_of_queue(record: &Record, entries: usize) -> usize {
 /// The blocks on lists.
 pub(super) fn blocks_of(state: &State) -> Vec<u8> {
     (1..=BLOCKS).filter(|&block| state.is_on_a_list(block)).collect()
+}
+
+/// The blocks on lists that were not written since their put.
+fn unwritten_of(state: &State) -> Vec<u8> {
+    let mut blocks = blocks_of(state);
+    blocks.retain(|&block| state.content(block).is_none());
+    blocks
 }

@@ -44,7 +44,11 @@ impl Generator<'_> {
         let state = self.state(stream);
         let list = self.list(state.as_ref());
         let predecessor = self.predecessor(state.as_ref(), list);
-        self.run(format_args!("newblock {stream} {list} {predecessor}"));
+        let made = self.run(format_args!("newblock {stream} {list} {predecessor}"));
+        if let (true, Some(block)) = (made.is_accepted() && self.random.chance(15), made.number) {
+            let view = if self.random.chance(60) { stream } else { self.view() };
+            self.run(format_args!("read {view} {block}"));
+        }
     }
 
     pub(super) fn write(&mut self, stream: u64) {
@@ -73,7 +77,7 @@ impl Generator<'_> {
         let state = self.state(view);
         match self.random.below(10) {
             0..=3 => {
-                let block = self.block(state.as_ref());
+                let block = self.block_to_read(state.as_ref());
                 let part = self.part(BLOCK_BYTES as u64);
                 self.run(format_args!("read {view} {block}{part}"));
             }
@@ -269,6 +273,83 @@ impl Generator<'_> {
         }
         if stream != 0 {
             self.run(format_args!("end {stream}"));
+        }
+    }
+
+    /// A block is put, by stream 0 or in a unit, or put again; it is read before it is written and after, in every view.
+    /// "Reading a block that, by that view's state, was not written since its present put is now refused [..]. A write of
+    /// 256 zeros counts as written."
+    pub(super) fn unwritten(&mut self) {
+        let put_again = if self.random.chance(40) { self.put_again() } else { None };
+        let unit = self.opened_unit();
+        let putter = self.random.pick(&[0, unit]);
+        let Some(block) = put_again.or_else(|| self.put_on(putter)) else {
+            return;
+        };
+        self.read_in_views(block);
+        if self.random.chance(40) {
+            self.flush();
+            self.read_in_views(block);
+        }
+        let writer = self.random.pick(&[0, unit, unit, putter]);
+        let data = self.hex();
+        let hex = if self.random.chance(30) { "-" } else { &data };
+        self.run(format_args!("write {writer} {block} {hex}"));
+        self.read_in_views(block);
+        match self.random.below(4) {
+            0..=1 => self.run(format_args!("end {unit}")).ignore(),
+            2 => self.mount(),
+            _ => {}
+        }
+        if self.random.chance(60) {
+            self.flush();
+        }
+        self.read_in_views(block);
+    }
+
+    /// A block put on `stream`.
+    fn put_on(&mut self, stream: u64) -> Option<u64> {
+        let state = self.state(stream)?;
+        let list = match self.random.pick_if_any(state.lists()) {
+            Some(list) => u64::from(list),
+            None => self.run(format_args!("newlist {stream}")).number?,
+        };
+        let predecessor = self.predecessor(Some(&state), list);
+        let made = self.run(format_args!("newblock {stream} {list} {predecessor}"));
+        made.number.filter(|_| made.is_accepted())
+    }
+
+    /// A block deleted, or its list, and put again: after mounting the lowest free number is the first that is given.
+    fn put_again(&mut self) -> Option<u64> {
+        let state = self.state(0)?;
+        let mut blocks = blocks_of(&state);
+        blocks.retain(|&block| (1..block).all(|lower| state.is_on_a_list(lower)));
+        if self.random.chance(70) {
+            blocks.retain(|&block| state.content(block).is_some());
+        }
+        let block = self.random.pick_if_any(&blocks)?;
+        let list = state.list_of(block)?;
+        if self.random.chance(75) {
+            self.run(format_args!("delblock 0 {block}"));
+        } else {
+            self.run(format_args!("dellist 0 {list}"));
+        }
+        self.run(format_args!("flush 65535"));
+        self.run(format_args!("mount"));
+        self.put_on(0)
+    }
+
+    /// Reads `block` in view 0, in the views of open units and in view 5, each most of the time.
+    fn read_in_views(&mut self, block: u64) {
+        let mut views = self.units(true);
+        views.extend([0, 5]);
+        for view in views {
+            if self.random.chance(60) {
+                self.run(format_args!("read {view} {block}"));
+            }
+        }
+        if self.random.chance(20) {
+            self.show();
         }
     }
 

@@ -158,7 +158,8 @@ impl Generator<'_> {
     /// A part of the card or of a buffer is lent for a while.
     pub(super) fn lend(&mut self) {
         match self.random.below(10) {
-            0..=5 => {
+            0 => self.hold_on_a_part(),
+            1..=5 => {
                 let segments = self.shell.card().len() / SEGMENT_BYTES;
                 let length = self.random.below(segments as u64 + 1) as usize * SEGMENT_BYTES;
                 self.run(format_args!("lend card {length}"));
@@ -189,6 +190,35 @@ impl Generator<'_> {
             self.run(format_args!("mount"));
         }
         if self.random.chance(85) {
+            self.run(format_args!("lend all"));
+        }
+    }
+
+    /// A unit holds a block that is free on a part of the card, and on the whole card perhaps on a list.
+    fn hold_on_a_part(&mut self) {
+        let segments = self.segments() as u64;
+        let length = self.random.between(1, segments.max(2) - 1) as usize * SEGMENT_BYTES;
+        self.run(format_args!("lend card {length}"));
+        if self.run(format_args!("mount")).is_accepted() {
+            self.run(format_args!("begin 1"));
+            self.new_block(1);
+        }
+        self.run(format_args!("lend all"));
+    }
+
+    /// Where the head is begun in a segment that it opens, a card without that segment is lent: the head has no place.
+    pub(super) fn lend_without_the_head(&mut self) {
+        let record = *self.shell.record();
+        let Some(head) = record.head().filter(|_| record.done() > 0) else {
+            return;
+        };
+        let Ok(log) = Log::read(self.shell.lent().card) else {
+            return;
+        };
+        let segments = log.end.segment + 1;
+        if log.end.place(head, segments).is_none() && self.random.chance(50) {
+            self.run(format_args!("lend card {}", segments * SEGMENT_BYTES));
+            self.any_call();
             self.run(format_args!("lend all"));
         }
     }

@@ -9,6 +9,9 @@ use crate::log::{count_at, entries_at, slot_at};
 use crate::random::Random;
 use crate::state::{Content, Reading, State};
 
+/// The content that writes bring where only lists and blocks matter, and which of these are written.
+const SOME_CONTENT: Content = Content::Queue { place: 0 };
+
 impl Generator<'_> {
     /// Another card is put in, a log is stored on it byte by byte, and it is mounted.
     pub(super) fn stored_log(&mut self) {
@@ -193,7 +196,7 @@ impl Writer {
         self.slots += u8::from(entry.is_write());
         // The writer goes on behind a fault as if the entry were not there.
         let mut reading = self.reading;
-        if reading.read(entry, Content::Zeros).is_ok() {
+        if reading.read(entry, SOME_CONTENT).is_ok() {
             self.reading = reading;
         }
         true
@@ -236,7 +239,7 @@ impl Writer {
         let mut members = 0;
         for _ in 0..random.pick(&[0, 1, 2, 3, 4, JOURNAL]) {
             let change = change_of(random, &view);
-            if !change.has_member_map() || !view.apply(change, Content::Zeros) {
+            if !change.has_member_map() || !view.apply(change, SOME_CONTENT) {
                 continue;
             }
             if !self.add(random, Entry::Member(change)) {

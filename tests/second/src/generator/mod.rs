@@ -44,6 +44,8 @@ enum Action {
     /// A unit whose entries come not to apply, or to apply again.
     Conflict,
     MadeAgain,
+    /// A block that is read before it is written.
+    Unwritten,
     /// Stores, cuts, and what comes after them.
     Flush,
     CutFlush,
@@ -80,6 +82,7 @@ const COMMON: &[(Action, u64)] = &[
     (Action::Begin, 6),
     (Action::End, 6),
     (Action::Flush, 8),
+    (Action::Unwritten, 2),
     (Action::CutFlush, 1),
     (Action::Cut, 1),
     (Action::Mount, 1),
@@ -118,6 +121,7 @@ const PROFILES: &[Profile] = &[
             (Action::FillJournal, 4),
             (Action::Conflict, 15),
             (Action::MadeAgain, 2),
+            (Action::Unwritten, 12),
         ],
         segments: (1, 8),
         lines: (300, 900),
@@ -160,6 +164,7 @@ const PROFILES: &[Profile] = &[
             (Action::CutFlush, 25),
             (Action::Cut, 3),
             (Action::CutFormat, 1),
+            (Action::Unwritten, 6),
             (Action::Show, 8),
         ],
         segments: (1, 4),
@@ -356,6 +361,7 @@ impl Generator<'_> {
             Action::EmptyUnits => self.empty_units(),
             Action::Conflict => self.conflict(),
             Action::MadeAgain => self.made_again(),
+            Action::Unwritten => self.unwritten(),
             Action::Flush => self.flush(),
             Action::CutFlush => self.cut_flush(),
             Action::Cut => self.cut(),

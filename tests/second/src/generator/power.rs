@@ -16,6 +16,7 @@ impl Generator<'_> {
             let allowance = self.allowance();
             self.run(format_args!("flush {allowance}"));
         }
+        self.lend_without_the_head();
         if self.random.chance(10) {
             self.run(format_args!("show 5"));
             self.run(format_args!("sum"));

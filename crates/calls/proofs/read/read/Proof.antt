@@ -9,7 +9,7 @@ use Rattle.lists.proofs.Lookup.{location-said, placed-said}
 use borrow.Author.Needs.{needs}
 use borrow.Author.Tests.{not-true, not-false}
 use Rattle.calls.proofs.Refusing.{look-unseen}
-use Rattle.calls.proofs.Reading.{read-range, read-out, read-unplaced, read-sized, read-given}
+use Rattle.calls.proofs.Reading.{read-range, read-out, read-unplaced, read-unwritten, read-sized, read-given}
 use Rattle.calls.proofs.read.read.Statement.{statement}
 use Rattle.calls.proofs.read.read.Tie as tie
 
@@ -59,26 +59,41 @@ returns-3 c =
 location-of-requires : tie.Need-location-of-requires
 location-of-requires c κs = search needs
 
+returns-4 : tie.Need-returns-4
+returns-4 c =
+    let l = c .before in
+    let m = l .before .before in
+    let q = m .before .before .before in
+    let e = q .before .before .before in
+    let r = rw (q .before .before .is-block .ensures) at (q .before .both .ensures) in
+    let w = sym r ∙ not-false (q .before .both .result) (q .if1 .left) in
+    let s = rw (e .enum-told .given .1) at (e .before .before .look-view .ensures) in
+    read-unwritten _ _ _ _ _ s w _ (placed-said (m .before .is-placed .ensures)) (not-false (m .before .is-placed .result) (m .if2 .left))
+    (l .location-of .result) (location-said (l .location-of .ensures)) (c .if3 .taken)
+
 copy-content-requires : tie.Need-copy-content-requires
 copy-content-requires c κs =
-    let m = c .before .before .before in
+    let l = c .before .before in
+    let m = l .before .before in
     let q = m .before .before .before in
     let e = q .before .before .before in
     let a = e .before .before .before .before .before .before .before .before .args in
     let r = rw (q .before .before .is-block .ensures) at (q .before .both .ensures) in
     let w = sym r ∙ not-false (q .before .both .result) (q .if1 .left) in
     let s = rw (e .enum-told .given .1) at (e .before .before .look-view .ensures) in (
+      omega (arith, c .before .if3 .left),
       read-sized (diskIn (a .card .now) (a .queue-data .now) (a .journal-data .now) (a .rec .now)) (a .view) (a .block) (a .dest .now) _ s w
-          _ (placed-said (m .before .is-placed .ensures)) (not-false (m .before .is-placed .result) (m .if2 .left)) (c .before .location-of .result) (location-said (c .before .location-of .ensures)),
+          _ (placed-said (m .before .is-placed .ensures)) (not-false (m .before .is-placed .result) (m .if2 .left)) (l .location-of .result) (location-said (l .location-of .ensures))
+          (c .before .if3 .left),
       read-range (a .block) (length (a .dest .now)) w .1,
     )
 
 same-length : tie.Need-same-length
 same-length c = search needs
 
-returns-4 : tie.Need-returns-4
-returns-4 c =
-    let l = c .before .before .before .before in
+returns-5 : tie.Need-returns-5
+returns-5 c =
+    let l = c .before .before .before .before .before in
     let m = l .before .before in
     let q = m .before .before .before in
     let e = q .before .before .before in
@@ -86,7 +101,7 @@ returns-4 c =
     let w = sym r ∙ not-false (q .before .both .result) (q .if1 .left) in
     let s = rw (e .enum-told .given .1) at (e .before .before .look-view .ensures) in
     read-given _ _ _ _ _ s w _ (placed-said (m .before .is-placed .ensures)) (not-false (m .before .is-placed .result) (m .if2 .left))
-    (l .location-of .result) (location-said (l .location-of .ensures)) _ (c .before .before .copy-content .ensures)
+    (l .location-of .result) (location-said (l .location-of .ensures)) (c .before .before .before .before .if3 .left) _ (c .before .before .copy-content .ensures)
 
 pub read-spec : {M : Type 1} → statement M
 read-spec =
@@ -103,6 +118,7 @@ read-spec =
     is-placed-requires
     returns-3
     location-of-requires
+    returns-4
     copy-content-requires
     same-length
-    returns-4)
+    returns-5)

@@ -1,7 +1,5 @@
 -- By the cases of the reply. Assumes nothing.
-use Rattle.log.specs.Card.{zeros}
 use Rattle.disk.specs.Disk.{diskIn}
-use Rattle.text.proofs.Writing.{puts-none}
 use Rattle.commands.proofs.Showing.{block-read, block-unread}
 use borrow.Author.Needs.{needs}
 use Rattle.commands.proofs.show.show_block.Statement.{statement}
@@ -25,11 +23,13 @@ put-block-requires c κs = search needs
 enum-told-2 : tie.Need-enum-told-2
 enum-told-2 c = search needs
 
+put-unwritten-requires : tie.Need-put-unwritten-requires
+put-unwritten-requires c κs = search needs
+
 same-length : tie.Need-same-length
 same-length c = search needs
 
 returns : tie.Need-returns
-unfolding zeros
 returns c =
     let e = c .before .before .before .before .before in
     let r = e .before .before .before in
@@ -37,13 +37,16 @@ returns c =
     let d = diskIn (a .card .now) (a .queue .now) (a .journal .now) (a .rec .now) in
     rw (block-read d (a .view) (a .block) _ (rw (e .enum-told .given .1) at (r .read .ensures))) (c .before .before .put-block .ensures)
 
+same-length-2 : tie.Need-same-length-2
+same-length-2 c = search needs
+
 returns-2 : tie.Need-returns-2
-unfolding zeros
 returns-2 c =
-    let r = c .before .before .before in
+    let e = c .before .before .before .before in
+    let r = e .before .before .before in
     let a = r .before .before .before .before .before .before .args in
     let d = diskIn (a .card .now) (a .queue .now) (a .journal .now) (a .rec .now) in
-    rw (block-unread d (a .view) (a .block) _ _ (rw (c .enum-told2 .given .1) at (r .read .ensures))) (puts-none (a .out .now) (a .at))
+    rw (block-unread d (a .view) (a .block) _ _ (rw (e .enum-told2 .given .1) at (r .read .ensures))) (c .before .before .put-unwritten .ensures)
 
 pub show-block-spec : {M : Type 1} → statement M
 show-block-spec =
@@ -55,6 +58,8 @@ show-block-spec =
     slice-aggregate-put-block
     put-block-requires
     enum-told-2
+    put-unwritten-requires
     same-length
     returns
+    same-length-2
     returns-2)

@@ -73,7 +73,7 @@ returns-2 c =
     let l = q .before .before .loop in
     let a = i .before .is-legal in
     let w = l .inv .4 x h in
-    let e = f .ensures .reads (w .reader) (w .kept) (sym (a .ensures) ∙ not-false (a .result) (i .if1 .left)) in
+    let e = f .ensures .reads (w .reader) (w .kept) (sym (a .ensures) ∙ not-false (a .result) (i .if1 .left)) (omega arith) in
     fed-refused _ x (l .k) _ _ w (omega arith) (rw (c .enum-told .given .1, q .queue-entry .ensures .0, q .queue-entry .ensures .1, l .inv .2) at e)
 
 add-k : tie.Need-add-k Inv-loop μ-loop
@@ -98,7 +98,7 @@ loop-again c =
       omega (arith, rw told at (f .ensures .short)),
       λ x h.
           let w = l .inv .4 x h in
-          let (y, e, k) = rw (told, q .queue-entry .ensures .0, q .queue-entry .ensures .1, l .inv .2) at (f .ensures .reads (w .reader) (w .kept) legal) in
+          let (y, e, k) = rw (told, q .queue-entry .ensures .0, q .queue-entry .ensures .1, l .inv .2) at (f .ensures .reads (w .reader) (w .kept) legal (omega arith)) in
           fed-more _ x (l .k) _ _ w (omega arith) (rw (q .queue-entry .ensures .0, q .queue-entry .ensures .1, l .inv .2) at legal) _ t y e k,
     )
 

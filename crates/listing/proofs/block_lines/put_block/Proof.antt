@@ -5,10 +5,10 @@ use Rattle.lists.proofs.Lookup.{placed-said, location-said}
 use borrow.Author.Needs.{needs}
 use borrow.Author.Tests.{not-true, not-false}
 use Rattle.lists.specs.State.{placed}
+use Rattle.lists.specs.promises.Tables.{locatedAt}
 use Rattle.text.proofs.Writing.{puts-none, puts-more, puts-length}
 use Rattle.listing.specs.Listing.{blockLine}
 use Rattle.listing.specs.promises.Shown.{sumAt}
-use Rattle.listing.proofs.Blocks.{content-none}
 use Rattle.listing.proofs.Lines.{block-none, block-some}
 use Rattle.listing.proofs.block_lines.put_block.Statement.{statement}
 use Rattle.listing.proofs.block_lines.put_block.Tie as tie
@@ -23,14 +23,11 @@ returns c =
       refl,
       λ rs w g.
           let u : placed (a .block) rs ≡ false = sym (placed-said (t .ensures) rs w g) ∙ not-true (t .result) (c .if1 .taken) in
-          rw (block-none rs (sumAt (a .card .now)) (a .block) (content-none (a .block) rs u)) (puts-none (a .out .now) (a .at)),
+          rw (block-none rs (sumAt (a .card .now)) (a .block) u) (puts-none (a .out .now) (a .at)),
     )
 
 location-of-requires : tie.Need-location-of-requires
 location-of-requires c κs = search needs
-
-sum-at-requires : tie.Need-sum-at-requires
-sum-at-requires c κs = search needs
 
 slice-aggregate-put-bytes : tie.Need-slice-aggregate-put-bytes
 slice-aggregate-put-bytes c = search needs
@@ -47,8 +44,8 @@ slice-aggregate-put-bytes-2 c = search needs
 put-bytes-requires-2 : tie.Need-put-bytes-requires-2
 put-bytes-requires-2 c κs = search needs
 
-put-decimal-requires-2 : tie.Need-put-decimal-requires-2
-put-decimal-requires-2 c κs = search needs
+put-content-requires : tie.Need-put-content-requires
+put-content-requires c κs = search needs
 
 put-byte-requires : tie.Need-put-byte-requires
 put-byte-requires c κs = search needs
@@ -61,21 +58,20 @@ unfolding blockLine
 returns-2 c =
     let e = c .before .before in
     let d = e .before .before .before .before in
-    let i = d .before .before .before .before .before .before .before .before .before .before .before .before .before .before .before .before .before .before in
-    let l = d .before .before .before .before .before .before .before .before .before .before .before .before .before .before .before .before .before .location-of in
-    let m = d .before .before .before .before .before .before .before .before .before .before .before .before .before .before .before .before .sum-at in
+    let i = d .before .before .before .before .before .before .before .before .before .before .before .before .before .before .before .before .before in
+    let l = d .before .before .before .before .before .before .before .before .before .before .before .before .before .before .before .before .location-of in
     let a = i .before .before .before .before .args in (
-      puts-length (e .put-byte .ensures) ∙ puts-length (d .put-decimal2 .ensures) ∙ puts-length (d .before .before .before .before .put-bytes2 .ensures)
+      puts-length (e .put-byte .ensures) ∙ puts-length (d .put-content .ensures) ∙ puts-length (d .before .before .before .before .put-bytes2 .ensures)
           ∙ puts-length (d .before .before .before .before .before .before .before .before .before .put-decimal .ensures) ∙ puts-length (d .before .before .before .before .before .before .before .before .before .before .before .before .before .put-bytes .ensures),
       λ rs w g.
           let t : placed (a .block) rs ≡ true = sym (placed-said (i .before .is-placed .ensures) rs w g) ∙ not-false (i .before .is-placed .result) (i .if1 .left) in
-          rw (block-some rs (sumAt (a .card .now)) (a .block) (l .result) (location-said (l .ensures) rs w t), ← m .ensures)
+          rw (block-some rs (sumAt (a .card .now)) (a .block) (locatedAt (l .result)) t (location-said (l .ensures) rs w t))
           (puts-more
           (puts-more
           (puts-more
           (puts-more (d .before .before .before .before .before .before .before .before .before .before .before .before .before .put-bytes .ensures) (d .before .before .before .before .before .before .before .before .before .put-decimal .ensures))
           (d .before .before .before .before .put-bytes2 .ensures))
-          (d .put-decimal2 .ensures))
+          (d .put-content .ensures))
           (e .put-byte .ensures)),
     )
 
@@ -86,13 +82,12 @@ put-block-spec =
     is-placed-requires
     returns
     location-of-requires
-    sum-at-requires
     slice-aggregate-put-bytes
     put-bytes-requires
     put-decimal-requires
     slice-aggregate-put-bytes-2
     put-bytes-requires-2
-    put-decimal-requires-2
+    put-content-requires
     put-byte-requires
     same-length
     returns-2)

@@ -1,18 +1,15 @@
--- Location by location. Assumes nothing.
-use mathlib.Core.Path.{sym, ap, _∙_}
+-- A slot of the card, or nothing. Assumes nothing.
+use mathlib.Core.Path.{ap, _∙_}
 use native.Mathlib.Omega.{arith}
 use borrow.Author.Needs.{needs}
 use Rattle.listing.specs.Listing.{total}
 use Rattle.listing.specs.promises.Shown.{sumAt}
-use Rattle.listing.proofs.Lines.{part-length, sum-blank, sum-in, sum-out}
+use Rattle.listing.proofs.Lines.{part-length, sum-in, sum-out}
 use Rattle.listing.proofs.block_lines.sum_at.Statement.{statement}
 use Rattle.listing.proofs.block_lines.sum_at.Tie as tie
 
 returns : tie.Need-returns
-returns c = let a = c .before .before .args in rw (c .if1 .taken) (sym (sum-blank (a .card .now)))
-
-returns-2 : tie.Need-returns-2
-returns-2 c = let a = c .before .before .before .args in sum-out (a .card .now) (a .location) (omega arith)
+returns c = let a = c .before .before .args in sum-out (a .card .now) (a .location) (omega arith)
 
 sub-from : tie.Need-sub-from
 sub-from c = search needs
@@ -27,13 +24,13 @@ part-requires : tie.Need-part-requires
 part-requires c κs = search needs
 
 sum-requires : tie.Need-sum-requires
-sum-requires c κs = let a = c .before .before .before .before .args in rw (c .part .ensures) (part-length (a .card .now) (a .location))
+sum-requires c κs = let a = c .before .before .before .args in rw (c .part .ensures) (part-length (a .card .now) (a .location))
 
-returns-3 : tie.Need-returns-3
-returns-3 c =
-    let a = c .before .before .before .before .before .args in
-    c .sum .ensures ∙ ap total (c .before .part .ensures) ∙ sum-in (a .card .now) (a .location) (omega arith) (omega arith)
+returns-2 : tie.Need-returns-2
+returns-2 c =
+    let a = c .before .before .before .before .args in
+    c .sum .ensures ∙ ap total (c .before .part .ensures) ∙ sum-in (a .card .now) (a .location) (omega arith)
 
 pub sum-at-spec : {M : Type 1} → statement M
 sum-at-spec =
-    tie.close (tie.spec returns returns-2 sub-from mul-from add-part part-requires sum-requires returns-3)
+    tie.close (tie.spec returns sub-from mul-from add-part part-requires sum-requires returns-2)

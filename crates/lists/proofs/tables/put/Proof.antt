@@ -1,6 +1,6 @@
 -- The two tests of the definition, then the node put in, then its place. Assumes nothing.
 use mathlib.Core.Path.{_∙_, ap}
-use Rattle.lists.specs.promises.Tables.{Tables, suits, done, putFits, putDone, locate, withLocation}
+use Rattle.lists.specs.promises.Tables.{Tables, suits, done, putFits, putDone, withLocation}
 use Rattle.lists.proofs.Basic.{eqb-false, eq-true}
 use Rattle.lists.proofs.Acting.{did-not, did-so}
 use borrow.Author.Needs.{needs}
@@ -28,7 +28,7 @@ set-location-requires : tie.Need-set-location-requires
 set-location-requires c κs = search needs
 
 returns-3 : tie.Need-returns-3
-unfolding suits putFits done putDone locate
+unfolding suits putFits done putDone
 returns-3 c =
     let a = c .before .before .before .before .before .before .before .before .before .before .args in
     did-so _ _ _

@@ -1,5 +1,5 @@
 -- A block that is on some list gets its place. Assumes nothing.
-use Rattle.lists.specs.promises.Tables.{suits, done, locate}
+use Rattle.lists.specs.promises.Tables.{suits, done}
 use Rattle.lists.proofs.Basic.{eqb-false, eq-true}
 use Rattle.lists.proofs.Acting.{did-not, did-so}
 use borrow.Author.Needs.{needs}
@@ -17,7 +17,7 @@ set-location-requires : tie.Need-set-location-requires
 set-location-requires c κs = search needs
 
 returns-2 : tie.Need-returns-2
-unfolding suits done locate
+unfolding suits done
 returns-2 c = did-so _ _ _ (rw (eqb-false _ _ (rw (c .before .before .before .owner-of .ensures) at (c .before .before .if1 .left)))) (c .set-location .ensures)
 
 pub write-block-spec : {M : Type 1} → statement M

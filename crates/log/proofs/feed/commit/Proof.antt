@@ -21,7 +21,7 @@ abbrev Inv-loop : tie.InvT-loop
 Inv-loop nodes₀ members run n j₀ nodes j =
     (n ≤ run) × (run - n ≤ j) × (j ≤ run)
     × ((r : Reader ℕ) → Keeps (memory nodes₀ members) run r → n ≤ 15
-    → (s : State ℕ) × Shows (tablesIn nodes) (s .lists) × (applyAll 0 (drop j (r .run)) s ≡ applyAll 0 (lastOf n (r .run)) (r .state)))
+    → (s : State ℕ) × Shows (tablesIn nodes) (s .lists) × (applyAll (drop j (r .run)) s ≡ applyAll (lastOf n (r .run)) (r .state)))
 
 abbrev μ-loop : tie.MeasureT-loop
 μ-loop nodes₀ members run n j₀ nodes j = run - j
@@ -31,7 +31,7 @@ returns c = λ r k h. read-short _ _ r k _ (c .if1 .taken)
 
 loop-holds : tie.Need-loop-holds Inv-loop μ-loop
 loop-holds c =
-    (omega arith, omega arith, omega arith, λ r k h. (r .state, k .shows, ap (λ (cs : List (Change ℕ)). applyAll 0 cs (r .state)) (last-from (r .run) _ _ (k .recalls .size))))
+    (omega arith, omega arith, omega arith, λ r k h. (r .state, k .shows, ap (λ (cs : List (Change ℕ)). applyAll cs (r .state)) (last-from (r .run) _ _ (k .recalls .size))))
 
 act-member-requires : tie.Need-act-member-requires Inv-loop μ-loop
 act-member-requires c κs = search needs
@@ -44,7 +44,7 @@ returns-2 c =
     let (v, w, e) = l .inv .3 r k h in
     let u = tablesIn (c .before .act-member .last .0) in
     let a = c .before .act-member .ensures (getD (r .run) (l .j) (takeList 0)) v (k .recalls .each (l .j) (c .before .before .before .loop-test .taken) (omega arith)) w in
-    let b : Represents (apply 0 (getD (r .run) (l .j) (takeList 0)) v) false u = rw (not-true (c .before .act-member .result) (c .if2 .taken)) at a in
+    let b : Represents (apply (getD (r .run) (l .j) (takeList 0)) v) false u = rw (not-true (c .before .act-member .result) (c .if2 .taken)) at a in
     read-commit _ (s .run) r k (s .n) false u (l .inv .0) (none-refused _ u (sym e ∙ turn-refused (r .run) (l .j) v u (omega (arith, k .recalls .size)) b))
 
 add-j : tie.Need-add-j Inv-loop μ-loop
@@ -63,7 +63,7 @@ loop-again c =
           let (v, w, e) = l .inv .3 r k h in
           let u = tablesIn (c .before .act-member .last .0) in
           let a = c .before .act-member .ensures (getD (r .run) (l .j) (takeList 0)) v (k .recalls .each (l .j) (c .before .before .before .loop-test .taken) (omega arith)) w in
-          let b : Represents (apply 0 (getD (r .run) (l .j) (takeList 0)) v) true u = rw (not-false (c .before .act-member .result) (c .if2 .left)) at a in
+          let b : Represents (apply (getD (r .run) (l .j) (takeList 0)) v) true u = rw (not-false (c .before .act-member .result) (c .if2 .left)) at a in
           let (q, x, y) = turn-made (r .run) (l .j) v u (omega (arith, k .recalls .size)) b in
           (q, x, y ∙ e),
     )

@@ -22,11 +22,11 @@ settle-requires c κs = search needs
 returns : tie.Need-returns
 returns c = record {
   short = rw (c .settle .ensures) (run-settled _ (c .before .commit .result));
-  reads = λ r k l.
+  reads = λ r k l f.
       let s = c .before .before .before .before .before .before .before .before .args in
       let q = c .before .before .before .before .before .before .before .fields-of .ensures in
       rw (c .settle .ensures)
-      (fed-commit _ (s .run) r k (s .location) (s .member) (s .e) l (c .before .commit .result) _ (ap (λ (f : Fields). f .kind) (sym q) ∙ c .before .before .before .before .before .if1 .taken) (rw q at (c .before .commit .ensures)));
+      (fed-commit _ (s .run) r k (s .location) f (s .member) (s .e) l (c .before .commit .result) _ (ap (λ (f : Fields). f .kind) (sym q) ∙ c .before .before .before .before .before .if1 .taken) (rw q at (c .before .commit .ensures)));
 }
 
 keep-requires : tie.Need-keep-requires
@@ -38,11 +38,11 @@ add-t15 c = search needs
 returns-2 : tie.Need-returns-2
 returns-2 c = record {
   short = omega arith;
-  reads = λ r k l.
+  reads = λ r k l f.
       let s = c .before .before .before .before .before .before .args in
       let q = c .before .before .before .before .before .fields-of .ensures in
       rw (c .keep .ensures .1, q)
-      (fed-member _ (s .run) r k (s .location) (s .member) (s .e) l (λ z. c .before .before .before .if1 .left (ap (λ (f : Fields). f .kind) q ∙ z)) (c .before .before .if2 .taken));
+      (fed-member _ (s .run) r k (s .location) f (s .member) (s .e) l (λ z. c .before .before .before .if1 .left (ap (λ (f : Fields). f .kind) q ∙ z)) (c .before .before .if2 .taken));
 }
 
 act-requires : tie.Need-act-requires
@@ -54,11 +54,11 @@ settle-requires-2 c κs = search needs
 returns-3 : tie.Need-returns-3
 returns-3 c = record {
   short = rw (c .settle2 .ensures) (run-settled _ (c .before .act .result));
-  reads = λ r k l.
+  reads = λ r k l f.
       let s = c .before .before .before .before .before .before .before .args in
       let q = c .before .before .before .before .before .before .fields-of .ensures in
       rw (c .settle2 .ensures)
-      (fed-plain _ (s .run) r k (s .location) (s .member) (s .e) l (λ z. c .before .before .before .before .if1 .left (ap (λ (f : Fields). f .kind) q ∙ z)) (c .before .act .result) _ (c .before .before .before .if2 .left) (rw q at (c .before .act .ensures)));
+      (fed-plain _ (s .run) r k (s .location) f (s .member) (s .e) l (λ z. c .before .before .before .before .if1 .left (ap (λ (f : Fields). f .kind) q ∙ z)) (c .before .act .result) _ (c .before .before .before .if2 .left) (rw q at (c .before .act .ensures)));
 }
 
 pub feed-spec : {M : Type 1} → statement M

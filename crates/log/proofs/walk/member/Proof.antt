@@ -98,7 +98,7 @@ returns-2 c =
     let s = c .before .before .before .before .before .before .args in
     let k = c .before .keep .ensures in
     rw (k .1)
-    (enters-later (record { tables = t; members = s .members .now }) (s .run) (s .e) _ (c .before .before .before .before .e .given .1) (cardLocation (s .g) (s .slots)) (s .at) (s .slots) 0 _ (s .slots) (rw (k .0) at (c .go .ensures)) (sym (add-zero (s .slots))) (λ z. omega arith) refl refl)
+    (enters-later (record { tables = t; members = s .members .now }) (s .run) (s .e) _ (c .before .before .before .before .e .given .1) (cardLocation (s .g) (s .slots)) (s .at) (s .slots) (omega arith) 0 _ (s .slots) (rw (k .0) at (c .go .ensures)) (sym (add-zero (s .slots))) (λ z. omega arith) refl refl)
 
 returns-3 : tie.Need-returns-3
 unfolding ofKind carried carriedBy asEntry usedBy
@@ -107,7 +107,7 @@ returns-3 c =
     let s = c .before .before .before .before .before .before .args in
     let k = c .before .keep2 .ensures in
     rw (k .1)
-    (enters-later (record { tables = t; members = s .members .now }) (s .run) (s .e) _ (c .before .before .before .before .e2 .given .1) (cardLocation (s .g) (s .slots)) (s .at) (s .slots) 0 _ (s .slots) (rw (k .0) at (c .go2 .ensures)) (sym (add-zero (s .slots))) (λ z. omega arith) refl refl)
+    (enters-later (record { tables = t; members = s .members .now }) (s .run) (s .e) _ (c .before .before .before .before .e2 .given .1) (cardLocation (s .g) (s .slots)) (s .at) (s .slots) (omega arith) 0 _ (s .slots) (rw (k .0) at (c .go2 .ensures)) (sym (add-zero (s .slots))) (λ z. omega arith) refl refl)
 
 returns-4 : tie.Need-returns-4
 unfolding ofKind carried carriedBy asEntry usedBy
@@ -116,7 +116,7 @@ returns-4 c =
     let s = c .before .before .before .before .before .before .before .args in
     let k = c .before .keep3 .ensures in
     rw (k .1, c .before .before .before .card-location .ensures)
-    (enters-later (record { tables = t; members = s .members .now }) (s .run) (s .e) _ (c .before .before .before .before .before .e3 .given .1) (cardLocation (s .g) (s .slots)) (s .at) (s .slots) (cardLocation (s .g) (s .slots)) _ (s .slots + 1) (rw (k .0) at (c .go3 .ensures)) refl (λ z. omega arith) refl refl)
+    (enters-later (record { tables = t; members = s .members .now }) (s .run) (s .e) _ (c .before .before .before .before .before .e3 .given .1) (cardLocation (s .g) (s .slots)) (s .at) (s .slots) (omega arith) (cardLocation (s .g) (s .slots)) _ (s .slots + 1) (rw (k .0) at (c .go3 .ensures)) refl (λ z. omega arith) refl refl)
 
 returns-5 : tie.Need-returns-5
 unfolding ofKind carried carriedBy asEntry usedBy
@@ -125,7 +125,7 @@ returns-5 c =
     let s = c .before .before .before .before .before .before .args in
     let k = c .before .keep4 .ensures in
     rw (k .1)
-    (enters-later (record { tables = t; members = s .members .now }) (s .run) (s .e) _ (c .before .before .before .before .e4 .given .1) (cardLocation (s .g) (s .slots)) (s .at) (s .slots) 0 _ (s .slots) (rw (k .0) at (c .go4 .ensures)) (sym (add-zero (s .slots))) (λ z. omega arith) refl refl)
+    (enters-later (record { tables = t; members = s .members .now }) (s .run) (s .e) _ (c .before .before .before .before .e4 .given .1) (cardLocation (s .g) (s .slots)) (s .at) (s .slots) (omega arith) 0 _ (s .slots) (rw (k .0) at (c .go4 .ensures)) (sym (add-zero (s .slots))) (λ z. omega arith) refl refl)
 
 returns-6 : tie.Need-returns-6
 unfolding ofKind carried carriedBy asEntry usedBy
@@ -134,7 +134,7 @@ returns-6 c =
     let s = c .before .before .before .before .before .before .args in
     let k = c .before .keep5 .ensures in
     rw (k .1)
-    (enters-later (record { tables = t; members = s .members .now }) (s .run) (s .e) _ (c .before .before .before .before .e5 .given .1) (cardLocation (s .g) (s .slots)) (s .at) (s .slots) 0 _ (s .slots) (rw (k .0) at (c .go5 .ensures)) (sym (add-zero (s .slots))) (λ z. omega arith) refl refl)
+    (enters-later (record { tables = t; members = s .members .now }) (s .run) (s .e) _ (c .before .before .before .before .e5 .given .1) (cardLocation (s .g) (s .slots)) (s .at) (s .slots) (omega arith) 0 _ (s .slots) (rw (k .0) at (c .go5 .ensures)) (sym (add-zero (s .slots))) (λ z. omega arith) refl refl)
 
 returns-7 : tie.Need-returns-7
 returns-7 c =

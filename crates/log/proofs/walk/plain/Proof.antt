@@ -91,7 +91,7 @@ unfolding ofKind carried carriedBy asEntry usedBy
 returns c =
     let s = c .before .before .before .before .before .before .args in
     let a = c .before .act in
-    enters-now (memory (s .nodes .now) (s .members .now)) (s .run) (s .e) _ (c .before .before .before .before .e .given .1) (cardLocation (s .g) (s .slots)) (s .at) (s .slots) (a .result) (tablesIn (a .last .0)) _ (s .slots) (c .go .ensures) (sym (add-zero (s .slots))) (λ z. omega arith)
+    enters-now (memory (s .nodes .now) (s .members .now)) (s .run) (s .e) _ (c .before .before .before .before .e .given .1) (cardLocation (s .g) (s .slots)) (s .at) (s .slots) (omega arith) (a .result) (tablesIn (a .last .0)) _ (s .slots) (c .go .ensures) (sym (add-zero (s .slots))) (λ z. omega arith)
     (a .ensures)
 
 returns-2 : tie.Need-returns-2
@@ -99,7 +99,7 @@ unfolding ofKind carried carriedBy asEntry usedBy
 returns-2 c =
     let s = c .before .before .before .before .before .before .args in
     let a = c .before .act2 in
-    enters-now (memory (s .nodes .now) (s .members .now)) (s .run) (s .e) _ (c .before .before .before .before .e2 .given .1) (cardLocation (s .g) (s .slots)) (s .at) (s .slots) (a .result) (tablesIn (a .last .0)) _ (s .slots) (c .go2 .ensures) (sym (add-zero (s .slots))) (λ z. omega arith)
+    enters-now (memory (s .nodes .now) (s .members .now)) (s .run) (s .e) _ (c .before .before .before .before .e2 .given .1) (cardLocation (s .g) (s .slots)) (s .at) (s .slots) (omega arith) (a .result) (tablesIn (a .last .0)) _ (s .slots) (c .go2 .ensures) (sym (add-zero (s .slots))) (λ z. omega arith)
     (a .ensures)
 
 returns-3 : tie.Need-returns-3
@@ -107,7 +107,7 @@ unfolding ofKind carried carriedBy asEntry usedBy
 returns-3 c =
     let s = c .before .before .before .before .before .before .args in
     let a = c .before .act3 in
-    enters-now (memory (s .nodes .now) (s .members .now)) (s .run) (s .e) _ (c .before .before .before .before .e3 .given .1) (cardLocation (s .g) (s .slots)) (s .at) (s .slots) (a .result) (tablesIn (a .last .0)) _ (s .slots) (c .go3 .ensures) (sym (add-zero (s .slots))) (λ z. omega arith)
+    enters-now (memory (s .nodes .now) (s .members .now)) (s .run) (s .e) _ (c .before .before .before .before .e3 .given .1) (cardLocation (s .g) (s .slots)) (s .at) (s .slots) (omega arith) (a .result) (tablesIn (a .last .0)) _ (s .slots) (c .go3 .ensures) (sym (add-zero (s .slots))) (λ z. omega arith)
     (a .ensures)
 
 returns-4 : tie.Need-returns-4
@@ -115,7 +115,7 @@ unfolding ofKind carried carriedBy asEntry usedBy
 returns-4 c =
     let s = c .before .before .before .before .before .before .before .args in
     let a = c .before .act4 in
-    enters-now (memory (s .nodes .now) (s .members .now)) (s .run) (s .e) _ (c .before .before .before .before .before .e4 .given .1) (cardLocation (s .g) (s .slots)) (s .at) (s .slots) (a .result) (tablesIn (a .last .0)) _ (s .slots + 1) (c .go4 .ensures) refl (λ z. omega arith)
+    enters-now (memory (s .nodes .now) (s .members .now)) (s .run) (s .e) _ (c .before .before .before .before .before .e4 .given .1) (cardLocation (s .g) (s .slots)) (s .at) (s .slots) (omega arith) (a .result) (tablesIn (a .last .0)) _ (s .slots + 1) (c .go4 .ensures) refl (λ z. omega arith)
     (rw (c .before .before .before .card-location .ensures) at (a .ensures))
 
 returns-5 : tie.Need-returns-5
@@ -123,7 +123,7 @@ unfolding ofKind carried carriedBy asEntry usedBy
 returns-5 c =
     let s = c .before .before .before .before .before .before .args in
     let a = c .before .act5 in
-    enters-now (memory (s .nodes .now) (s .members .now)) (s .run) (s .e) _ (c .before .before .before .before .e5 .given .1) (cardLocation (s .g) (s .slots)) (s .at) (s .slots) (a .result) (tablesIn (a .last .0)) _ (s .slots) (c .go5 .ensures) (sym (add-zero (s .slots))) (λ z. omega arith)
+    enters-now (memory (s .nodes .now) (s .members .now)) (s .run) (s .e) _ (c .before .before .before .before .e5 .given .1) (cardLocation (s .g) (s .slots)) (s .at) (s .slots) (omega arith) (a .result) (tablesIn (a .last .0)) _ (s .slots) (c .go5 .ensures) (sym (add-zero (s .slots))) (λ z. omega arith)
     (a .ensures)
 
 returns-6 : tie.Need-returns-6
@@ -131,7 +131,7 @@ unfolding ofKind carried carriedBy asEntry usedBy
 returns-6 c =
     let s = c .before .before .before .before .before .before .args in
     let a = c .before .act6 in
-    enters-now (memory (s .nodes .now) (s .members .now)) (s .run) (s .e) _ (c .before .before .before .before .e6 .given .1) (cardLocation (s .g) (s .slots)) (s .at) (s .slots) (a .result) (tablesIn (a .last .0)) _ (s .slots) (c .go6 .ensures) (sym (add-zero (s .slots))) (λ z. omega arith)
+    enters-now (memory (s .nodes .now) (s .members .now)) (s .run) (s .e) _ (c .before .before .before .before .e6 .given .1) (cardLocation (s .g) (s .slots)) (s .at) (s .slots) (omega arith) (a .result) (tablesIn (a .last .0)) _ (s .slots) (c .go6 .ensures) (sym (add-zero (s .slots))) (λ z. omega arith)
     (a .ensures)
 
 returns-7 : tie.Need-returns-7
