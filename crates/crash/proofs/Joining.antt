@@ -48,7 +48,7 @@ committed-reader d b s t i =
         → bind (replay start (v .entries)) (λ r. replay r q) ≡ some z → replay (v .reader) q ≡ some z
     rejoin v z q h = rw (v .replays) at h
 
-committed-state : (d : Disk) (b : Book) (i : Live d b) → committed d ≡ i .told .reader .state
+pub committed-state : (d : Disk) (b : Book) (i : Live d b) → committed d ≡ i .told .reader .state
 committed-state d b i = committed-is d (i .told .reader) (committed-reader d b (i .sim) (i .told) (i .tied refl))
 
 -- What is left of the disk as it was when the queue has grown by es and the book's line by ws.

@@ -16,3 +16,4 @@ pub mod Demand3
 pub mod Scenario
 pub mod Covered
 pub mod Unwritten
+pub mod Inventory

@@ -1,5 +1,5 @@
--- One list of events on a card of two segments, computed to its end: it may happen, and it comes to what demand 3 says. So `valid` is no condition
--- that a list with cuts, dead members and refusals cannot meet.
+-- Two lists of events on a card of two segments, computed to their ends: they may happen, and come to what demand 3 and the inventory's order say. So
+-- `valid` is no condition that a list with cuts, dead members and refusals cannot meet.
 use Prim.{Unit, tt}
 use mathlib.Core.Path.{_≡_, refl}
 use mathlib.Core.Bool.{true}
@@ -9,14 +9,18 @@ use Prim.Native.Nat.{ℕ}
 use lib.ListN.{replicate}
 use Rattle.lists.specs.Change.{takeList, putFirst}
 use Rattle.lists.specs.State.{State, state, row, block}
+use Rattle.lists.specs.Takings.{undeleted, inForce}
 use Rattle.log.specs.Card.{Content}
 use Rattle.disk.specs.Record.{freshRecord, withFlow}
 use Rattle.disk.specs.Disk.{Disk, view}
-use Rattle.disk.specs.Call.{newList, newBlock, Call, mount, onStream, begin, end, flush}
+use Rattle.disk.specs.Call.{newList, newBlock, deleteList, inventory, Call, mount, onStream, inView, begin, end, flush}
+use Rattle.disk.specs.Perform.{perform}
 use Rattle.disk.proofs.Computing.{computing}
 use Rattle.crash.specs.Event.{Part, Rest, Event, called, cutFlush, cutFormat, partOf, putBack, lend, giveBack, isWhole, lentWhole, leaves, isAccepted, answered, step, mayHappen}
 use Rattle.crash.specs.Book.{simple, whole, emptyBook, joinPlain, batchOf, withBatch, join, memberOf, joinUnit, cost, entriesOf, placedEntries, lastInUse, placeOf, moveTo, bookStore, bookFlush, keepFirst, bookFormat, isNumber, closingOnCard, longest, onCard, settle, bookAccepted, bookRefused, bookCalled, bookStep}
 use Rattle.crash.specs.Demand3.{Scene, sceneStep, play, valid, begun}
+use Rattle.crash.specs.Unwritten.{changesOf}
+use Rattle.crash.specs.Inventory.{listsIn}
 
 -- two segments and both data buffers full of 170
 pub blank : Disk
@@ -79,3 +83,27 @@ pub comes-to :
     × (view (last .world .disk) 0 ≡ mountedState)
 unfolding playing last mountedState
 comes-to = (refl, refl)
+
+-- A list taken again: 1 and 2 are taken and 1 deleted; after a mount 1 is given again, and unit 1 deletes list 2.
+pub retaken : List Event
+retaken =
+    wholly (onStream 0 newList)
+    ∷ wholly (onStream 0 newList)
+    ∷ wholly (onStream 0 (deleteList 1))
+    ∷ wholly (flush 100)
+    ∷ wholly mount
+    ∷ wholly (onStream 0 newList)
+    ∷ wholly (begin 1)
+    ∷ wholly (onStream 1 (deleteList 2))
+    ∷ []
+
+pub again : Scene
+again = play (begun blank) retaken
+
+-- it stands behind list 2, whose taking is the earlier one; the persistent view has list 2 alone, the unit's list 1 alone
+pub again-listed :
+    (valid (begun blank) retaken ≡ true)
+    × (listsIn (again .book) 0 ≡ 2 ∷ 1 ∷ []) × (listsIn (again .book) 5 ≡ 2 ∷ []) × (listsIn (again .book) 1 ≡ 1 ∷ [])
+    × (perform (inView 0 (inventory (replicate 16 9))) (again .world .disk) .lent ≡ 2 ∷ 1 ∷ replicate 14 9)
+unfolding playing retaken again listsIn changesOf inForce undeleted
+again-listed = (refl, refl, refl, refl, refl)

@@ -36,7 +36,7 @@ all-append (x ∷ xs) ys s =
     bind-ext (apply x s) _ _ (λ t. all-append xs ys t) ∙ sym (bind-bind (apply x s) (λ t. applyAll xs t) (λ t. applyAll ys t))
 
 -- a history acts as its changes do
-acts-all : (hs : List Act) (s : State Content) → acts hs s ≡ applyAll (changesOf hs) s
+pub acts-all : (hs : List Act) (s : State Content) → acts hs s ≡ applyAll (changesOf hs) s
 unfolding acts act changesOf applyAll
 acts-all [] s = refl
 acts-all (simple c ∷ hs) s = bind-ext (apply c s) _ _ (λ t. acts-all hs t)
@@ -105,7 +105,7 @@ unfolding rest
 rest-lent = (length-replicate {A = ℕ} 8192 0, length-replicate {A = ℕ} 15360 0)
 
 -- what a mounting shows is the persistent state of every disk with that card
-persistent-kept : (d : Disk) (b : Book) (k : Kept (d .card) b) → persistent d ≡ k .state
+pub persistent-kept : (d : Disk) (b : Book) (k : Kept (d .card) b) → persistent d ≡ k .state
 unfolding view persistent accepted leaves
 persistent-kept d b k =
     ap (λ (r : Result). persistent (r .disk)) (sym (perform-accepted mount (leaves (d .card) rest) (k .mounts rest rest-lent))) ∙ k .shows rest rest-lent 5

@@ -3,3 +3,4 @@ pub mod Book
 pub mod Demand3
 pub mod Covered
 pub mod Unwritten
+pub mod Inventory

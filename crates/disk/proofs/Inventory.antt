@@ -1,21 +1,18 @@
--- The lists of every open view are numbered 1 to 16 and stand once each; so an accepted inventory fills and returns what its promise says
--- (`inventory-meets`).
-use mathlib.Core.Path.{_≡_, refl, ap, _∙_}
-use mathlib.Core.Bool.{true}
-use mathlib.Core.List.{List, [], _∷_, _++_, map}
+-- The lists of every open view are numbered 1 to 16 and stand once each; so an accepted inventory has room for them (`inventory-fills`).
+use mathlib.Core.Path.{_≡_, refl}
+use mathlib.Core.Bool.{true, false}
+use mathlib.Core.List.{List, _++_, map}
 use Prim.Native.Nat.{ℕ, _+_}
 use native.Mathlib.Omega.{arith}
-use lib.Dec.{eqb}
 use lib.ListN.{length, drop, length-append, length-drop, length-map}
 use lib.Seq.{take-at, drop-at}
 use Rattle.lists.specs.Basic.{all, joined}
-use Rattle.lists.specs.Change.{Change}
+use Rattle.lists.specs.Change.{Change, takeList, putFirst, putAfter, write, delBlock, delList, mapChange}
 use Rattle.lists.specs.State.{Row, State, overlay}
 use Rattle.lists.proofs.Basic.{and-true, eqb-true, all-each}
-use Rattle.lists.proofs.Count.{one, rowsOf}
-use Rattle.lists.proofs.Distinct.{Distinct, empty-distinct, list-once, overlay-distinct}
+use Rattle.lists.proofs.Distinct.{Distinct, empty-distinct, overlay-distinct}
 use Rattle.lists.proofs.Numbers.{mayTake, numbered, overlay-numbered, lists-few}
-use Rattle.log.specs.Entry.{Entry, member, raw, legal, isList}
+use Rattle.log.specs.Entry.{Entry, member, mapEntry, hasMember, raw, legal, isList}
 use Rattle.log.specs.Reader.{start}
 use Rattle.log.specs.Card.{Content}
 use Rattle.log.proofs.Distinct.{replay-distinct}
@@ -24,10 +21,10 @@ use Rattle.disk.specs.Record.{Record}
 use Rattle.disk.specs.Disk.{Disk, queued, journalOf, stateOf, persistent, committed, view}
 use Rattle.disk.specs.Sound.{isOpenUnit, journalSound}
 use Rattle.disk.specs.Call.{inventory, inView}
-use Rattle.disk.specs.Questions.{viewOpen, lookQuestions, questions, refusal}
+use Rattle.disk.specs.Questions.{viewOpen, lookQuestions, questions}
 use Rattle.lists.specs.Lookup.{listNums}
-use Rattle.disk.specs.Perform.{found, accepted, perform}
-use Rattle.disk.specs.Inventory.{occurs, Inventory}
+use Rattle.disk.specs.Perform.{found, accepted}
+use Rattle.disk.specs.Statements.{Fills, InventoryFills}
 use Rattle.disk.proofs.Questions.{yes-all, unit-range, open-views}
 use Rattle.disk.proofs.Clauses.{Right, right, committed-is}
 use Rattle.disk.proofs.Performing.{perform-accepted}
@@ -80,31 +77,38 @@ module _ (d : Disk) (k : Right d) where
   view-listed : (v : ℕ) → viewOpen d v ≡ true → Listed (view d v)
   view-listed v h = open-views d Listed persistent-listed committed-listed unit-listed v h
 
--- The numbers of a state's lists.
-rows-occur : (l : ℕ) (rs : List (Row Content)) → occurs l (map (λ r. r .num) rs) ≡ rowsOf l rs
-unfolding occurs
-rows-occur l [] = refl
-rows-occur l (r ∷ rs) = ap (λ (n : ℕ). one (eqb (r .num) l) + n) (rows-occur l rs)
+-- A unit's journal takes no list at all: there is no member map for it.
+member-takes : (c : Change Content) → hasMember {D = ℕ} (mapChange (λ x. 0) c) ≡ true → mayTake (λ l. false) c ≡ true
+unfolding hasMember mapChange
+member-takes (takeList l) h = h
+member-takes (putFirst b l) h = refl
+member-takes (putAfter b l p) h = refl
+member-takes (write b x) h = refl
+member-takes (delBlock b) h = refl
+member-takes (delList l) h = refl
 
-listed-meets : (s : State Content) (x : List ℕ) → Listed s → length x ≡ 16 → Inventory s (length (listNums (s .lists))) x (listNums (s .lists) ++ drop (length (listNums (s .lists))) x)
+pub unit-takes-none : (d : Disk) → Right d → (u : ℕ) → isOpenUnit d u ≡ true → all (mayTake (λ l. false)) (journalOf d u) ≡ true
+unfolding journalSound legal raw mapEntry
+unit-takes-none d k u h =
+    let (p, q, o) = unit-range d u h in
+    all-each (journalSound (d .rec) u) (mayTake (λ l. false)) (journalOf d u)
+    (λ c e. member-takes c (and-true (hasMember {D = ℕ} (mapChange (λ x. 0) c)) _ (and-true (legal (raw 0 (member c))) _ e .0) .0)) (k .units .units u p q .sound)
+
+-- The lists of a state in the destination: they are at most 16.
+listed-fills : (s : State Content) (x : List ℕ) → Listed s → length x ≡ 16 → Fills (listNums (s .lists)) (length (listNums (s .lists))) x (listNums (s .lists) ++ drop (length (listNums (s .lists))) x)
 unfolding listNums
-listed-meets s x k e = record {
-  many = n;
-  once = λ l. ap (occurs l) (take-at ls (drop (length ls) x) (length ls) refl) ∙ rows-occur l (s .lists) ∙ list-once (s .lists) (k .distinct) l;
+listed-fills s x k e = record {
+  many = refl;
+  first = take-at ls (drop (length ls) x) (length ls) refl;
   others = drop-at ls (drop (length ls) x) (length ls) refl;
-  size = omega (arith, n, lists-few 16 (s .lists) (k .distinct) (k .range), length-append ls (drop (length ls) x), length-drop (length ls) x);
+  size = omega (arith, length-map (s .lists) (λ (r : Row Content). r .num), lists-few 16 (s .lists) (k .distinct) (k .range), length-append ls (drop (length ls) x), length-drop (length ls) x);
 }
   where
     ls : List ℕ
     ls = map (λ (r : Row Content). r .num) (s .lists)
 
-    n : length ls ≡ length (s .lists)
-    n = length-map (s .lists) (λ (r : Row Content). r .num)
-
--- what an accepted inventory returns and fills
-pub inventory-meets : (v : ℕ) (x : List ℕ) (d : Disk) → refusal (inView v (inventory x)) d ≡ 0
-    → let r = perform (inView v (inventory x)) d in Inventory (view d v) (r .answer .value) x (r .lent)
+pub inventory-fills : InventoryFills
 unfolding questions lookQuestions accepted found
-inventory-meets v x d h =
+inventory-fills v x d h =
     let y = yes-all (inView v (inventory x)) d h in
-    rw (perform-accepted (inView v (inventory x)) d h) (listed-meets (view d v) x (view-listed d (right d (y 0) (y 1)) v (y 2)) (eqb-true (length x) 16 (y 3)))
+    rw (perform-accepted (inView v (inventory x)) d h) (listed-fills (view d v) x (view-listed d (right d (y 0) (y 1)) v (y 2)) (eqb-true (length x) 16 (y 3)))

@@ -6,6 +6,5 @@ pub mod Questions
 pub mod Perform
 pub mod Answers
 pub mod KnownRuns
-pub mod Inventory
 pub mod Statements
 pub mod promises

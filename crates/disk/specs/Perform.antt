@@ -117,7 +117,7 @@ changeFor (deleteList l) n = delList l
 unfoldable pub found : Look → State Content → ℕ × List ℕ
 found (readBlock b x) s = (0, orElse x (contentOf (s .lists) b))
 found (blockAfter l p) s = (nextAfter (s .lists) l p, [])
--- in the order of their taking, which the inventory's promise (Inventory) leaves open
+-- "gives a view's lists by when the taking each has in that view stands in the serial history, earliest first": a state's lists stand in this order
 found (inventory x) s = let ls = listNums (s .lists) in (length ls, ls ++ drop (length ls) x)
 
 unfoldable pub opening : ℕ → Disk → Disk

@@ -4,15 +4,16 @@ use mathlib.Core.Logic.{_⊎_}
 use mathlib.Core.Bool.{true}
 use mathlib.Core.List.{List}
 use Prim.Native.Nat.{ℕ, _+_, _-_, _≤_, _<_}
-use lib.ListN.{length, getD, take}
+use lib.ListN.{length, getD, take, drop}
+use Rattle.lists.specs.Lookup.{listNums}
 use Rattle.log.specs.Card.{cardLength, segmentsIn, count}
 use Rattle.log.specs.Store.{Store, doStores}
 use Rattle.log.specs.Flush.{rest}
 use Rattle.log.specs.Turns.{Steps, Clears}
 use Rattle.disk.specs.Record.{recordIn}
-use Rattle.disk.specs.Disk.{Disk, queued}
+use Rattle.disk.specs.Disk.{Disk, queued, view}
 use Rattle.disk.specs.Sound.{lengthsRight, recordSound}
-use Rattle.disk.specs.Call.{Call, flush}
+use Rattle.disk.specs.Call.{inventory, Call, inView, flush}
 use Rattle.disk.specs.Questions.{refusal}
 use Rattle.disk.specs.Perform.{flowOf, flushed, formatted, perform}
 
@@ -28,6 +29,20 @@ IsBytes bs = (i : ℕ) → getD bs i 0 < 256
 
 abbrev pub RecordFixed : Type 0
 RecordFixed = (bs cs : List ℕ) → length bs ≡ 448 → length cs ≡ 448 → IsBytes bs → IsBytes cs → recordIn bs ≡ recordIn cs → bs ≡ cs
+
+-- "the inventory, which fills 16 lent bytes with the lists taken in a view, [..] other bytes unchanged, and returns how many": n of them, ls in their
+-- order, in the destination y, which held x
+pub record Fills (ls : List ℕ) (n : ℕ) (x y : List ℕ) : Type 0 where
+  pub many : n ≡ length ls
+  pub first : take n y ≡ ls
+  pub others : drop n y ≡ drop n x
+  pub size : length y ≡ length x
+
+-- an accepted one fills in the lists of its view in the order of their taking; which order that is by the serial history: crash/specs/Inventory
+abbrev pub InventoryFills : Type 0
+InventoryFills =
+    (v : ℕ) (x : List ℕ) (d : Disk) → refusal (inView v (inventory x)) d ≡ 0
+    → let r = perform (inView v (inventory x)) d in Fills (listNums (view d v .lists)) (r .answer .value) x (r .lent)
 
 -- "With allowance m+n it leaves what m, then n leaves, m+n being in range.": the disk; the stores add up, and the ending is the second's
 abbrev pub FlushSum : Type 0

