@@ -48,6 +48,10 @@ module _ (bs : List ℕ) (x : ℕ) (h : x < 256) where
   unfolding tablesIn
   location-read = sym in-locations
 
+pub next-length : (bs : List ℕ) → length (tablesIn bs .next) ≡ 256
+unfolding tablesIn column
+next-length bs = from-length (λ n. getD bs (4 * n + 0) 0) 0 256
+
 -- A byte stored.
 module _ (bs : List ℕ) (x v : ℕ) (h : x < 256) (l : length bs ≡ 1280) where
   column-set : (f : ℕ) → f < 4 → column f (set bs (4 * x + f) v) ≡ set (column f bs) x v

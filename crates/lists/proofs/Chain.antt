@@ -65,7 +65,7 @@ away-last : (n a : ℕ) (xs : List ℕ) → Away n (a ∷ xs) → last a xs ≢ 
 away-last n a [] h = h .0
 away-last n a (x ∷ xs) h = away-last n x xs (h .1)
 
-small-middle : (xs : List ℕ) (y : ℕ) (ys : List ℕ) → Small (xs ++ y ∷ ys) → y < 256
+pub small-middle : (xs : List ℕ) (y : ℕ) (ys : List ℕ) → Small (xs ++ y ∷ ys) → y < 256
 small-middle [] y ys h = h .0
 small-middle (x ∷ xs) y ys h = small-middle xs y ys (h .1)
 

@@ -16,7 +16,7 @@ use Rattle.lists.proofs.Basic.{not-not, either, or-both, or-cases, eqb-
 use Rattle.lists.proofs.Chain.{away-right, apart-left, apart-right, last, linked-tail}
 use Rattle.lists.proofs.Nodes.{away-taken, onList-taken}
 use Rattle.lists.proofs.Owners.{taken-owner, taken-range, untaken-away, unplaced-away, onList-owner, placed-owner}
-use Rattle.lists.proofs.Freeing.{all-times, blocks-all, times-most}
+use Rattle.lists.proofs.Dropping.{all-times, blocks-all, times-most}
 
 pub node-of : (l : ℕ) → l ≤ 16 → listNode l ≡ 64 + l
 node-of l h = omega arith

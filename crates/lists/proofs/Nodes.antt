@@ -8,6 +8,7 @@ use Prim.Native.Nat.{ℕ, _+_}
 use lib.Dec.{eqb}
 use Rattle.lists.specs.Basic.{keep}
 use Rattle.lists.specs.State.{Block, Row, onRow, onBlocksOf, taken, placed, onList, insertAfter, at, put, onBlocks, otherBlock, otherRow, block, row}
+use Rattle.lists.specs.Lookup.{blocksOf}
 use Rattle.lists.specs.promises.Tables.{Away, Apart, blockNodes, nodes}
 use Rattle.lists.proofs.Basic.{either, or-both, or-cases, or-right, and-true, eqb-true, eqb-false}
 use Rattle.lists.proofs.Chain.{away-left, away-right, apart-left, apart-right}
@@ -54,15 +55,16 @@ away-taken l [] h = refl
 away-taken l (r ∷ rs) h =
     rw (eqb-false (r .num) l (λ e. h .0 (rw e))) (away-taken l rs (away-right (64 + l) (blockNodes (r .blocks)) (nodes rs) (h .1)))
 
-map-other : (l : ℕ) (f : List (Block ℕ) → List (Block ℕ)) (rs : List (Row ℕ)) → taken l rs ≡ false → map (at l f) rs ≡ rs
-unfolding taken
-map-other l f [] h = refl
-map-other l f (r ∷ rs) h = let (p, q) = or-both (eqb (r .num) l) (taken l rs) h in rw p (ap (λ (x : List (Row ℕ)). r ∷ x) (map-other l f rs q))
+module _ {D : Type 0} (l : ℕ) where
+  pub map-other : (f : List (Block D) → List (Block D)) (rs : List (Row D)) → taken l rs ≡ false → map (at l f) rs ≡ rs
+  unfolding taken
+  map-other f [] h = refl
+  map-other f (r ∷ rs) h = let (p, q) = or-both (eqb (r .num) l) (taken l rs) h in rw p (ap (λ (x : List (Row D)). r ∷ x) (map-other f rs q))
 
-keep-other : (l : ℕ) (rs : List (Row ℕ)) → taken l rs ≡ false → keep (otherRow l) rs ≡ rs
-unfolding taken
-keep-other l [] h = refl
-keep-other l (r ∷ rs) h = let (p, q) = or-both (eqb (r .num) l) (taken l rs) h in rw p (ap (λ (x : List (Row ℕ)). r ∷ x) (keep-other l rs q))
+  pub keep-other : (rs : List (Row D)) → taken l rs ≡ false → keep (otherRow l) rs ≡ rs
+  unfolding taken
+  keep-other [] h = refl
+  keep-other (r ∷ rs) h = let (p, q) = or-both (eqb (r .num) l) (taken l rs) h in rw p (ap (λ (x : List (Row D)). r ∷ x) (keep-other rs q))
 
 -- taking
 pub nodes-append : (rs qs : List (Row ℕ)) → nodes (rs ++ qs) ≡ nodes rs ++ nodes qs
@@ -163,26 +165,50 @@ block-shrunk b (r ∷ rs) h a = ⊎-elim
     (shrunk-behind ((64 + r .num) ∷ blockNodes (r .blocks)) (block-shrunk b rs (rw e at h) (apart-right (blockNodes (r .blocks)) (nodes rs) (a .1)))))
     (either (onRow b r))
 
--- deleting a list
+-- a list's row: its blocks changed, and the row deleted
 pub record RowAt (l : ℕ) (rs : List (Row ℕ)) : Type 0 where
   pub before : List (Row ℕ)
   pub blocks : List (Block ℕ)
   pub after : List (Row ℕ)
   pub was : rs ≡ before ++ row l blocks ∷ after
+  pub now : (f : List (Block ℕ) → List (Block ℕ)) → map (at l f) rs ≡ before ++ row l (f blocks) ∷ after
   pub kept : keep (otherRow l) rs ≡ before ++ after
   pub others : taken l after ≡ false
+  pub nums : blocksOf rs l ≡ blockNodes blocks
+
+block-nums : (xs : List (Block ℕ)) → map (λ x. x .num) xs ≡ blockNodes xs
+block-nums [] = refl
+block-nums (x ∷ xs) = ap (λ (y : List ℕ). x .num ∷ y) (block-nums xs)
 
 pub row-at : (l : ℕ) (rs : List (Row ℕ)) → taken l rs ≡ true → Apart (nodes rs) → RowAt l rs
-unfolding taken
+unfolding taken blocksOf
 row-at l [] h a = absurd (false≢true h)
 row-at l (r ∷ rs) h a = ⊎-elim
-    (λ e.
+    (λ (e : eqb (r .num) l ≡ true).
     let q : r .num ≡ l = eqb-true _ _ e in
     let f : taken l rs ≡ false = away-taken l rs (rw (← q) (away-right _ (blockNodes (r .blocks)) (nodes rs) (a .0))) in
-    record { before = []; blocks = r .blocks; after = rs; was = rw (← q); kept = rw e (keep-other l rs f); others = f })
-    (λ e.
+    record {
+      before = [];
+      blocks = r .blocks;
+      after = rs;
+      was = rw (← q);
+      now = λ f′. rw (e, map-other l f′ rs f) (rw q);
+      kept = rw e (keep-other l rs f);
+      others = f;
+      nums = rw (e, blocksOf) (block-nums (r .blocks));
+    })
+    (λ (e : eqb (r .num) l ≡ false).
     let g = row-at l rs (rw e at h) (apart-right (blockNodes (r .blocks)) (nodes rs) (a .1)) in
-    record { before = r ∷ g .before; blocks = g .blocks; after = g .after; was = ap (λ (y : List (Row ℕ)). r ∷ y) (g .was); kept = rw e (ap (λ (y : List (Row ℕ)). r ∷ y) (g .kept)); others = g .others })
+    record {
+      before = r ∷ g .before;
+      blocks = g .blocks;
+      after = g .after;
+      was = ap (λ (y : List (Row ℕ)). r ∷ y) (g .was);
+      now = λ f. rw e (ap (λ (y : List (Row ℕ)). r ∷ y) (g .now f));
+      kept = rw e (ap (λ (y : List (Row ℕ)). r ∷ y) (g .kept));
+      others = g .others;
+      nums = rw (e, blocksOf) (g .nums);
+    })
     (either (eqb (r .num) l))
 
 -- writing

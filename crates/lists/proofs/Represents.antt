@@ -4,20 +4,23 @@ use mathlib.Core.Logic.{_≢_, ⊎-elim}
 use mathlib.Core.Bool.{Bool, true, false, _&&_, not, true≢false}
 use mathlib.Core.Option.{Option, none, some}
 use mathlib.Core.List.{List, [], _∷_, _++_, map, append-assoc, append-nil}
-use Prim.Native.Nat.{ℕ, _+_, _≤_, _<_}
+use Prim.Native.Nat.{ℕ, zero, suc, _+_, _≤_, _<_}
 use native.Mathlib.Omega.{arith}
 use lib.Dec.{eqb}
-use lib.ListN.{length, getD, set, length-set}
+use lib.ListN.{length, drop, getD, set, length-set}
 use lib.Seq.{getD-set-other, getD-set-same}
 use Rattle.lists.specs.Basic.{bind, keep, orElse}
 use Rattle.lists.specs.Change.{Change, takeList, putFirst, putAfter, write, delBlock, delList}
 use Rattle.lists.specs.State.{State, Block, Row, taken, placed, onList, insertAfter, at, put, onBlocks, otherBlock, otherRow, block, row, changed, applies, apply}
-use Rattle.lists.specs.promises.Tables.{Tables, tables, nextOf, prevOf, ownerOf, insertNode, cutNodes, withLocation, cleared, freeNodes, cutList, putFits, putDone, suits, done, Did, Away, Apart, Linked, blockNodes, nodes, chain, IsBlock, IsList, HasBlock, HasBlocks, HasLists, Sized, Shows, Ranged, Represents, locatedAt}
+use Rattle.lists.specs.Lookup.{blocksOf}
+use Rattle.lists.specs.Clearing.{firstOff, stepsOff}
+use Rattle.lists.specs.promises.Tables.{Tables, tables, nextOf, prevOf, ownerOf, insertNode, cutNodes, withLocation, cleared, times, cutNode, dropFirst, dropUpTo, dropAll, cutList, putFits, putDone, suits, done, Did, Away, Apart, Linked, blockNodes, nodes, chain, IsFirst, IsBlock, IsList, HasBlock, HasBlocks, HasLists, Shows, Ranged, Represents, locatedAt}
 use Rattle.lists.proofs.Basic.{either, or-both, and-true, not-false, eqb-true, eqb-neq, getD-same, and-swap, and-implied, not-not}
-use Rattle.lists.proofs.Chain.{Small, headOf, last, away-left, away-right, away-append, apart-left, apart-right, apart-insert, apart-cut, apart-middle, small-left, small-right, last-snoc, next-at, prev-at, linked-tail, linked-insert, linked-cut}
-use Rattle.lists.proofs.Nodes.{Grown, nodes-append, nodes-write, first-grown, after-grown, block-shrunk, row-at, onList-taken}
-use Rattle.lists.proofs.Owners.{Same, same-refl, same-set, has-same, has-append, has-left, has-right, has-at, has-keep, has-write, blocks-after, taken-owner, unplaced-away, untaken-away}
-use Rattle.lists.proofs.Freeing.{AllOf, blocks-all, freed, freed-length, freed-free, freed-same, free-run}
+use Rattle.lists.proofs.Chain.{Small, headOf, last, away-left, away-right, away-append, apart-left, apart-right, apart-insert, apart-cut, apart-middle, small-middle, last-snoc, next-at, prev-at, linked-tail, linked-insert, linked-cut}
+use Rattle.lists.proofs.Nodes.{Grown, RowAt, nodes-append, nodes-write, first-grown, after-grown, block-shrunk, row-at, onList-taken}
+use Rattle.lists.proofs.Owners.{same-refl, same-set, has-same, has-append, has-left, has-right, has-at, has-keep, has-write, blocks-after, taken-owner, unplaced-away, untaken-away}
+use Rattle.lists.proofs.Dropping.{AllOf, blocks-all, all-times, upTo-stop, upTo-more}
+use Rattle.lists.proofs.Clearing.{steps-blocks, steps-taken, steps-first, steps-kept, steps-others}
 use Rattle.lists.proofs.Lookup.{node-of, taken-free, taken-own, placed-free, on-own}
 
 uncons : (b : List ℕ) → (y : ℕ) × (r : List ℕ) × (b ++ 255 ∷ [] ≡ y ∷ r)
@@ -27,6 +30,14 @@ uncons (x ∷ b) = (x, b ++ 255 ∷ [], refl)
 blocks-small : (o p : List ℕ) (l : ℕ) (xs : List (Block ℕ)) (c : List ℕ) → HasBlocks o p l xs → Small c → Small (blockNodes xs ++ c)
 blocks-small o p l [] c h k = k
 blocks-small o p l (x ∷ xs) c h k = (omega (arith, h .0 .range .1), blocks-small o p l xs c (h .1) k)
+
+nodes-first : (xs : List (Block ℕ)) → blockNodes (drop 1 xs) ≡ drop 1 (blockNodes xs)
+nodes-first [] = refl
+nodes-first (x ∷ xs) = refl
+
+blocks-first : (o p : List ℕ) (l : ℕ) (xs : List (Block ℕ)) → HasBlocks o p l xs → HasBlocks o p l (drop 1 xs)
+blocks-first o p l [] h = h
+blocks-first o p l (x ∷ xs) h = h .1
 
 chain-small : (o p : List ℕ) (rs : List (Row ℕ)) → HasLists o p rs → Small (chain rs)
 chain-small o p [] h = (omega arith, tt)
@@ -122,26 +133,32 @@ module _ (t : Tables) (rs : List (Row ℕ)) (s : Shows t rs) where
     free = λ m h. s .free m (rw (nodes-write b d rs) at h);
   }
 
-  shows-delBlock : (b : ℕ) → IsBlock b → placed b rs ≡ true → Shows (cutNodes (prevOf t b) (nextOf t b) (set (t .owner) b 0) t) (map (onBlocks (keep (otherBlock b))) rs)
-  shows-delBlock b g h =
+  -- node n goes
+  shows-gone : (rs′ : List (Row ℕ)) (front : List ℕ) (n : ℕ) (back : List ℕ) → nodes rs ≡ front ++ n ∷ back → nodes rs′ ≡ front ++ back
+      → HasLists (t .owner) (t .location) rs′ → Shows (cutNode n t) rs′
+  unfolding cutNode
+  shows-gone rs′ front n back was now has =
+      let (y, r, e) = uncons back in
+      let c1 : chain rs ≡ front ++ n ∷ y ∷ r = rw (was, append-assoc, e) in
+      let k1 : Linked (t .next) (t .prev) 0 (front ++ n ∷ y ∷ r) = subst (λ (z : List ℕ). Linked (t .next) (t .prev) 0 z) c1 (s .linked) in
+      let k2 : Linked (t .next) (t .prev) 0 ((front ++ n ∷ []) ++ y ∷ r) = rw append-assoc k1 in
+      let q : nextOf t n ≡ y = rw (last-snoc 0 front n) at (next-at (t .next) (t .prev) 0 (front ++ n ∷ []) y r k2) in
+      let m : n < 256 = small-middle front n (y ∷ r) (subst (λ (z : List ℕ). Small z) c1 (chain-small (t .owner) (t .location) rs (s .has))) in
+      let a1 : Apart (front ++ n ∷ back) = subst (λ (z : List ℕ). Apart z) was apart-nodes in
+      let a2 : Away n (front ++ back) = away-append n front back (apart-middle front n back a1) (apart-right front (n ∷ back) a1 .0) in
+      shows-cut t rs rs′ s front (n ∷ []) back (prevOf t n) (nextOf t n) r (set (t .owner) n 0)
+      was now (sym (prev-at (t .next) (t .prev) 0 front n (y ∷ r) k1)) (rw q e) (simp length-set (s .sized .owner))
+      (has-same (t .owner) (set (t .owner) n 0) (t .location) (t .location) rs′ (same-set (t .owner) n 0 (nodes rs′) (rw now a2)) (same-refl (t .location) (nodes rs′)) has)
+      (λ j z. ⊎-elim
+      (λ u. rw (eqb-true j n u) (getD-set-same (t .owner) n 0 0 (omega (arith, s .sized .owner))))
+      (λ u. getD-set-other (t .owner) n j 0 0 (eqb-neq j n u)
+      ∙ s .free j (rw was (away-append j front (n ∷ back) (away-left j front back z) ((λ v. eqb-neq j n u (sym v)), away-right j front back z))))
+      (either (eqb j n)))
+
+  shows-delBlock : (b : ℕ) → placed b rs ≡ true → Shows (cutNode b t) (map (onBlocks (keep (otherBlock b))) rs)
+  shows-delBlock b h =
       let w = block-shrunk b rs h apart-nodes in
-      let (y, r, e) = uncons (w .back) in
-      let c1 : chain rs ≡ w .front ++ b ∷ y ∷ r = rw (w .was, append-assoc, e) in
-      let k1 : Linked (t .next) (t .prev) 0 (w .front ++ b ∷ y ∷ r) = subst (λ (z : List ℕ). Linked (t .next) (t .prev) 0 z) c1 (s .linked) in
-      let k2 : Linked (t .next) (t .prev) 0 ((w .front ++ b ∷ []) ++ y ∷ r) = rw append-assoc k1 in
-      let q : nextOf t b ≡ y = rw (last-snoc 0 (w .front) b) at (next-at (t .next) (t .prev) 0 (w .front ++ b ∷ []) y r k2) in
-      let a1 : Apart (w .front ++ b ∷ w .back) = subst (λ (z : List ℕ). Apart z) (w .was) apart-nodes in
-      let a2 : Away b (w .front ++ w .back) = away-append b (w .front) (w .back) (apart-middle (w .front) b (w .back) a1) (apart-right (w .front) (b ∷ w .back) a1 .0) in
-      shows-cut t rs (map (onBlocks (keep (otherBlock b))) rs) s (w .front) (b ∷ []) (w .back) (prevOf t b) (nextOf t b) r (set (t .owner) b 0)
-      (w .was) (w .now) (sym (prev-at (t .next) (t .prev) 0 (w .front) b (y ∷ r) k1)) (rw q e) (simp length-set (s .sized .owner))
-      (has-same (t .owner) (set (t .owner) b 0) (t .location) (t .location) (map (onBlocks (keep (otherBlock b))) rs)
-      (same-set (t .owner) b 0 (nodes (map (onBlocks (keep (otherBlock b))) rs)) (rw (w .now) a2)) (same-refl (t .location) (nodes (map (onBlocks (keep (otherBlock b))) rs)))
-      (has-keep (t .owner) (t .location) b rs (s .has)))
-      (λ m z. ⊎-elim
-      (λ u. rw (eqb-true m b u) (getD-set-same (t .owner) b 0 0 (omega (arith, s .sized .owner))))
-      (λ u. getD-set-other (t .owner) b m 0 0 (eqb-neq m b u)
-      ∙ s .free m (rw (w .was) (away-append m (w .front) (b ∷ w .back) (away-left m (w .front) (w .back) z) ((λ v. eqb-neq m b u (sym v)), away-right m (w .front) (w .back) z))))
-      (either (eqb m b)))
+      shows-gone (map (onBlocks (keep (otherBlock b))) rs) (w .front) b (w .back) (w .was) (w .now) (has-keep (t .owner) (t .location) b rs (s .has))
 
   -- the node behind a list's blocks is of no list or of another
   behind-other : (l : ℕ) → IsList l → (qs : List (Row ℕ)) → HasLists (t .owner) (t .location) qs → taken l qs ≡ false → (y : ℕ) (r : List ℕ) → nodes qs ++ 255 ∷ [] ≡ y ∷ r → ownerOf t y ≢ l
@@ -159,54 +176,133 @@ module _ (t : Tables) (rs : List (Row ℕ)) (s : Shows t rs) where
       let q : 64 + x .num ≡ y = ap headOf e in
       eqb-neq (x .num) l (or-both (eqb (x .num) l) (taken l qs) h .0) (sym (w .0 .owned) ∙ rw q z)
 
-  shows-delList : (l : ℕ) → IsList l → taken l rs ≡ true → Shows (cutList (64 + l) t) (keep (otherRow l) rs)
-  unfolding cutList
-  shows-delList l g h =
-      let w = row-at l rs h apart-nodes in
-      let A : List ℕ = nodes (w .before) in
-      let S : List ℕ = (64 + l) ∷ blockNodes (w .blocks) in
-      let B : List ℕ = nodes (w .after) in
-      let (y, r, e) = uncons B in
-      let was : nodes rs ≡ A ++ (S ++ B) = ap nodes (w .was) ∙ nodes-append (w .before) (row l (w .blocks) ∷ w .after) in
-      let now : nodes (keep (otherRow l) rs) ≡ A ++ B = ap nodes (w .kept) ∙ nodes-append (w .before) (w .after) in
-      let c1 : chain rs ≡ A ++ (S ++ y ∷ r) = rw (was, append-assoc A (S ++ B), append-assoc S B, e) in
-      let h1 : HasLists (t .owner) (t .location) (w .before ++ row l (w .blocks) ∷ w .after) = subst (λ (z : List (Row ℕ)). HasLists (t .owner) (t .location) z) (w .was) (s .has) in
-      let h2 = has-right (t .owner) (t .location) (w .before) (row l (w .blocks) ∷ w .after) h1 in
-      let all : AllOf l (t .owner) S = (h2 .0 .owned, blocks-all (t .owner) (t .location) l (w .blocks) (h2 .1)) in
-      let a1 : Apart (A ++ (S ++ y ∷ r)) = subst (λ (z : List ℕ). Apart z) c1 (s .apart .1) in
-      let a2 : Apart (A ++ (S ++ B)) = subst (λ (z : List ℕ). Apart z) was apart-nodes in
-      let k1 : Linked (t .next) (t .prev) 0 (A ++ (S ++ y ∷ r)) = subst (λ (z : List ℕ). Linked (t .next) (t .prev) 0 z) c1 (s .linked) in
-      let m1 : Small (A ++ (S ++ y ∷ r)) = subst (λ (z : List ℕ). Small z) c1 (chain-small (t .owner) (t .location) rs (s .has)) in
-      let q : freeNodes (t .next) l (64 + l) (t .owner) ≡ record { behind = y; owners = freed (t .owner) S } =
-      free-run (t .next) l (t .prev) (last 0 A) (64 + l) (blockNodes (w .blocks)) y r (t .owner) (g .0)
-      (linked-tail (t .next) (t .prev) 0 A (S ++ y ∷ r) k1) (apart-right A (S ++ y ∷ r) a1) all (behind-other l g (w .after) (h2 .2) (w .others) y r e) in
-      let done : Shows (cutNodes (prevOf t (64 + l)) y (freed (t .owner) S) t) (keep (otherRow l) rs) =
-      shows-cut t rs (keep (otherRow l) rs) s A S B (prevOf t (64 + l)) y r (freed (t .owner) S) was now
-      (sym (prev-at (t .next) (t .prev) 0 A (64 + l) (blockNodes (w .blocks) ++ y ∷ r) k1)) e (freed-length (t .owner) S ∙ s .sized .owner)
-      (subst (λ (z : List (Row ℕ)). HasLists (freed (t .owner) S) (t .location) z) (sym (w .kept))
-      (has-same (t .owner) (freed (t .owner) S) (t .location) (t .location) (w .before ++ w .after)
-      (subst (λ (z : List ℕ). Same (t .owner) (freed (t .owner) S) z) (sym (nodes-append (w .before) (w .after))) (freed-same (t .owner) S A B a2))
-      (same-refl (t .location) (nodes (w .before ++ w .after)))
-      (has-append (t .owner) (t .location) (w .before) (w .after) (has-left (t .owner) (t .location) (w .before) (row l (w .blocks) ∷ w .after) h1) (h2 .2))))
-      (λ m z. freed-free m (t .owner) S (s .sized .owner) (small-left S (y ∷ r) (small-right A (S ++ y ∷ r) m1))
-      (λ u. s .free m (rw was (away-append m A (S ++ B) (away-left m A B z) (away-append m S B u (away-right m A B z)))))) in
-      rw (taken-owner (t .owner) (t .location) l rs (s .has) h, q) done
+  -- A list's row: its node, then its blocks, then the lists behind it.
+  module _ (l : ℕ) (w : RowAt l rs) (bs : List ℕ) (e : blockNodes (w .blocks) ≡ bs) where
+    row-has : HasLists (t .owner) (t .location) (w .before ++ row l (w .blocks) ∷ w .after)
+    row-has = subst (λ (z : List (Row ℕ)). HasLists (t .owner) (t .location) z) (w .was) (s .has)
 
+    row-nodes : nodes rs ≡ nodes (w .before) ++ (64 + l) ∷ (bs ++ nodes (w .after))
+    row-nodes = ap nodes (w .was) ∙ nodes-append (w .before) (row l (w .blocks) ∷ w .after) ∙ rw e
+
+    row-linked : Linked (t .next) (t .prev) (64 + l) (bs ++ chain (w .after))
+    row-linked =
+        let c : chain rs ≡ nodes (w .before) ++ (64 + l) ∷ (bs ++ chain (w .after)) = rw row-nodes (simp append-assoc) in
+        linked-tail (t .next) (t .prev) 0 (nodes (w .before)) ((64 + l) ∷ (bs ++ chain (w .after))) (subst (λ (z : List ℕ). Linked (t .next) (t .prev) 0 z) c (s .linked)) .2
+
+  -- What follows a list's node tells whether it has blocks.
+  module _ (l : ℕ) (g : IsList l) (h : taken l rs ≡ true) where
+    next-none : blocksOf rs l ≡ [] → ownerOf t (nextOf t (64 + l)) ≢ l
+    next-none e =
+        let w = row-at l rs h apart-nodes in
+        let q = sym (w .nums) ∙ e in
+        let (y, r, u) = uncons (nodes (w .after)) in
+        let k : Linked (t .next) (t .prev) (64 + l) (y ∷ r) = subst (λ (z : List ℕ). Linked (t .next) (t .prev) (64 + l) z) u (row-linked l w [] q) in
+        let a = has-right (t .owner) (t .location) (w .before) (row l (w .blocks) ∷ w .after) (row-has l w [] q) in
+        rw (k .0) (behind-other l g (w .after) (a .2) (w .others) y r u)
+
+    next-some : (b : ℕ) (bs : List ℕ) → blocksOf rs l ≡ b ∷ bs → ownerOf t (nextOf t (64 + l)) ≡ l
+    next-some b bs e =
+        let w = row-at l rs h apart-nodes in
+        let q = sym (w .nums) ∙ e in
+        let a = has-right (t .owner) (t .location) (w .before) (row l (w .blocks) ∷ w .after) (row-has l w (b ∷ bs) q) in
+        let o : AllOf l (t .owner) (b ∷ bs) = subst (λ (z : List ℕ). AllOf l (t .owner) z) q (blocks-all (t .owner) (t .location) l (w .blocks) (a .1)) in
+        rw (row-linked l w (b ∷ bs) q .0) (o .0)
+
+    -- a step, and the empty list's going
+    shows-first : (b : ℕ) (bs : List ℕ) → blocksOf rs l ≡ b ∷ bs → Shows (dropFirst (64 + l) t) (firstOff l rs)
+    unfolding dropFirst cutNode firstOff
+    shows-first b bs e =
+        let w = row-at l rs h apart-nodes in
+        let q = sym (w .nums) ∙ e in
+        let k = row-linked l w (b ∷ bs) q in
+        let front = nodes (w .before) ++ (64 + l) ∷ [] in
+        let now : nodes (map (at l (drop 1)) rs) ≡ front ++ (bs ++ nodes (w .after)) =
+        ap nodes (w .now (drop 1)) ∙ nodes-append (w .before) (row l (drop 1 (w .blocks)) ∷ w .after) ∙ rw (nodes-first (w .blocks), q) (simp append-assoc) in
+        let gone : Shows (cutNode b t) (map (at l (drop 1)) rs) =
+        shows-gone (map (at l (drop 1)) rs) front b (bs ++ nodes (w .after)) (row-nodes l w (b ∷ bs) q ∙ simp append-assoc) now
+        (has-at (t .owner) (t .location) l (drop 1) (blocks-first (t .owner) (t .location) l) rs (s .has)) in
+        rw (k .0, ← k .1) gone
+
+    shows-empty : blocksOf rs l ≡ [] → Shows (cutNode (64 + l) t) (keep (otherRow l) rs)
+    shows-empty e =
+        let w = row-at l rs h apart-nodes in
+        let q = sym (w .nums) ∙ e in
+        let a = row-has l w [] q in
+        shows-gone (keep (otherRow l) rs) (nodes (w .before)) (64 + l) (nodes (w .after)) (row-nodes l w [] q) (ap nodes (w .kept) ∙ nodes-append (w .before) (w .after))
+        (subst (λ (z : List (Row ℕ)). HasLists (t .owner) (t .location) z) (sym (w .kept))
+        (has-append (t .owner) (t .location) (w .before) (w .after) (has-left (t .owner) (t .location) (w .before) (row l (w .blocks) ∷ w .after) a)
+        (has-right (t .owner) (t .location) (w .before) (row l (w .blocks) ∷ w .after) a .2)))
+
+    -- the owners know of all blocks
+    blocks-few : length (blocksOf rs l) ≤ times l (t .owner)
+    blocks-few =
+        let w = row-at l rs h apart-nodes in
+        let bs = blockNodes (w .blocks) in
+        let a = has-right (t .owner) (t .location) (w .before) (row l (w .blocks) ∷ w .after) (row-has l w bs refl) in
+        let p : Apart (nodes (w .before) ++ (64 + l) ∷ (bs ++ nodes (w .after))) = subst (λ (z : List ℕ). Apart z) (row-nodes l w bs refl) apart-nodes in
+        rw (w .nums)
+        (all-times l (t .owner) bs (g .0) (apart-left bs (nodes (w .after)) (apart-right (nodes (w .before)) ((64 + l) ∷ (bs ++ nodes (w .after))) p .1)) (blocks-all (t .owner) (t .location) l (w .blocks) (a .1)))
+
+-- What holds where a step is made, and where none is left.
+module _ (t : Tables) (rs : List (Row ℕ)) (s : Shows t rs) (l : ℕ) (g : IsList l) where
+  pub owner-taken : 1 ≤ ownerOf t (64 + l) → taken l rs ≡ true
+  owner-taken h = ⊎-elim
+      (λ e. e)
+      (λ e. absurd (omega (arith, s .free (64 + l) (untaken-away (t .owner) (t .location) l rs (g .0) (s .has) e))))
+      (either (taken l rs))
+
+  pub step-shown : (b : ℕ) → IsFirst (64 + l) b t → (1 ≤ length (blocksOf rs l)) × Shows (dropFirst (64 + l) t) (firstOff l rs)
+  step-shown b f = go (blocksOf rs l) refl
+    where
+      h : taken l rs ≡ true
+      h = owner-taken (f .taken)
+
+      go : (bs : List ℕ) → blocksOf rs l ≡ bs → (1 ≤ length (blocksOf rs l)) × Shows (dropFirst (64 + l) t) (firstOff l rs)
+      go [] e = absurd (next-none t rs s l g h e (ap (ownerOf t) (f .follows) ∙ f .same ∙ taken-owner (t .owner) (t .location) l rs (s .has) h))
+      go (x ∷ bs) e = (rw e (omega arith), shows-first t rs s l g h x bs e)
+
+  pub none-left : taken l rs ≡ true → ownerOf t (nextOf t (64 + l)) ≢ l → blocksOf rs l ≡ []
+  none-left h k = go (blocksOf rs l) refl
+    where
+      go : (bs : List ℕ) → blocksOf rs l ≡ bs → blocksOf rs l ≡ []
+      go [] e = e
+      go (x ∷ bs) e = absurd (k (next-some t rs s l g h x bs e))
+
+-- All steps, and then the list's own node.
+shows-upTo : (l : ℕ) → IsList l → (bs : List ℕ) (k : ℕ) (t : Tables) (rs : List (Row ℕ)) → Shows t rs → taken l rs ≡ true → blocksOf rs l ≡ bs → length bs ≤ k
+    → Shows (dropUpTo k (64 + l) l t) (stepsOff (length bs) l rs)
+unfolding stepsOff
+shows-upTo l g [] k t rs s h e u = rw (upTo-stop (64 + l) l t k (next-none t rs s l g h e)) s
+shows-upTo l g (b ∷ bs) zero t rs s h e u = absurd (omega arith)
+shows-upTo l g (b ∷ bs) (suc k) t rs s h e u =
+    rw (upTo-more (64 + l) l t k (next-some t rs s l g h b bs e))
+    (subst (λ (z : List (Row ℕ)). Shows (dropUpTo k (64 + l) l (dropFirst (64 + l) t)) z) (steps-first (length bs) l rs)
+    (shows-upTo l g bs k (dropFirst (64 + l) t) (firstOff l rs) (shows-first t rs s l g h b bs e) (steps-kept 1 l rs ∙ h) (steps-blocks 1 l rs ∙ ap (drop 1) e) (omega arith)))
+
+shows-delList : (t : Tables) (rs : List (Row ℕ)) → Shows t rs → (l : ℕ) → IsList l → taken l rs ≡ true → Shows (cutList (64 + l) t) (keep (otherRow l) rs)
+unfolding cutList dropAll
+shows-delList t rs s l g h =
+    let n = length (blocksOf rs l) in
+    let u = shows-upTo l g (blocksOf rs l) (times l (t .owner)) t rs s h refl (blocks-few t rs s l g h) in
+    let e = shows-empty (dropUpTo (times l (t .owner)) (64 + l) l t) (stepsOff n l rs) u l g (steps-kept n l rs ∙ h) (steps-taken l rs .0) in
+    rw (taken-owner (t .owner) (t .location) l rs (s .has) h) (subst (λ (z : List (Row ℕ)). Shows (cutNode (64 + l) (dropUpTo (times l (t .owner)) (64 + l) l t)) z) (steps-others n l rs) e)
+
+module _ (t : Tables) (rs : List (Row ℕ)) (s : Shows t rs) where
   shows-done : (c : Change ℕ) → Ranged c → applies c rs ≡ true → Shows (done c t) (changed c rs)
   unfolding applies changed done putDone
-  shows-done (takeList l) g h = rw (node-of l (g .1)) (shows-take l g (not-false (taken l rs) h))
+  shows-done (takeList l) g h = rw (node-of l (g .1)) (shows-take t rs s l g (not-false (taken l rs) h))
   shows-done (putFirst b l) g h =
       let (p, q) = and-true (taken l rs) (not (placed b rs)) h in
       rw (node-of l (g .1 .1))
-      (shows-put b l (64 + l) 0 (λ bs. block b none ∷ bs) (g .0) (not-false (placed b rs) q) (first-grown l (block b none) rs p apart-nodes) (λ o v k xs w. (k, w)))
+      (shows-put t rs s b l (64 + l) 0 (λ bs. block b none ∷ bs) (g .0) (not-false (placed b rs) q) (first-grown l (block b none) rs p (apart-nodes t rs s)) (λ o v k xs w. (k, w)))
   shows-done (putAfter b l p) g h =
       let (u, v) = and-true (taken l rs && not (placed b rs)) (onList l p rs) h in
       let (x, y) = and-true (taken l rs) (not (placed b rs)) u in
-      shows-put b l p 0 (insertAfter p (block b none)) (g .0) (not-false (placed b rs) y) (after-grown l p (block b none) rs v apart-nodes)
+      shows-put t rs s b l p 0 (insertAfter p (block b none)) (g .0) (not-false (placed b rs) y) (after-grown l p (block b none) rs v (apart-nodes t rs s))
       (λ o q k xs w. blocks-after o q l p (block b none) k xs w)
-  shows-done (write b d) g h = shows-write b d (g .0) (g .1)
-  shows-done (delBlock b) g h = shows-delBlock b g h
-  shows-done (delList l) g h = rw (node-of l (g .1)) (shows-delList l g h)
+  shows-done (write b d) g h = shows-write t rs s b d (g .0) (g .1)
+  shows-done (delBlock b) g h = shows-delBlock t rs s b h
+  shows-done (delList l) g h = rw (node-of l (g .1)) (shows-delList t rs s l g h)
 
   fits-applies : (c : Change ℕ) → Ranged c → suits c t ≡ applies c rs
   unfolding suits applies putFits

@@ -12,7 +12,7 @@ use Rattle.lists.specs.Lookup.{blocksOf, nextIn, nextAfter, listNums, ta
 use Rattle.lists.specs.promises.Tables.{Tables, Away, Apart, HasBlocks, HasLists, Shows, blockNodes, nodes, times}
 use Rattle.lists.proofs.Basic.{either, eqb-same, eqb-false}
 use Rattle.lists.proofs.Chain.{away-right, apart-left, apart-right}
-use Rattle.lists.proofs.Freeing.{AllOf, all-times}
+use Rattle.lists.proofs.Dropping.{AllOf, all-times}
 
 -- Numbers by their places in a list, where 0 stands for none.
 pub away-at : (x : ℕ) (xs : List ℕ) (i : ℕ) → Away x xs → i < length xs → x ≢ getD xs i 0

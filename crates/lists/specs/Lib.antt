@@ -1,5 +1,6 @@
 pub mod Basic
 pub mod Change
+pub mod Clearing
 pub mod Lookup
 pub mod State
 pub mod Takings

@@ -12,7 +12,7 @@ ghost use mathlib.Core.Path.{_≡_};
 ghost use Prim.Native.Nat.{_+_, _*_, _≤_};
 ghost use lib.ListN.{length};
 ghost use Rattle.lists.specs.Change.{takeList, putAfter, write, delBlock, delList};
-ghost use Rattle.lists.specs.promises.Tables.{tablesIn, nextOf, prevOf, ownerOf, listNode, withNext, withPrev, withOwner, withLocation, linkNodes, insertNode, Frees, blockOr0, listWithin, cleared, Did, DidSome, ofKind, SaysTaken, SaysPlaced, SaysOn, SaysLocation, SaysBlockAfter, SaysListAfter};
+ghost use Rattle.lists.specs.promises.Tables.{tablesIn, nextOf, prevOf, ownerOf, listNode, withNext, withPrev, withOwner, withLocation, linkNodes, insertNode, cutNode, IsFirst, Drops, Clears, blockOr0, listWithin, cleared, Did, DidSome, ofKind, SaysTaken, SaysPlaced, SaysOn, SaysLocation, SaysBlockAfter, SaysListAfter};
 
 const START: u8 = 0;
 
@@ -165,35 +165,52 @@ fn write_block(nodes: &mut [u8; 1280], block: u8, location: u16) -> bool
     true
 }
 
+// Node n goes: the one before it leads to the one behind it.
+fn cut(nodes: &mut [u8; 1280], n: u8)
+    ensures { λ r. ⌜ tablesIn (now (nodes .exit)) ≡ cutNode n (tablesIn (now (nodes .entry))) ⌝ }
+{
+    let x = prev_of(nodes, n);
+    let y = next_of(nodes, n);
+    link(nodes, x, y);
+    set_owner(nodes, n, 0);
+}
+
 fn delete_block(nodes: &mut [u8; 1280], block: u8) -> bool
     ensures { λ r. ⌜ Did (delBlock block) (tablesIn (now (nodes .entry))) r (tablesIn (now (nodes .exit))) ⌝ }
 {
     if owner_of(nodes, block) == 0 {
         return false;
     }
-    let x = prev_of(nodes, block);
-    let y = next_of(nodes, block);
-    link(nodes, x, y);
-    set_owner(nodes, block, 0);
+    cut(nodes, block);
     true
 }
 
-// From a node on the nodes of a list are freed, one by one. The node behind them is returned.
-fn free_nodes(nodes: &mut [u8; 1280], list: u8, from: u8) -> u8
-    requires { ⌜ 1 ≤ list ⌝ }
-    ensures { λ r. ⌜ Frees list from (tablesIn (now (nodes .entry))) r (tablesIn (now (nodes .exit))) ⌝ }
+// One step of a list deletion: the list's first block goes. The node before it is the list's own, n, so none is searched for. The node that follows n
+// then is returned.
+fn drop_first(nodes: &mut [u8; 1280], n: u8, first: u8) -> u8
+    requires { ⌜ IsFirst n first (tablesIn (now nodes)) ⌝ }
+    ensures { λ r. ⌜ Drops n (tablesIn (now (nodes .entry))) r (tablesIn (now (nodes .exit))) ⌝ }
 {
-    let mut n = from;
-    let mut of = owner_of(nodes, n);
-    while of == list {
-        set_owner(nodes, n, 0);
-        n = next_of(nodes, n);
-        of = owner_of(nodes, n);
-    }
-    n
+    let second = next_of(nodes, first);
+    link(nodes, n, second);
+    set_owner(nodes, first, 0);
+    second
 }
 
-// What is freed goes by the owner of the list's node, which is not 0, so that freeing ends whatever the number is.
+// The blocks of the list whose node is n go, a step for each.
+fn drop_all(nodes: &mut [u8; 1280], n: u8, list: u8)
+    requires { ⌜ (1 ≤ list) × (ownerOf (tablesIn (now nodes)) n ≡ list) ⌝ }
+    ensures { λ r. ⌜ Clears n list (tablesIn (now (nodes .entry))) (tablesIn (now (nodes .exit))) ⌝ }
+{
+    let mut first = next_of(nodes, n);
+    let mut of = owner_of(nodes, first);
+    while of == list {
+        first = drop_first(nodes, n, first);
+        of = owner_of(nodes, first);
+    }
+}
+
+// The list's blocks go by the owner of its node, which is not 0, so that there is an end of them whatever the number is. Then its node goes.
 fn delete_list(nodes: &mut [u8; 1280], list: u8) -> bool
     ensures { λ r. ⌜ Did (delList list) (tablesIn (now (nodes .entry))) r (tablesIn (now (nodes .exit))) ⌝ }
 {
@@ -202,9 +219,8 @@ fn delete_list(nodes: &mut [u8; 1280], list: u8) -> bool
     if l == 0 {
         return false;
     }
-    let x = prev_of(nodes, n);
-    let y = free_nodes(nodes, l, n);
-    link(nodes, x, y);
+    drop_all(nodes, n, l);
+    cut(nodes, n);
     true
 }
 

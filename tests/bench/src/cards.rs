@@ -1,6 +1,6 @@
 //! Cards with full segments.
 
-use second::limits::{BLOCK_BYTES, ENTRY_BYTES, SEGMENTS, SEGMENT_BYTES, SLOTS};
+use second::limits::{BLOCKS, BLOCK_BYTES, ENTRY_BYTES, SEGMENTS, SEGMENT_BYTES, SLOTS};
 use second::log::{count_at, entries_at, slot_at};
 
 /// What the segments of a card are full of.
@@ -9,24 +9,41 @@ pub enum Kind {
     Lists,
     Blocks,
     Chains,
+    Long,
     Writes,
     Units,
 }
 
 impl Kind {
-    pub const ALL: [Kind; 5] = [Kind::Lists, Kind::Blocks, Kind::Chains, Kind::Writes, Kind::Units];
+    pub const ALL: [Kind; 6] = [
+        Kind::Lists,
+        Kind::Blocks,
+        Kind::Chains,
+        Kind::Long,
+        Kind::Writes,
+        Kind::Units,
+    ];
 
     pub fn name(self) -> &'static str {
         match self {
             Kind::Lists => "lists",
             Kind::Blocks => "blocks",
             Kind::Chains => "chains",
+            Kind::Long => "long",
             Kind::Writes => "writes",
             Kind::Units => "units",
         }
     }
 
-    /// Entries that leave the state as they found it: list 1 with block 1. The slot of a write is filled in later.
+    /// The state that every round finds: list 1 with block 1, or nothing where a round puts all blocks.
+    fn opening(self) -> Vec<Vec<u8>> {
+        match self {
+            Kind::Long => vec![],
+            _ => vec![vec![TAKE, 1], vec![PUT_FIRST, 1, 1]],
+        }
+    }
+
+    /// Entries that leave the state as they found it. The slot of a write is filled in later.
     fn round(self, number: usize) -> Vec<Vec<u8>> {
         let list = 2 + (number % 15) as u8;
         let block = 2 + (number % 60) as u8;
@@ -40,6 +57,7 @@ impl Kind {
                 vec![PUT_AFTER, block + 2, list, block],
                 vec![DELETE_LIST, list],
             ],
+            Kind::Long => [long_list(list), vec![vec![DELETE_LIST, list]]].concat(),
             Kind::Writes => vec![vec![WRITE, 1, 0]],
             Kind::Units => vec![
                 vec![MEMBER | PUT_FIRST, block, 1],
@@ -70,9 +88,20 @@ pub struct Card {
 
 /// A card whose segments are all full: of entry bytes, or of slots if it is one of writes.
 pub fn full(kind: Kind, segments: usize) -> Card {
-    let opening = vec![vec![TAKE, 1], vec![PUT_FIRST, 1, 1]];
     let rounds = (0..).flat_map(|number| kind.round(number));
-    filled(opening.into_iter().chain(rounds), segments)
+    filled(kind.opening().into_iter().chain(rounds), segments)
+}
+
+/// A list with all blocks.
+fn long_list(list: u8) -> Vec<Vec<u8>> {
+    let puts = (1..=BLOCKS).map(|block| vec![PUT_FIRST, block, list]);
+    std::iter::once(vec![TAKE, list]).chain(puts).collect()
+}
+
+/// A card of one segment with a list of all blocks; deleted in the last entry, or there still.
+pub fn long(is_deleted: bool) -> Card {
+    let deletion = is_deleted.then(|| vec![DELETE_LIST, 1]);
+    filled(long_list(1).into_iter().chain(deletion), 1)
 }
 
 /// A card for the calls, with list 1 and block 1, which is written: all else is empty, or full of units but for the

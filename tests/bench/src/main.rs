@@ -2,13 +2,15 @@
 //! plain sum of the bytes that both read. Times the calls, proved and of the second implementation.
 //!
 //! `bench` prints the times. `bench --once WAY KIND SEGMENTS` goes one way once, for a tool that counts its
-//! instructions, and prints the number of entries. `bench --calls WAY CALL CARD TIMES` repeats a call.
+//! instructions, and prints the number of entries; `bench --long WAY kept|deleted` goes over a card with a list of all
+//! blocks, which its last entry deletes or not. `bench --calls WAY CALL CARD TIMES` repeats a call.
 
 mod calls;
 mod cards;
 
 use calls::{card_name, proved, second_calls, Call, Disk};
-use cards::{full, Card, Kind};
+use cards::{full, long, Card, Kind};
+use second::limits::BLOCKS;
 use second::log::{count_at, segments, Log};
 use std::hint::black_box;
 use std::time::Instant;
@@ -145,8 +147,44 @@ fn times() {
     }
 }
 
+/// The time of a list's deletion: a walk that meets it less one that ends before it.
+fn deletion_times() {
+    let cards = [long(false), long(true)];
+    let mut best = [[f64::INFINITY; 2]; 2];
+    for _ in 0..ROUNDS * BATCHES {
+        for (way, best) in [Way::Proved, Way::Second].into_iter().zip(&mut best) {
+            for (card, best) in cards.iter().zip(best) {
+                *best = best.min(way.batch(card, BATCH) * card.entries as f64);
+            }
+        }
+    }
+    let [proved, second] = best.map(|[kept, deleted]| deleted - kept);
+    let blocks = f64::from(BLOCKS);
+    println!("| deleted | proved, ns | a block | second, ns | a block |");
+    println!("|---|---|---|---|---|");
+    println!(
+        "| a list of {BLOCKS} blocks | {proved:.0} | {:.2} | {second:.0} | {:.2} |",
+        proved / blocks,
+        second / blocks
+    );
+}
+
+fn way_named(name: &str) -> Option<Way> {
+    Way::ALL.into_iter().find(|known| known.name() == name)
+}
+
+fn once_long(way: &str, end: &str) -> Option<()> {
+    let card = match end {
+        "kept" => long(false),
+        "deleted" => long(true),
+        _ => return None,
+    };
+    black_box(way_named(way)?.go(black_box(&card)));
+    Some(())
+}
+
 fn once(way: &str, kind: &str, size: &str) -> Option<()> {
-    let way = Way::ALL.into_iter().find(|known| known.name() == way)?;
+    let way = way_named(way)?;
     let kind = Kind::ALL.into_iter().find(|known| known.name() == kind)?;
     let card = full(kind, size.parse().ok()?);
     black_box(way.go(black_box(&card)));
@@ -174,13 +212,17 @@ fn main() {
         [] => {
             times();
             println!();
+            deletion_times();
+            println!();
             calls::times();
         }
         ["--once", way, kind, size] if once(way, kind, size).is_some() => (),
+        ["--long", way, end] if once_long(way, end).is_some() => (),
         ["--calls", way, call, card, times] if repeat(way, call, card, times).is_some() => (),
         _ => {
             eprintln!("bench [--calls proved|second CALL CARD TIMES]");
-            eprintln!("bench [--once proved|second|sum lists|blocks|chains|writes|units SEGMENTS]");
+            eprintln!("bench [--long proved|second kept|deleted]");
+            eprintln!("bench [--once proved|second|sum lists|blocks|chains|long|writes|units SEGMENTS]");
             std::process::exit(2);
         }
     }

@@ -14,6 +14,8 @@ use lib.ListN.{length, getD, set, replicate}
 use Rattle.lists.specs.Basic.{from}
 use Rattle.lists.specs.Change.{Change, takeList, putFirst, putAfter, write, delBlock, delList}
 use Rattle.lists.specs.State.{Block, Row, State}
+use Rattle.lists.specs.Lookup.{blocksOf}
+use Rattle.lists.specs.Clearing.{firstOff, stepsOff}
 
 -- The next node and the one before; the list that a block is on, or that a list's node stands for, 0 for a node that is free; the location of a
 -- block's content, 0 where it was not written.
@@ -75,36 +77,35 @@ linkNodes x y t = withPrev y x (withNext x y t)
 unfoldable pub insertNode : ℕ → ℕ → ℕ → Tables → Tables
 insertNode x n l t = withOwner n l (linkNodes n (nextOf t x) (linkNodes x n t))
 
--- the nodes between x and y go, o being the owners then
+-- what stands between nodes x and y goes, o being the owners then
 unfoldable pub cutNodes : ℕ → ℕ → List ℕ → Tables → Tables
 cutNodes x y o t = tables (set (t .next) x y) (set (t .prev) y x) o (t .location)
+
+-- node n goes
+unfoldable pub cutNode : ℕ → Tables → Tables
+cutNode n t = cutNodes (prevOf t n) (nextOf t n) (set (t .owner) n 0) t
 
 -- how often l stands in a list
 unfoldable pub times : ℕ → List ℕ → ℕ
 times l [] = 0
 times l (x ∷ xs) = cond (eqb x l) (suc (times l xs)) (times l xs)
 
--- from node n on, the nodes of list l are freed, at most k of them: the node behind them, and the owners then
-pub record Freed : Type 0 where
-  pub behind : ℕ
-  pub owners : List ℕ
+-- The first block of the list whose node is n goes: "search for no predecessor", which is n.
+unfoldable pub dropFirst : ℕ → Tables → Tables
+dropFirst n t = let b = nextOf t n in cutNodes n (nextOf t b) (set (t .owner) b 0) t
 
-unfoldable pub freeUpTo : ℕ → List ℕ → ℕ → ℕ → List ℕ → Freed
-freeUpTo zero nx l n o = record { behind = n; owners = o }
-freeUpTo (suc k) nx l n o = elim (eqb (getD o n 0) l) [ true ↦ freeUpTo k nx l (getD nx n 0) (set o n 0) | false ↦ record { behind = n; owners = o } ]
+-- while a block of list l, whose node is n, follows n, it goes: at most k of them
+unfoldable pub dropUpTo : ℕ → ℕ → ℕ → Tables → Tables
+dropUpTo zero n l t = t
+dropUpTo (suc k) n l t = elim (eqb (ownerOf t (nextOf t n)) l) [ true ↦ dropUpTo k n l (dropFirst n t) | false ↦ t ]
 
--- as many as there are of list l
-unfoldable pub freeNodes : List ℕ → ℕ → ℕ → List ℕ → Freed
-freeNodes nx l n o = freeUpTo (times l o) nx l n o
+-- as many as there are nodes of list l, which is more than it has blocks
+unfoldable pub dropAll : ℕ → ℕ → Tables → Tables
+dropAll n l t = dropUpTo (times l (t .owner)) n l t
 
--- a function that frees them: the node behind them is its answer, and no other table changes
-pub record Frees (l n : ℕ) (t : Tables) (r : ℕ) (u : Tables) : Type 0 where
-  pub answer : r ≡ freeNodes (t .next) l n (t .owner) .behind
-  pub left : u ≡ tables (t .next) (t .prev) (freeNodes (t .next) l n (t .owner) .owners) (t .location)
-
--- the tables without the list whose node is n
+-- the tables without the list whose node is n: its blocks go from the first on, then its node
 unfoldable pub cutList : ℕ → Tables → Tables
-cutList n t = let f = freeNodes (t .next) (ownerOf t n) n (t .owner) in cutNodes (prevOf t n) (f .behind) (f .owners) t
+cutList n t = cutNode n (dropAll n (ownerOf t n) t)
 
 -- is block b free, and x a node of list l?
 unfoldable pub putFits : ℕ → ℕ → ℕ → Tables → Bool
@@ -128,7 +129,7 @@ done (takeList l) t = insertNode (prevOf t 255) (listNode l) l t
 done (putFirst b l) t = putDone b l (listNode l) t
 done (putAfter b l p) t = putDone b l p t
 done (write b d) t = withLocation b d t
-done (delBlock b) t = cutNodes (prevOf t b) (nextOf t b) (set (t .owner) b 0) t
+done (delBlock b) t = cutNode b t
 done (delList l) t = cutList (listNode l) t
 
 -- What a function answers and leaves that is to make a change: whether it applies, and the tables after it, or as they were if it does not.
@@ -220,6 +221,30 @@ pub record Shows (t : Tables) (rs : List (Row ℕ)) : Type 0 where
   pub has : HasLists (t .owner) (t .location) rs
   pub free : (n : ℕ) → Away n (nodes rs) → ownerOf t n ≡ 0
 
+-- what holds of all lists that tables show
+abbrev pub OfShown : Tables → (List (Row ℕ) → Type 0) → Type 0
+OfShown t P = (rs : List (Row ℕ)) → Shows t rs → P rs
+
+-- A step of a list deletion.
+
+-- b is the first block of the list whose node is n, and that list is taken
+pub record IsFirst (n b : ℕ) (t : Tables) : Type 0 where
+  pub follows : nextOf t n ≡ b
+  pub taken : 1 ≤ ownerOf t n
+  pub same : ownerOf t b ≡ ownerOf t n
+
+-- A function that makes the step: its answer is the node that follows the list's then, and if the tables showed lists, they show them after the step.
+pub record Drops (n : ℕ) (t : Tables) (r : ℕ) (u : Tables) : Type 0 where
+  pub answer : r ≡ nextOf u n
+  pub left : u ≡ dropFirst n t
+  pub shows : (l : ℕ) → IsList l → n ≡ listNode l → OfShown t (λ rs. Shows u (firstOff l rs))
+
+-- A function that makes all steps of list l, whose node is n: as many as the list has blocks, and the tables show the lists after them.
+pub record Clears (n l : ℕ) (t u : Tables) : Type 0 where
+  pub left : u ≡ dropAll n l t
+  pub steps : ℕ
+  pub shows : IsList l → n ≡ listNode l → OfShown t (λ rs. (steps ≡ length (blocksOf rs l)) × Shows u (stepsOff steps l rs))
+
 -- numbers in range, and a write that says where: only of such changes the tables speak as the state does
 abbrev pub Ranged : Change ℕ → Type 0
 Ranged (takeList l) = IsList l
@@ -276,7 +301,3 @@ pub record SaysBlockAfter (t : Tables) (l p r : ℕ) : Type 0 where
 
 pub record SaysListAfter (t : Tables) (l r : ℕ) : Type 0 where
   pub answer : r ≡ listWithin 256 (t .next) (behindList l)
-
--- what holds of all lists that tables show
-abbrev pub OfShown : Tables → (List (Row ℕ) → Type 0) → Type 0
-OfShown t P = (rs : List (Row ℕ)) → Shows t rs → P rs

@@ -1,5 +1,5 @@
--- The list's nodes are freed, and the node before them leads to the one behind. Assumes nothing.
-use Rattle.lists.specs.promises.Tables.{suits, done, cutNodes, cutList}
+-- The list's blocks go by the steps of `drop_all`, then its node. Assumes nothing.
+use Rattle.lists.specs.promises.Tables.{suits, done, cutList}
 use Rattle.lists.proofs.Basic.{eqb-false, eq-true}
 use Rattle.lists.proofs.Acting.{did-not, did-so}
 use borrow.Author.Needs.{needs}
@@ -16,23 +16,20 @@ returns : tie.Need-returns
 unfolding suits
 returns c = did-not _ _ (rw (eq-true _ _ (rw (c .before .owner-of .ensures, c .before .before .before .list-node .ensures) at (c .if1 .taken))))
 
-prev-of-requires : tie.Need-prev-of-requires
-prev-of-requires c κs = search needs
+drop-all-requires : tie.Need-drop-all-requires
+drop-all-requires c κs = search needs
 
-free-nodes-requires : tie.Need-free-nodes-requires
-free-nodes-requires c κs = search needs
-
-link-requires : tie.Need-link-requires
-link-requires c κs = search needs
+cut-requires : tie.Need-cut-requires
+cut-requires c κs = search needs
 
 returns-2 : tie.Need-returns-2
-unfolding suits done cutNodes cutList
+unfolding suits done cutList
 returns-2 c =
-    let n = c .before .before .before .before .before .before .before .before .before .list-node .ensures in
-    let o = c .before .before .before .before .before .before .before .owner-of .ensures in
+    let n = c .before .before .before .before .before .before .before .list-node .ensures in
+    let o = c .before .before .before .before .before .owner-of .ensures in
     did-so _ _ _
-    (rw (eqb-false _ _ (rw (o, n) at (c .before .before .before .before .before .before .if1 .left))))
-    (rw (c .link .ensures, c .before .before .free-nodes .ensures .left, c .before .before .free-nodes .ensures .answer, c .before .before .before .before .prev-of .ensures, o, n))
+    (rw (eqb-false _ _ (rw (o, n) at (c .before .before .before .before .if1 .left))))
+    (rw (c .cut .ensures, c .before .before .drop-all .ensures .left, o, n))
 
 pub delete-list-spec : {M : Type 1} → statement M
 delete-list-spec =
@@ -41,7 +38,6 @@ delete-list-spec =
     list-node-requires
     owner-of-requires
     returns
-    prev-of-requires
-    free-nodes-requires
-    link-requires
+    drop-all-requires
+    cut-requires
     returns-2)
