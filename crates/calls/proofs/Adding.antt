@@ -36,16 +36,16 @@ unfolding firstNo ask
 rooms-yes d s h = rw (h .0, h .1)
 
 module _ (d : Disk) (r : Record) (s : ℕ) (e : d .rec ≡ r) where
-  pub queue-full : s ≡ 0 → 32 ≤ r .len → firstNo (rooms d s) ≡ 13
+  pub queue-full : s ≡ 0 → 32 ≤ r .ring .len → firstNo (rooms d s) ≡ 13
   unfolding journalRoom streamRoom queueRoom
   queue-full z l =
       rw z
       (ask-yes 11 true _ refl
-      ∙ ask-no 13 (leb (d .rec .len + 1) 32) [] (gt-false (d .rec .len + 1) 32 (let n : d .rec .len ≡ r .len = ap (λ (x : Record). x .len) e in omega arith)))
+      ∙ ask-no 13 (leb (d .rec .ring .len + 1) 32) [] (gt-false (d .rec .ring .len + 1) 32 (let n : d .rec .ring .len ≡ r .ring .len = ap (λ (x : Record). x .ring .len) e in omega arith)))
 
-  pub queue-takes : s ≡ 0 → r .len < 32 → (journalRoom d s ≡ true) × (streamRoom d s ≡ true)
+  pub queue-takes : s ≡ 0 → r .ring .len < 32 → (journalRoom d s ≡ true) × (streamRoom d s ≡ true)
   unfolding journalRoom streamRoom queueRoom
-  queue-takes z l = rw z (refl, le-true (d .rec .len + 1) 32 (let n : d .rec .len ≡ r .len = ap (λ (x : Record). x .len) e in omega arith))
+  queue-takes z l = rw z (refl, le-true (d .rec .ring .len + 1) 32 (let n : d .rec .ring .len ≡ r .ring .len = ap (λ (x : Record). x .ring .len) e in omega arith))
 
   pub journal-full : s ≢ 0 → 15 ≤ unitAt r s .len → firstNo (rooms d s) ≡ 11
   unfolding journalRoom unitOf

@@ -35,7 +35,7 @@ checked-yes : {d : Disk} (qs : List (ℕ × Bool)) → Checked d → firstNo (ch
 checked-yes {d} qs s = sound-yes d qs (s .lengths) (s .sound)
 
 -- The conflict count.
-pub conflicts-given : (d : Disk) → Checked d → Performs conflictCount d d (acceptedAnswer (d .rec .conflicts) 0) []
+pub conflicts-given : (d : Disk) → Checked d → Performs conflictCount d d (acceptedAnswer (d .rec .tally .conflicts) 0) []
 unfolding refusal questions accepted firstNo
 conflicts-given d s = performs-accepted conflictCount d _ (checked-yes [] s) refl
 

@@ -48,7 +48,7 @@ dataAt q i = take (256 * i + 256 - 256 * i) (drop (256 * i) q)
 
 -- the queue's entry i, as the code meets it
 abbrev pub entryHere : List ℕ → Record → ℕ → Entry Content
-entryHere q r i = let x = getD (r .queue) (ringPlace r i) noCell in going (dataAt q (ringPlace r i)) (memberIn x) (entryIn x)
+entryHere q r i = let x = getD (r .ring .queue) (ringPlace r i) noCell in going (dataAt q (ringPlace r i)) (memberIn x) (entryIn x)
 
 -- it is a place's data, and its stores are few
 pub data-size : (q : List ℕ) (i : ℕ) → length q ≡ 8192 → i < 32 → length (dataAt q i) ≡ 256
@@ -58,8 +58,8 @@ pub few-here : (q : List ℕ) (r : Record) (i : ℕ) (p : Place) → length q �
 few-here q r i p h = few-stores (dataAt q (ringPlace r i)) (data-size q (ringPlace r i) h (omega arith)) _ _ p
 
 -- the same by its parts
-pub entry-met : (q : List ℕ) (r : Record) (first i : ℕ) (m : Bool) (e : LogEntry) → first ≡ r .head
-    → (let x = getD (r .queue) ((first + i) % 32) noCell in m ≡ memberIn x → e ≡ entryIn x → going (dataAt q ((first + i) % 32)) m e ≡ entryHere q r i)
+pub entry-met : (q : List ℕ) (r : Record) (first i : ℕ) (m : Bool) (e : LogEntry) → first ≡ r .ring .head
+    → (let x = getD (r .ring .queue) ((first + i) % 32) noCell in m ≡ memberIn x → e ≡ entryIn x → going (dataAt q ((first + i) % 32)) m e ≡ entryHere q r i)
 entry-met q r first i m e f a b = rw (a, b, f)
 
 pub heads-met : (c : List ℕ) (p : Place) (x y : Entry Content) (k a : ℕ) (h : Headed) (c′ : List ℕ) → x ≡ y → Heads c p x k a h c′ → Heads c p y k a h c′
@@ -68,51 +68,51 @@ heads-met c p x y k a h c′ e = subst (λ (z : Entry Content). Heads c p z k a 
 module _ (c q : List ℕ) (r : Record) where
   -- the queue when i entries have left it
   unfoldable pub rest : ℕ → List (Entry Content)
-  rest i = from (queuedAt (disk c q [] r)) i (r .len - i)
+  rest i = from (queuedAt (disk c q [] r)) i (r .ring .len - i)
 
   entry-here : (i : ℕ) → queuedAt (disk c q [] r) i ≡ entryHere q r i
   unfolding queuedAt slot
   entry-here i = let e : 256 * ringPlace r i + 256 - 256 * ringPlace r i ≡ 256 = omega arith in rw e
 
-  rest-step : (i : ℕ) → i < r .len → rest i ≡ entryHere q r i ∷ rest (i + 1)
+  rest-step : (i : ℕ) → i < r .ring .len → rest i ≡ entryHere q r i ∷ rest (i + 1)
   unfolding rest
-  rest-step i l = from-step (queuedAt (disk c q [] r)) i (r .len) l ∙ rw (entry-here i)
+  rest-step i l = from-step (queuedAt (disk c q [] r)) i (r .ring .len) l ∙ rw (entry-here i)
 
-  rest-none : r .len ≤ 0 → rest 0 ≡ []
+  rest-none : r .ring .len ≤ 0 → rest 0 ≡ []
   unfolding rest
-  rest-none l = from-none (queuedAt (disk c q [] r)) 0 (r .len) l
+  rest-none l = from-none (queuedAt (disk c q [] r)) 0 (r .ring .len) l
 
-  rest-length : (i : ℕ) → length (rest i) ≡ r .len - i
+  rest-length : (i : ℕ) → length (rest i) ≡ r .ring .len - i
   unfolding rest
-  rest-length i = from-length (queuedAt (disk c q [] r)) i (r .len - i)
+  rest-length i = from-length (queuedAt (disk c q [] r)) i (r .ring .len - i)
 
   queue-whole : (j : List ℕ) → queued (disk c q j r) ≡ rest 0
   unfolding queued rest
   queue-whole j =
-      let e : r .len ≡ r .len - 0 = omega arith in
+      let e : r .ring .len ≡ r .ring .len - 0 = omega arith in
       queued-same (disk c q [] r) (disk c q j r) refl refl refl refl ∙ ap (from (queuedAt (disk c q [] r)) 0) e
 
   module _ (a : ℕ) (p : Place) where
     -- the flush whole
     unfoldable pub whole : Flushed
-    whole = flushFrom (segmentsIn c) a 0 (flow c p (rest 0) (r .done))
+    whole = flushFrom (segmentsIn c) a 0 (flow c p (rest 0) (r .ring .done))
 
     -- `gone` entries have left the queue, `left` of the allowance is not used, and k stores of the next entry are done; the card carries the
     -- segments `segs`, behind which the log goes on
     pub record Going (c′ : List ℕ) (p′ : Place) (k left gone : ℕ) : Type 0 where
-      pub among : gone ≤ r .len
+      pub among : gone ≤ r .ring .len
       pub few : left ≤ a
       pub size : length c′ ≡ length c
       pub within : Within p′
       pub inside : p′ .segment < segmentsIn c
-      pub begun : gone < r .len → k < length (entryStores p′ (entryHere q r gone))
+      pub begun : gone < r .ring .len → k < length (entryStores p′ (entryHere q r gone))
       pub small : k < 65536
       pub segs : List (List (Entry Content))
       pub flows : Flows c′ segs (rest gone) k
       pub place : p′ ≡ endOf segs
       pub onward : flushFrom (segmentsIn c) left (a - left) (flow c′ p′ (rest gone) k) ≡ whole
 
-    pub going-start : Flushable c q r p → Going c p (r .done) a 0
+    pub going-start : Flushable c q r p → Going c p (r .ring .done) a 0
     unfolding whole flowOf
     going-start f =
         let i : a - a ≡ 0 = omega arith in
@@ -125,14 +125,14 @@ module _ (c q : List ℕ) (r : Record) where
           within = f .within;
           inside = f .inside;
           begun = λ l. rw (entry-here 0) at (f .begun l);
-          small = go (decLt 0 (r .len));
+          small = go (decLt 0 (r .ring .len));
           segs = o .segs;
-          flows = subst (λ (es : List (Entry Content)). Flows c (o .segs) es (r .done)) (queue-whole (f .journalData)) (o .flows);
+          flows = subst (λ (es : List (Entry Content)). Flows c (o .segs) es (r .ring .done)) (queue-whole (f .journalData)) (o .flows);
           place = f .place ∙ tail-end c (o .segs) (o .flows .carries);
           onward = rw i;
         }
       where
-        go : Dec (0 < r .len) → r .done < 65536
+        go : Dec (0 < r .ring .len) → r .ring .done < 65536
         go (yes l) = omega (arith, rw (entry-here 0) at (f .begun l), few-here q r 0 p (f .queueData))
         go (no n) =
             let d = disk c q (f .journalData) r in
@@ -143,7 +143,7 @@ module _ (c q : List ℕ) (r : Record) where
       pub segments-same : segmentsIn c′ ≡ segmentsIn c
       segments-same = ap (λ (n : ℕ). n / 4096) (g .size)
 
-      module _ (l : gone < r .len) where
+      module _ (l : gone < r .ring .len) where
         flows-here : Flows c′ (g .segs) (entryHere q r gone ∷ rest (gone + 1)) k
         flows-here = subst (λ (es : List (Entry Content)). Flows c′ (g .segs) es k) (rest-step gone l) (g .flows)
 
@@ -176,24 +176,24 @@ module _ (c q : List ℕ) (r : Record) where
     -- The endings: the flush whole, and what the definition makes of the disk by it.
     flushed-whole : (j : List ℕ) → p ≡ tail c → flushed a (disk c q j r) ≡ whole
     unfolding flushed flowOf whole
-    flushed-whole j t = let e = queue-whole j in (λ i. flushFrom (segmentsIn c) a 0 (flow c (sym t i) (e i) (r .done)))
+    flushed-whole j t = let e = queue-whole j in (λ i. flushFrom (segmentsIn c) a 0 (flow c (sym t i) (e i) (r .ring .done)))
 
-    ends : (j c′ : List ℕ) (p′ : Place) (i k s : ℕ) (x : Ending) → p ≡ tail c → i ≤ r .len → whole ≡ record { flow = flow c′ p′ (rest i) k; stores = s; ending = x }
+    ends : (j c′ : List ℕ) (p′ : Place) (i k s : ℕ) (x : Ending) → p ≡ tail c → i ≤ r .ring .len → whole ≡ record { flow = flow c′ p′ (rest i) k; stores = s; ending = x }
         → accepted (flush a) (disk c q j r)
-        ≡ record { disk = disk c′ q j (withFlow r ((r .head + i) % 32) (r .len - i) k); answer = record { code = 0; value = s; second = endingNumber x }; lent = [] }
+        ≡ record { disk = disk c′ q j (withFlow r ((r .ring .head + i) % 32) (r .ring .len - i) k); answer = record { code = 0; value = s; second = endingNumber x }; lent = [] }
     unfolding accepted afterFlush
     ends j c′ p′ i k s x t l h =
-        let u : r .len - (r .len - i) ≡ i = omega arith in
+        let u : r .ring .len - (r .ring .len - i) ≡ i = omega arith in
         rw (flushed-whole j t ∙ h, rest-length i) (rw u)
 
     module _ (f : Flushable c q r p) (c′ : List ℕ) (p′ : Place) (k left gone : ℕ) (g : Going c′ p′ k left gone) where
-      pub flushes-drained : r .len ≤ gone → Flushes a c q r c′ (withFlow r ((r .head + gone) % 32) (r .len - gone) k) (reply.the-variants.Drained (a - left))
+      pub flushes-drained : r .ring .len ≤ gone → Flushes a c q r c′ (withFlow r ((r .ring .head + gone) % 32) (r .ring .len - gone) k) (reply.the-variants.Drained (a - left))
       unfolding flushAnswer rest nextStore
       flushes-drained l j =
           ends j c′ p′ gone k (a - left) drained (f .place) (g .among)
-          (sym (g .onward) ∙ stopped-flush (segmentsIn c) left (a - left) (flow c′ p′ (rest gone) k) drained (rw (from-none (queuedAt (disk c q [] r)) gone (r .len) l)))
+          (sym (g .onward) ∙ stopped-flush (segmentsIn c) left (a - left) (flow c′ p′ (rest gone) k) drained (rw (from-none (queuedAt (disk c q [] r)) gone (r .ring .len) l)))
 
-      module _ (l : gone < r .len) where
+      module _ (l : gone < r .ring .len) where
         whole-ends : (c″ : List ℕ) (k″ s : ℕ) (x : Ending)
             → flushFrom (segmentsIn c′) left (a - left) (flow c′ p′ (entryHere q r gone ∷ rest (gone + 1)) k)
             ≡ record { flow = flow c″ p′ (entryHere q r gone ∷ rest (gone + 1)) k″; stores = s; ending = x }
@@ -203,12 +203,12 @@ module _ (c q : List ℕ) (r : Record) where
             ∙ rw (rest-step gone l) (rw (segments-same c′ p′ k left gone g) at h)
 
         pub flushes-full : (c″ : List ℕ) → Heads c′ p′ (entryHere q r gone) k left headed.Full c″
-            → Flushes a c q r c″ (withFlow r ((r .head + gone) % 32) (r .len - gone) k) (reply.the-variants.Full (a - left))
+            → Flushes a c q r c″ (withFlow r ((r .ring .head + gone) % 32) (r .ring .len - gone) k) (reply.the-variants.Full (a - left))
         unfolding flushAnswer
         flushes-full c″ h j = ends j c″ p′ gone k (a - left) full (f .place) (g .among) (whole-ends c″ k (a - left) full (h (rest (gone + 1)) (a - left)))
 
         pub flushes-spent : (c″ : List ℕ) (k″ : ℕ) → Heads c′ p′ (entryHere q r gone) k left (headed.Spent k″) c″
-            → Flushes a c q r c″ (withFlow r ((r .head + gone) % 32) (r .len - gone) k″) (reply.the-variants.Spent a)
+            → Flushes a c q r c″ (withFlow r ((r .ring .head + gone) % 32) (r .ring .len - gone) k″) (reply.the-variants.Spent a)
         unfolding flushAnswer
         flushes-spent c″ k″ h j =
             let i : a - left + left ≡ a = omega (arith, g .few) in
@@ -235,7 +235,7 @@ flushable d p h s t =
       room = k .log .room;
       head = k .log .head;
       queueData = k .log .queueData;
-      begun = λ l. rw (entry-here c q r 0) (ready-begun (home (segmentsIn c) (tail c) (entryHere q r 0)) (entryHere q r 0) (r .done) p (rw (queue-whole c q r (d .journalData), rest-step c q r 0 l) at (flow-ready d k)));
+      begun = λ l. rw (entry-here c q r 0) (ready-begun (home (segmentsIn c) (tail c) (entryHere q r 0)) (entryHere q r 0) (r .ring .done) p (rw (queue-whole c q r (d .journalData), rest-step c q r 0 l) at (flow-ready d k)));
       journalData = d .journalData;
       lengths = h;
       sound = s;

@@ -50,7 +50,7 @@ module _ (q j : List ℕ) (r : Record) (k : ℕ) where
   abbrev queuedAs : LogEntry → Record
   queuedAs e = appended (cellOf (asEntry true e)) r
 
-  pub member-write : (b s : ℕ) (q′ : List ℕ) (r′ : Record) → q′ ≡ splice q (slotBytes * ringPlace r (r .len)) (slot j k) → r′ ≡ queuedAs (Write b 0)
+  pub member-write : (b s : ℕ) (q′ : List ℕ) (r′ : Record) → q′ ≡ splice q (slotBytes * ringPlace r (r .ring .len)) (slot j k) → r′ ≡ queuedAs (Write b 0)
       → QueuesMember q j r (Write b s) k q′ r′
   unfolding enqueue mapChange asChange carried carriedBy spliceSome cellOf raw mapEntry asEntry
   member-write b s q′ r′ h g c = rw (h, g)
@@ -84,9 +84,9 @@ part-slot q j i k = let e : 256 * k + 256 - 256 * k ≡ 256 = omega arith in rw 
 pub record Along (q₀ j : List ℕ) (u : ℕ) (r₀ : Record) (q : List ℕ) (r : Record) (k : ℕ) : Type 0 where
   pub within : k ≤ unitAt r₀ u .len
   pub size : length q ≡ 8192
-  pub len : r .len ≡ r₀ .len + k
-  pub head : r .head ≡ r₀ .head
-  pub units : r .units ≡ r₀ .units
+  pub len : r .ring .len ≡ r₀ .ring .len + k
+  pub head : r .ring .head ≡ r₀ .ring .head
+  pub units : r .held .units ≡ r₀ .held .units
   pub rest : (c : List ℕ)
       → (let d = disk c q₀ j r₀ in
       let n = unitAt r₀ u .len in
@@ -128,9 +128,9 @@ module _ (q₀ j : List ℕ) (u : ℕ) (r₀ : Record) (q : List ℕ) (r : Recor
       record {
         within = omega arith;
         size = z;
-        len = let e : r .len + 1 ≡ r′ .len = ap (λ (d : Disk). d .rec .len) (h []) in let f = a .len in omega arith;
-        head = sym (ap (λ (d : Disk). d .rec .head) (h [])) ∙ a .head;
-        units = sym (ap (λ (d : Disk). d .rec .units) (h [])) ∙ a .units;
+        len = let e : r .ring .len + 1 ≡ r′ .ring .len = ap (λ (d : Disk). d .rec .ring .len) (h []) in let f = a .len in omega arith;
+        head = sym (ap (λ (d : Disk). d .rec .ring .head) (h [])) ∙ a .head;
+        units = sym (ap (λ (d : Disk). d .rec .held .units) (h [])) ∙ a .units;
         rest = λ c.
             let d = disk c q₀ j r₀ in
             let n = unitAt r₀ u .len in
@@ -157,14 +157,14 @@ module _ (q j : List ℕ) (r : Record) (u : ℕ) (a : Bool) where
   ends-conflict r′ h e = (ask-no 12 a _ h, λ c. rw e)
 
   module _ (h : a ≡ true) where
-    pub ends-full : 32 ≤ r .len + unitAt r u .len → EndsAs a q j r u (Refused QueueFull) q r
+    pub ends-full : 32 ≤ r .ring .len + unitAt r u .len → EndsAs a q j r u (Refused QueueFull) q r
     unfolding number refused ends
-    ends-full l = (ask-yes 12 a _ h ∙ ask-no 13 _ [] (gt-false (r .len + (unitAt r u .len + 1)) 32 (omega arith)), λ c. refl)
+    ends-full l = (ask-yes 12 a _ h ∙ ask-no 13 _ [] (gt-false (r .ring .len + (unitAt r u .len + 1)) 32 (omega arith)), λ c. refl)
 
-    pub ends-accepted : (q′ : List ℕ) (r₁ r′ : Record) → r .len + unitAt r u .len < 32 → QueuesUnit q j r u q′ r₁ → r′ ≡ closed u r₁ → EndsAs a q j r u Accepted q′ r′
+    pub ends-accepted : (q′ : List ℕ) (r₁ r′ : Record) → r .ring .len + unitAt r u .len < 32 → QueuesUnit q j r u q′ r₁ → r′ ≡ closed u r₁ → EndsAs a q j r u Accepted q′ r′
     unfolding closing unitOf
     ends-accepted q′ r₁ r′ l g e =
-        (ask-yes 12 a _ h ∙ last-yes 13 _ (le-true (r .len + (unitAt r u .len + 1)) 32 (omega arith)), λ c. ap (closing u) (g c) ∙ ap (disk c q′ j) (sym e))
+        (ask-yes 12 a _ h ∙ last-yes 13 _ (le-true (r .ring .len + (unitAt r u .len + 1)) 32 (omega arith)), λ c. ap (closing u) (g c) ∙ ap (disk c q′ j) (sym e))
 
 -- What the code needs of a disk whose unit u is open.
 module _ (u : ℕ) (d : Disk) (t : Tables) (k : Admitted false d u t) where
@@ -193,7 +193,7 @@ module _ (u : ℕ) (d : Disk) (t : Tables) (k : Admitted false d u t) where
   asked : refusal (end u) d ≡ firstNo (endQuestions applied (d .rec) u)
   unfolding refusal questions endApplies queueRoom unitOf applied here
   asked =
-      entered false d u t ((12, endApplies d u) ∷ (13, leb (d .rec .len + (unitAt (d .rec) u .len + 1)) 32) ∷ []) k
+      entered false d u t ((12, endApplies d u) ∷ (13, leb (d .rec .ring .len + (unitAt (d .rec) u .len + 1)) 32) ∷ []) k
       ∙ rw (k .located .means, applies-here d u (k .located .here))
 
   pub ends-performs : (x : Reply) (q′ : List ℕ) (r′ : Record) → Ends t (d .queueData) (d .journalData) (d .rec) u x q′ r′

@@ -72,24 +72,24 @@ module _ (used : ℕ → Bool) (limit k last : ℕ) (l : 0 < limit) where
       go (some m) e = ap some (sym e)
 
 pub free-block-limit : (r : Record) (rs : List (Row ℕ)) (n : ℕ) → n ≡ orElse 0 (freeBlockIn r rs) → n ≤ 64
-free-block-limit r rs n h = let l = free-limit (λ b. placed b rs || not (eqb (holderOf r b) 0)) 64 64 (r .lastBlock) (omega arith) in omega arith
+free-block-limit r rs n h = let l = free-limit (λ b. placed b rs || not (eqb (holderOf r b) 0)) 64 64 (r .tally .lastBlock) (omega arith) in omega arith
 
 -- A take.
 module _ (r : Record) (rs : List (Row ℕ)) (n : ℕ) (h : n ≡ orElse 0 (freeListIn r rs)) where
   pub takes-none : n ≡ 0 → Takes r rs (Refused NoNumberFree) r
   unfolding number
-  takes-none z = (refl, ask-no 10 _ _ (free-number (λ l. taken l rs) 16 16 (r .lastList) (omega arith) ∙ rw (← h, z)))
+  takes-none z = (refl, ask-no 10 _ _ (free-number (λ l. taken l rs) 16 16 (r .tally .lastList) (omega arith) ∙ rw (← h, z)))
 
   module _ (z : n ≢ 0) where
     given : freeListIn r rs ≡ some n
-    given = free-some (λ l. taken l rs) 16 16 (r .lastList) (omega arith) n h z
+    given = free-some (λ l. taken l rs) 16 16 (r .tally .lastList) (omega arith) n h z
 
-    pub takes-full : 32 ≤ r .len → Takes r rs (Refused QueueFull) r
+    pub takes-full : 32 ≤ r .ring .len → Takes r rs (Refused QueueFull) r
     unfolding number isSome
-    takes-full l = (refl, ask-yes 10 _ _ (rw given) ∙ ask-no 13 _ _ (gt-false (r .len + 1) 32 (omega arith)))
+    takes-full l = (refl, ask-yes 10 _ _ (rw given) ∙ ask-no 13 _ _ (gt-false (r .ring .len + 1) 32 (omega arith)))
 
-    pub takes : r .len < 32 → (r′ : Record) → r′ ≡ takenList r n → Takes r rs (Number n) r′
-    takes l r′ e = (e, given, le-true (r .len + 1) 32 (omega arith))
+    pub takes : r .ring .len < 32 → (r′ : Record) → r′ ≡ takenList r n → Takes r rs (Number n) r′
+    takes l r′ e = (e, given, le-true (r .ring .len + 1) 32 (omega arith))
 
 pub takes-performs : (s : ℕ) (d : Disk) (t : Tables) (k : Admitted true d s t) (a : NumberReply) (r′ : Record)
     → Takes (d .rec) (k .located .here .lists) a r′ → Performs (onStream s newList) d (withRecord d r′) (numberAnswer a) []
@@ -97,10 +97,10 @@ unfolding numberAnswer refusal questions editQuestions freeList queueRoom destin
 takes-performs s d t k a r′ = go a
   where
     free : freeList d ≡ freeListIn (d .rec) (k .located .here .lists)
-    free = free-ext _ _ 16 16 (d .rec .lastList) (taken-here d t (committed d) (k .located))
+    free = free-ext _ _ 16 16 (d .rec .tally .lastList) (taken-here d t (committed d) (k .located))
 
-    rest : refusal (onStream s newList) d ≡ firstNo ((10, isSome (freeListIn (d .rec) (k .located .here .lists))) ∷ (13, leb (d .rec .len + 1) 32) ∷ [])
-    rest = entered true d s t _ k ∙ ap (λ (o : Option ℕ). firstNo ((10, isSome o) ∷ (13, leb (d .rec .len + 1) 32) ∷ [])) free
+    rest : refusal (onStream s newList) d ≡ firstNo ((10, isSome (freeListIn (d .rec) (k .located .here .lists))) ∷ (13, leb (d .rec .ring .len + 1) 32) ∷ [])
+    rest = entered true d s t _ k ∙ ap (λ (o : Option ℕ). firstNo ((10, isSome o) ∷ (13, leb (d .rec .ring .len + 1) 32) ∷ [])) free
 
     go : (a : NumberReply) → Takes (d .rec) (k .located .here .lists) a r′ → Performs (onStream s newList) d (withRecord d r′) (numberAnswer a) []
     go (Refused x) h = rw (h .0) (usual-performs-refused (onStream s newList) d x tt (rest ∙ h .1))

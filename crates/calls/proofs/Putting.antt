@@ -84,7 +84,7 @@ unit-some d (suc s) l h n = unit-lawful d (suc s) l h (omega arith) n
 
 -- what the code needs
 pub stands-put : (s : ℕ) (d : Disk) (t : Tables) → Admitted true d s t
-    → Shown t × (s ≤ 4) × (d .rec .head < 32) × (unitAt (d .rec) s .len ≤ 15)
+    → Shown t × (s ≤ 4) × (d .rec .ring .head < 32) × (unitAt (d .rec) s .len ≤ 15)
     × (all (λ c. legal (raw 0 (member c))) (from (changeIn (unitAt (d .rec) s)) 0 (unitAt (d .rec) s .len)) ≡ true)
 stands-put s d t k =
     let n = stands-range d s t k in
@@ -108,7 +108,7 @@ module _ (s : ℕ) (d : Disk) (t : Tables) (k : Admitted true d s t) where
 
   free : freeBlock d ≡ freeBlockIn (d .rec) (here .lists)
   unfolding freeBlock here
-  free = free-ext _ _ 64 64 (d .rec .lastBlock) (λ b. ap (λ (x : Bool). x || not (eqb (holderOf (d .rec) b) 0)) (placed-here d t (committed d) (k .located) b))
+  free = free-ext _ _ 64 64 (d .rec .tally .lastBlock) (λ b. ap (λ (x : Bool). x || not (eqb (holderOf (d .rec) b) 0)) (placed-here d t (committed d) (k .located) b))
 
   given : ℕ
   given = orElse 0 (freeBlockIn (d .rec) (here .lists))
@@ -120,7 +120,7 @@ module _ (s : ℕ) (d : Disk) (t : Tables) (k : Admitted true d s t) where
       entered true d s t
       ((5, isList l && leb p 64) ∷ (7, taken l (view d s .lists)) ∷ (9, eqb p 0 || onList l p (view d s .lists)) ∷ (10, isSome (freeBlock d)) ∷ rooms d s)
       k
-      ∙ rw (view-here, free, taken-map (contents d) l v, onList-map (contents d) l p v, free-number (λ b. placed b (here .lists) || not (eqb (holderOf (d .rec) b) 0)) 64 64 (d .rec .lastBlock) (omega arith))
+      ∙ rw (view-here, free, taken-map (contents d) l v, onList-map (contents d) l p v, free-number (λ b. placed b (here .lists) || not (eqb (holderOf (d .rec) b) 0)) 64 64 (d .rec .tally .lastBlock) (omega arith))
 
   pub puts-performs : (l p : ℕ) (a : NumberReply) (r′ : Record) → PutsFree t s l p (d .rec) a r′ → Performs (onStream s (newBlock l p)) d (withRecord d r′) (numberAnswer a) []
   unfolding numberAnswer destination accepted numberGiven changeFor given here

@@ -83,7 +83,7 @@ pub seen : {looked : Bool} {d : Disk} {v : ℕ} {t : Tables} (qs : List (ℕ × 
 seen {looked} {d} {v} qs s = sound-yes d _ (s .lengths) (s .sound) ∙ ask-yes 4 (openAs looked d v) qs (s .opened)
 
 -- what the code needs then: the number is a stream's, and the queue's head a place
-pub seen-ranges : {d : Disk} {s : ℕ} {t : Tables} → Sees false d s t → (s ≤ 4) × (d .rec .head < 32)
+pub seen-ranges : {d : Disk} {s : ℕ} {t : Tables} → Sees false d s t → (s ≤ 4) × (d .rec .ring .head < 32)
 unfolding streamOpen
 seen-ranges {d} {s} h = (
   ⊎-elim (λ e. let z = eqb-true s 0 e in omega arith) (λ e. unit-range d s e .1) (or-cases (eqb s 0) (isOpenUnit d s) (h .opened)),

@@ -15,7 +15,7 @@ ghost use Rattle.calls.specs.promises.Adds.{Adds};
 
 // 11. Has the unit's journal room? 13. Has the queue, for stream 0?
 pub fn add(rec: &mut [u8; RECORD], s: usize, e: LogEntry) -> Reply
-    requires { ⌜ (s ≤ 4) × (recordIn (now rec) .head < 32) ⌝ }
+    requires { ⌜ (s ≤ 4) × (recordIn (now rec) .ring .head < 32) ⌝ }
     ensures { λ r. ⌜ Adds s e (recordIn (now (rec .entry))) r (recordIn (now (rec .exit))) ⌝ }
 {
     if s == 0 {

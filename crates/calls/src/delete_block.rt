@@ -22,7 +22,7 @@ ghost use Rattle.calls.specs.Performs.{ChangesRecord};
 
 // Questions 5, 8, 11 and 13, over the stream's view.
 fn delete_placed(rec: &mut [u8; RECORD], nodes: &[u8; 1280], s: usize, b: usize) -> Reply
-    requires { ⌜ (s ≤ 4) × (recordIn (now rec) .head < 32) ⌝ }
+    requires { ⌜ (s ≤ 4) × (recordIn (now rec) .ring .head < 32) ⌝ }
     ensures { λ r. ⌜ OfShown (tablesIn (now (nodes .entry))) (λ rs. AddsAfter ((5, isBlock b) ∷ (8, placed b rs) ∷ []) s (E.DeleteBlock b) (recordIn (now (rec .entry))) r (recordIn (now (rec .exit)))) ⌝ }
 {
     if !is_block(b) {

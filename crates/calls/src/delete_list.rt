@@ -22,7 +22,7 @@ ghost use Rattle.calls.specs.Performs.{ChangesRecord};
 
 // Questions 5, 7, 11 and 13, over the stream's view.
 fn delete_taken(rec: &mut [u8; RECORD], nodes: &[u8; 1280], s: usize, l: usize) -> Reply
-    requires { ⌜ (s ≤ 4) × (recordIn (now rec) .head < 32) ⌝ }
+    requires { ⌜ (s ≤ 4) × (recordIn (now rec) .ring .head < 32) ⌝ }
     ensures { λ r. ⌜ OfShown (tablesIn (now (nodes .entry))) (λ rs. AddsAfter ((5, isList l) ∷ (7, taken l rs) ∷ []) s (E.DeleteList l) (recordIn (now (rec .entry))) r (recordIn (now (rec .exit)))) ⌝ }
 {
     if !is_list(l) {

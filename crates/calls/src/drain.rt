@@ -84,8 +84,8 @@ fn store_head(
 
 // The record when `gone` entries have left the queue and `done` stores of the next one are on the card.
 fn ended(rec: &mut [u8; RECORD], gone: usize, done: usize)
-    requires { ⌜ (gone ≤ recordIn (now rec) .len) × (recordIn (now rec) .len ≤ 32) × (recordIn (now rec) .head < 32) × (done < 65536) ⌝ }
-    ensures { λ r. ⌜ recordIn (now (rec .exit)) ≡ withFlow (recordIn (now (rec .entry))) ((recordIn (now (rec .entry)) .head + gone) % 32) (recordIn (now (rec .entry)) .len - gone) done ⌝ }
+    requires { ⌜ (gone ≤ recordIn (now rec) .ring .len) × (recordIn (now rec) .ring .len ≤ 32) × (recordIn (now rec) .ring .head < 32) × (done < 65536) ⌝ }
+    ensures { λ r. ⌜ recordIn (now (rec .exit)) ≡ withFlow (recordIn (now (rec .entry))) ((recordIn (now (rec .entry)) .ring .head + gone) % 32) (recordIn (now (rec .entry)) .ring .len - gone) done ⌝ }
 {
     let first = (head(rec) + gone) % Record::QUEUE;
     let left = len(rec) - gone;

@@ -49,7 +49,7 @@ fn queue_member(
     e: LogEntry,
     k: usize,
 )
-    requires { ⌜ (length (now queue_data) ≡ 8192) × (length (now journal_data) ≡ 15360) × (recordIn (now rec) .len < 32) × (recordIn (now rec) .head < 32) × (k < 60) × (legal (raw 0 (member (asChange e))) ≡ true) ⌝ }
+    requires { ⌜ (length (now queue_data) ≡ 8192) × (length (now journal_data) ≡ 15360) × (recordIn (now rec) .ring .len < 32) × (recordIn (now rec) .ring .head < 32) × (k < 60) × (legal (raw 0 (member (asChange e))) ≡ true) ⌝ }
     ensures { λ r. ⌜ QueuesMember (now (queue_data .entry)) (now (journal_data .entry)) (recordIn (now (rec .entry))) e k (now (queue_data .exit)) (recordIn (now (rec .exit))) ⌝ }
 {
     match e {
@@ -68,7 +68,7 @@ fn queue_member(
 
 // Unit u's journal joins the queue as members, then a commit.
 fn queue_unit(queue_data: &mut [u8], journal_data: &[u8], rec: &mut [u8; RECORD], u: usize)
-    requires { ⌜ Ready (now queue_data) (now journal_data) (recordIn (now rec)) u × (recordIn (now rec) .len + unitAt (recordIn (now rec)) u .len < 32) ⌝ }
+    requires { ⌜ Ready (now queue_data) (now journal_data) (recordIn (now rec)) u × (recordIn (now rec) .ring .len + unitAt (recordIn (now rec)) u .len < 32) ⌝ }
     ensures { λ r. ⌜ QueuesUnit (now (queue_data .entry)) (now (journal_data .entry)) (recordIn (now (rec .entry))) u (now (queue_data .exit)) (recordIn (now (rec .exit))) ⌝ }
 {
     let entries = journal_len(rec, u);

@@ -30,7 +30,7 @@ ghost use Rattle.calls.specs.promises.Giving.{Takes, heldBy, putEntry, G
 
 // 10. Is a list free in the committed state? 13. Has the queue room? Then the list is taken.
 pub fn take_list(nodes: &[u8; 1280], rec: &mut [u8; RECORD]) -> NumberReply
-    requires { ⌜ recordIn (now rec) .head < 32 ⌝ }
+    requires { ⌜ recordIn (now rec) .ring .head < 32 ⌝ }
     ensures { λ r. ⌜ OfShown (tablesIn (now (nodes .entry))) (λ rs. Takes (recordIn (now (rec .entry))) rs r (recordIn (now (rec .exit)))) ⌝ }
 {
     let l = free_list(nodes, rec);
@@ -72,7 +72,7 @@ fn entry_of(b: u8, l: u8, p: u8) -> LogEntry
 
 // 11 and 13, and the put.
 fn put_block(rec: &mut [u8; RECORD], s: usize, l: u8, p: u8, b: u8) -> NumberReply
-    requires { ⌜ (s ≤ 4) × (recordIn (now rec) .head < 32) × (1 ≤ b) × (b ≤ 64) ⌝ }
+    requires { ⌜ (s ≤ 4) × (recordIn (now rec) .ring .head < 32) × (1 ≤ b) × (b ≤ 64) ⌝ }
     ensures { λ r. ⌜ Gives [] s l p b (recordIn (now (rec .entry))) r (recordIn (now (rec .exit))) ⌝ }
 {
     match add(rec, s, entry_of(b, l, p)) {
@@ -87,7 +87,7 @@ fn put_block(rec: &mut [u8; RECORD], s: usize, l: u8, p: u8, b: u8) -> NumberRep
 
 // 7, 9 and 10 of a block put on list l behind block p, first if p is 0; block b is 0 if none is free.
 fn put_on(nodes: &[u8; 1280], rec: &mut [u8; RECORD], s: usize, l: u8, p: u8, b: u8) -> NumberReply
-    requires { ⌜ (s ≤ 4) × (recordIn (now rec) .head < 32) × IsList l × (p ≤ 64) × (b ≤ 64) ⌝ }
+    requires { ⌜ (s ≤ 4) × (recordIn (now rec) .ring .head < 32) × IsList l × (p ≤ 64) × (b ≤ 64) ⌝ }
     ensures { λ r. ⌜ OfShown (tablesIn (now (nodes .entry))) (λ rs. Gives (putQuestions l p b rs) s l p b (recordIn (now (rec .entry))) r (recordIn (now (rec .exit)))) ⌝ }
 {
     if !is_taken(nodes, l) {
@@ -111,7 +111,7 @@ fn put_ranged(
     p: usize,
     b: u8,
 ) -> NumberReply
-    requires { ⌜ (s ≤ 4) × (recordIn (now rec) .head < 32) × (b ≤ 64) ⌝ }
+    requires { ⌜ (s ≤ 4) × (recordIn (now rec) .ring .head < 32) × (b ≤ 64) ⌝ }
     ensures { λ r. ⌜ OfShown (tablesIn (now (nodes .entry))) (λ rs. Gives (rangedPutQuestions l p b rs) s l p b (recordIn (now (rec .entry))) r (recordIn (now (rec .exit)))) ⌝ }
 {
     if !is_position(l, p) {
@@ -139,7 +139,7 @@ pub fn put_free(
     l: usize,
     p: usize,
 ) -> NumberReply
-    requires { ⌜ Shown (tablesIn (now nodes)) × (s ≤ 4) × (recordIn (now rec) .head < 32) × (unitAt (recordIn (now rec)) s .len ≤ 15) × (all (λ c. legal (raw 0 (member c))) (from (changeIn (unitAt (recordIn (now rec)) s)) 0 (unitAt (recordIn (now rec)) s .len)) ≡ true) ⌝ }
+    requires { ⌜ Shown (tablesIn (now nodes)) × (s ≤ 4) × (recordIn (now rec) .ring .head < 32) × (unitAt (recordIn (now rec)) s .len ≤ 15) × (all (λ c. legal (raw 0 (member c))) (from (changeIn (unitAt (recordIn (now rec)) s)) 0 (unitAt (recordIn (now rec)) s .len)) ≡ true) ⌝ }
     ensures { λ r. ⌜ PutsFree (tablesIn (now (nodes .entry))) s l p (recordIn (now (rec .entry))) r (recordIn (now (rec .exit))) ⌝ }
 {
     let b = free_block(nodes, rec);

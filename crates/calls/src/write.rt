@@ -59,7 +59,7 @@ fn copy_content(queue_data: &mut [u8], journal_data: &mut [u8], s: usize, at: us
 
 // Questions 5, 8, 11 and 13, over the stream's view; n bytes are lent.
 fn write_placed(rec: &mut [u8; RECORD], nodes: &[u8; 1280], s: usize, b: usize, n: usize) -> Reply
-    requires { ⌜ (s ≤ 4) × (recordIn (now rec) .head < 32) ⌝ }
+    requires { ⌜ (s ≤ 4) × (recordIn (now rec) .ring .head < 32) ⌝ }
     ensures { λ r. ⌜ OfShown (tablesIn (now (nodes .entry))) (λ rs. AddsAfter ((5, isBlock b && eqb n slotBytes) ∷ (8, placed b rs) ∷ []) s (E.Write b 0) (recordIn (now (rec .entry))) r (recordIn (now (rec .exit)))) ⌝ }
 {
     if !both(is_block(b), n == SLOT) {

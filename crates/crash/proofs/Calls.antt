@@ -26,7 +26,7 @@ use Rattle.crash.proofs.Invariant.{Live, live}
 use Rattle.crash.proofs.Joining.{join-plain, join-batch, join-unit}
 
 -- Beside the queue and the journals nothing of the record is part of the invariant.
-same-inv : (d e : Disk) (b : Book) → e .card ≡ d .card → queued e ≡ queued d → e .rec .done ≡ d .rec .done → ((u : ℕ) → journalOf e u ≡ journalOf d u) → Live d b → Live e b
+same-inv : (d e : Disk) (b : Book) → e .card ≡ d .card → queued e ≡ queued d → e .rec .ring .done ≡ d .rec .ring .done → ((u : ℕ) → journalOf e u ≡ journalOf d u) → Live d b → Live e b
 same-inv d e b c q n j i =
     live e b (rw c (i .sim)) (i .told)
     (record { queue = q ∙ i .tied refl .queue; done = n ∙ i .tied refl .done; journals = λ u l m. j u ∙ i .tied refl .journals u l m }) (i .four) (i .few)

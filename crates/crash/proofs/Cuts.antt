@@ -47,7 +47,7 @@ unfolding settle entriesOf batchOf freshRecord
 fresh-tied d b e =
     record {
       queue = fresh-queue d e;
-      done = ap (λ (r : Record). r .done) e;
+      done = ap (λ (r : Record). r .ring .done) e;
       journals = λ u l m. fresh-journal d e u ∙ sym (getD-same 4 (u - 1) []);
     }
 

@@ -45,7 +45,7 @@ module _ (d : Disk) (b b′ : Book) (y : Flow) (f : FlushSim y b b′) where
   unfolding flowFor entriesOf
   flow-queue = ap (λ (z : Flow). z .queue) (f .flow) ∙ ap entriesOf (f .keeps .rest) ∙ map-drop (λ (w : Waiting). w .entry) (f .keeps .gone) (b .line)
 
-  gone-queued : Tied d b → f .keeps .gone ≤ d .rec .len
+  gone-queued : Tied d b → f .keeps .gone ≤ d .rec .ring .len
   unfolding entriesOf
   gone-queued t = omega (arith, f .keeps .left, queue-length d, ap length (t .queue), length-map (b .line) (λ (w : Waiting). w .entry))
 

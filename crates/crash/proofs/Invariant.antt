@@ -17,7 +17,7 @@ use Rattle.crash.proofs.Simulation.{Sim}
 -- the record and the lent data hold the line and the batches
 pub record Tied (d : Disk) (b : Book) : Type 0 where
   pub queue : queued d ≡ entriesOf (b .line)
-  pub done : d .rec .done ≡ b .done
+  pub done : d .rec .ring .done ≡ b .done
   pub journals : (u : ℕ) → 1 ≤ u → u ≤ 4 → journalOf d u ≡ batchOf b u
 
 -- the card carries what the book says, whatever a cut left of the rest; the record is tied to the book while no mounting is due

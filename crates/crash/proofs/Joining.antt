@@ -55,7 +55,7 @@ committed-state d b i = committed-is d (i .told .reader) (committed-reader d b (
 record Grown (d d′ : Disk) (b b′ : Book) (es : List (Entry Content)) (ws : List Waiting) : Type 0 where
   card : d′ .card ≡ d .card
   queue : queued d′ ≡ queued d ++ es
-  done : d′ .rec .done ≡ d .rec .done
+  done : d′ .rec .ring .done ≡ d .rec .ring .done
   segs : b′ .segs ≡ b .segs
   line : b′ .line ≡ b .line ++ ws
   mark : b′ .done ≡ b .done
@@ -90,7 +90,7 @@ replay-plain : (r : Reader Content) (c : Change Content) (s : State Content) →
 unfolding replay read
 replay-plain r c s a = rw a
 
-pub join-plain : (d : Disk) (b : Book) (c : Change Content) (s : State Content) → Right d → Live d b → d .rec .len < 32 → Good (plain c)
+pub join-plain : (d : Disk) (b : Book) (c : Change Content) (s : State Content) → Right d → Live d b → d .rec .ring .len < 32 → Good (plain c)
     → apply c (committed d) ≡ some s → Live (enqueue (plain c) d) (joinPlain c b)
 unfolding joinPlain batchOf
 join-plain d b c s r i m g a =
@@ -140,7 +140,7 @@ unit-tells : (cs run : List (Change Content)) → whole cs ∷ [] ≡ tell run (
 unfolding unitEntries
 unit-tells cs run = sym (tell-unit cs run)
 
-pub join-unit : (d : Disk) (b : Book) (u : ℕ) (s : State Content) → Right d → Live d b → 1 ≤ u → u ≤ 4 → d .rec .len + suc (length (journalOf d u)) ≤ 32
+pub join-unit : (d : Disk) (b : Book) (u : ℕ) (s : State Content) → Right d → Live d b → 1 ≤ u → u ≤ 4 → d .rec .ring .len + suc (length (journalOf d u)) ≤ 32
     → AllGood (unitEntries (journalOf d u)) → AllSized (unitEntries (journalOf d u)) → applyAll (journalOf d u) (committed d) ≡ some s
     → Live (closingUnit u (enqueueAll (unitEntries (journalOf d u)) d)) (joinUnit u b)
 unfolding joinUnit withBatch closingUnit batchOf

@@ -45,21 +45,21 @@ counted (suc a) n j k f = go (λ g. counted a n (suc j) (suc k) g) (nextStore n 
 ring-sum : (h i j l : ℕ) → l ≤ j → j ≤ i → ((h + (i - j)) % 32 + (j - l)) % 32 ≡ (h + (i - l)) % 32
 ring-sum h i j l p q = mod-add-mod (h + (i - j)) 32 (j - l) ∙ ap (λ (x : ℕ). x % 32) (let e : h + (i - j) + (j - l) ≡ h + (i - l) = omega arith in e)
 
-after-twice : (d : Disk) (f g : Flow) → length (g .queue) ≤ length (f .queue) → length (f .queue) ≤ d .rec .len → afterFlush (afterFlush d f) g ≡ afterFlush d g
+after-twice : (d : Disk) (f g : Flow) → length (g .queue) ≤ length (f .queue) → length (f .queue) ≤ d .rec .ring .len → afterFlush (afterFlush d f) g ≡ afterFlush d g
 unfolding afterFlush
 after-twice d f g p q i = record {
   card = g .card;
   queueData = d .queueData;
   journalData = d .journalData;
-  rec = withFlow (d .rec) (ring-sum (d .rec .head) (d .rec .len) (length (f .queue)) (length (g .queue)) p q i) (length (g .queue)) (g .done);
+  rec = withFlow (d .rec) (ring-sum (d .rec .ring .head) (d .rec .ring .len) (length (f .queue)) (length (g .queue)) p q i) (length (g .queue)) (g .done);
 }
 
-shorter : (a : ℕ) (d : Disk) → Right d → length (flushed a d .flow .queue) ≤ d .rec .len
+shorter : (a : ℕ) (d : Disk) → Right d → length (flushed a d .flow .queue) ≤ d .rec .ring .len
 shorter a d k =
     let t = turn a d (k .reader) (k .log) in
     omega (arith, queue-length d, ap length (left-queue a d k), ap length (t .queue), ap length (t .after .rest), length-drop (t .after .gone) (queued d))
 
-left-len : (a : ℕ) (d : Disk) → left a d .rec .len ≡ length (flushed a d .flow .queue)
+left-len : (a : ℕ) (d : Disk) → left a d .rec .ring .len ≡ length (flushed a d .flow .queue)
 unfolding afterFlush
 left-len a d = refl
 

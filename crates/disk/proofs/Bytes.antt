@@ -13,7 +13,7 @@ use lib.Seq.{ext-getD, getD-set-same, getD-set-other}
 use Rattle.lists.specs.Basic.{from}
 use Rattle.lists.proofs.Basic.{from-length, from-get, from-ext, getD-same}
 use Rattle.log.specs.Cell.{Cell, cell}
-use Rattle.disk.specs.Record.{Unit, unit, Record, cellsIn, bytesIn, pairIn, unitIn, recordIn, noCell, noUnit, unitAt, holderOf, shaped, freshUnit, freshRecord, withQueue, withFlow, withUnits, withLastBlock, withLastList, withConflicts, emptied, journaled, holding, unitTurned, journalGrown, releasing, released}
+use Rattle.disk.specs.Record.{Unit, unit, Record, cellsIn, bytesIn, pairIn, unitIn, recordIn, noCell, noUnit, unitAt, holderOf, shaped, freshUnit, freshRecord, Ring, Held, Tally, withRing, withFlow, withHeld, withLastBlock, withLastList, withConflicts, emptied, journaled, holding, unitTurned, journalGrown, releasing, released}
 use Rattle.disk.specs.promises.Bytes.{cellSet}
 
 -- A list by its elements' numbers, with one element changed.
@@ -68,17 +68,13 @@ unfolding unitIn
 unit-agree bs cs i l o n h j = unit (o j) (n j) (cells-agree bs cs (128 + 60 * i) 15 h j)
 
 -- A record by its parts.
-parts : (cs : List ℕ) {q : List Cell} {h n k : ℕ} {us : List Unit} {hs : List ℕ} {b l c : ℕ} → cellsIn cs 0 32 ≡ q → getD cs 440 0 ≡ h → getD cs 441 0 ≡ n
-    → pairIn cs 442 ≡ k → from (unitIn cs) 0 4 ≡ us → bytesIn cs 376 64 ≡ hs → getD cs 444 0 ≡ b → getD cs 445 0 ≡ l → pairIn cs 446 ≡ c
-    → recordIn cs ≡ record { queue = q; head = h; len = n; done = k; units = us; holder = hs; lastBlock = b; lastList = l; conflicts = c }
-unfolding recordIn
-parts cs p0 p1 p2 p3 p4 p5 p6 p7 p8 i =
-    record { queue = p0 i; head = p1 i; len = p2 i; done = p3 i; units = p4 i; holder = p5 i; lastBlock = p6 i; lastList = p7 i; conflicts = p8 i }
+parts : (cs : List ℕ) {q : Ring} {h : Held} {t : Tally} → recordIn cs .ring ≡ q → recordIn cs .held ≡ h → recordIn cs .tally ≡ t → recordIn cs ≡ record { ring = q; held = h; tally = t }
+parts cs q h t i = record { ring = q i; held = h i; tally = t i }
 
 -- Those that bytes agree on.
 module _ (bs cs : List ℕ) where
-  same-queue : Agree bs cs 0 128 → cellsIn cs 0 32 ≡ cellsIn bs 0 32
-  same-queue h = cells-agree bs cs 0 32 h
+  same-pair : (a : ℕ) → Agree bs cs a (a + 2) → pairIn cs a ≡ pairIn bs a
+  same-pair a h i = h a (omega arith) (omega arith) i + 256 * h (a + 1) (omega arith) (omega arith) i
 
   same-units : Agree bs cs 128 376 → from (unitIn cs) 0 4 ≡ from (unitIn bs) 0 4
   same-units h =
@@ -88,8 +84,22 @@ module _ (bs cs : List ℕ) where
   same-holder : Agree bs cs 376 440 → bytesIn cs 376 64 ≡ bytesIn bs 376 64
   same-holder h = bytes-agree bs cs 376 64 h
 
-  same-pair : (a : ℕ) → Agree bs cs a (a + 2) → pairIn cs a ≡ pairIn bs a
-  same-pair a h i = h a (omega arith) (omega arith) i + 256 * h (a + 1) (omega arith) (omega arith) i
+  same-ring : Agree bs cs 0 128 → Agree bs cs 440 444 → recordIn cs .ring ≡ recordIn bs .ring
+  unfolding recordIn
+  same-ring h k i = record {
+    queue = cells-agree bs cs 0 32 h i;
+    head = k 440 (omega arith) (omega arith) i;
+    len = k 441 (omega arith) (omega arith) i;
+    done = same-pair 442 (λ j p q. k j (omega arith) q) i;
+  }
+
+  same-held : Agree bs cs 128 440 → recordIn cs .held ≡ recordIn bs .held
+  unfolding recordIn
+  same-held h i = record { units = same-units (λ j p q. h j p (omega arith)) i; holder = same-holder (λ j p q. h j (omega arith) q) i }
+
+  same-tally : Agree bs cs 444 448 → recordIn cs .tally ≡ recordIn bs .tally
+  unfolding recordIn
+  same-tally h i = record { lastBlock = h 444 (omega arith) (omega arith) i; lastList = h 445 (omega arith) (omega arith) i; conflicts = same-pair 446 (λ j p q. h j (omega arith) q) i }
 
   -- a unit more or less than it was
   units-set : (x : Unit) (i : ℕ) → i < 4 → unitIn cs i ≡ x → ((j : ℕ) → j < 4 → j ≢ i → unitIn cs j ≡ unitIn bs j) → from (unitIn cs) 0 4 ≡ set (from (unitIn bs) 0 4) i x
@@ -173,30 +183,25 @@ module _ (bs : List ℕ) (l : length bs ≡ 448) where
   block-in v =
       let cs = set bs 444 v in
       let other = away 444 v in
-      parts cs (same-queue bs cs (λ j p q. other j (λ z. omega arith))) (other 440 (λ z. omega arith)) (other 441 (λ z. omega arith))
-      (same-pair bs cs 442 (λ j p q. other j (λ z. omega arith))) (same-units bs cs (λ j p q. other j (λ z. omega arith)))
-      (same-holder bs cs (λ j p q. other j (λ z. omega arith))) (getD-set-same bs 444 v 0 (omega arith)) (other 445 (λ z. omega arith))
-      (same-pair bs cs 446 (λ j p q. other j (λ z. omega arith)))
+      parts cs (same-ring bs cs (λ j p q. other j (λ z. omega arith)) (λ j p q. other j (λ z. omega arith))) (same-held bs cs (λ j p q. other j (λ z. omega arith)))
+      (λ i. record { lastBlock = getD-set-same bs 444 v 0 (omega arith) i; lastList = other 445 (λ z. omega arith) i; conflicts = same-pair bs cs 446 (λ j p q. other j (λ z. omega arith)) i })
 
   pub list-in : (v : ℕ) → recordIn (set bs 445 v) ≡ withLastList (recordIn bs) v
   unfolding recordIn
   list-in v =
       let cs = set bs 445 v in
       let other = away 445 v in
-      parts cs (same-queue bs cs (λ j p q. other j (λ z. omega arith))) (other 440 (λ z. omega arith)) (other 441 (λ z. omega arith))
-      (same-pair bs cs 442 (λ j p q. other j (λ z. omega arith))) (same-units bs cs (λ j p q. other j (λ z. omega arith)))
-      (same-holder bs cs (λ j p q. other j (λ z. omega arith))) (other 444 (λ z. omega arith)) (getD-set-same bs 445 v 0 (omega arith))
-      (same-pair bs cs 446 (λ j p q. other j (λ z. omega arith)))
+      parts cs (same-ring bs cs (λ j p q. other j (λ z. omega arith)) (λ j p q. other j (λ z. omega arith))) (same-held bs cs (λ j p q. other j (λ z. omega arith)))
+      (λ i. record { lastBlock = other 444 (λ z. omega arith) i; lastList = getD-set-same bs 445 v 0 (omega arith) i; conflicts = same-pair bs cs 446 (λ j p q. other j (λ z. omega arith)) i })
 
-  pub holder-in : (x v : ℕ) → x < 64 → recordIn (set bs (376 + x) v) ≡ withUnits (recordIn bs) (recordIn bs .units) (set (recordIn bs .holder) x v)
+  pub holder-in : (x v : ℕ) → x < 64 → recordIn (set bs (376 + x) v) ≡ withHeld (recordIn bs) (recordIn bs .held .units) (set (recordIn bs .held .holder) x v)
   unfolding recordIn
   holder-in x v h =
       let cs = set bs (376 + x) v in
       let other = away (376 + x) v in
-      parts cs (same-queue bs cs (λ j p q. other j (λ z. omega arith))) (other 440 (λ z. omega arith)) (other 441 (λ z. omega arith))
-      (same-pair bs cs 442 (λ j p q. other j (λ z. omega arith))) (same-units bs cs (λ j p q. other j (λ z. omega arith)))
-      (bytes-set bs 376 64 x v h (omega arith)) (other 444 (λ z. omega arith)) (other 445 (λ z. omega arith))
-      (same-pair bs cs 446 (λ j p q. other j (λ z. omega arith)))
+      parts cs (same-ring bs cs (λ j p q. other j (λ z. omega arith)) (λ j p q. other j (λ z. omega arith)))
+      (λ i. record { units = same-units bs cs (λ j p q. other j (λ z. omega arith)) i; holder = bytes-set bs 376 64 x v h (omega arith) i })
+      (same-tally bs cs (λ j p q. other j (λ z. omega arith)))
 
   -- two bytes
   twice : (i v k w j : ℕ) → j ≢ i → j ≢ k → getD (set (set bs i v) k w) j 0 ≡ getD bs j 0
@@ -209,12 +214,11 @@ module _ (bs : List ℕ) (l : length bs ≡ 448) where
       let other = twice 446 a 447 b in
       let low : getD cs 446 0 ≡ a = getD-set-other (set bs 446 a) 447 446 b 0 (λ z. omega arith) ∙ getD-set-same bs 446 a 0 (omega arith) in
       let high : getD cs 447 0 ≡ b = getD-set-same (set bs 446 a) 447 b 0 (omega (arith, length-set bs 446 a)) in
-      parts cs (same-queue bs cs (λ j p q. other j (λ z. omega arith) (λ z. omega arith))) (other 440 (λ z. omega arith) (λ z. omega arith)) (other 441 (λ z. omega arith) (λ z. omega arith))
-      (same-pair bs cs 442 (λ j p q. other j (λ z. omega arith) (λ z. omega arith))) (same-units bs cs (λ j p q. other j (λ z. omega arith) (λ z. omega arith)))
-      (same-holder bs cs (λ j p q. other j (λ z. omega arith) (λ z. omega arith))) (other 444 (λ z. omega arith) (λ z. omega arith)) (other 445 (λ z. omega arith) (λ z. omega arith))
-      (λ i. low i + 256 * high i)
+      parts cs (same-ring bs cs (λ j p q. other j (λ z. omega arith) (λ z. omega arith)) (λ j p q. other j (λ z. omega arith) (λ z. omega arith)))
+      (same-held bs cs (λ j p q. other j (λ z. omega arith) (λ z. omega arith)))
+      (λ i. record { lastBlock = other 444 (λ z. omega arith) (λ z. omega arith) i; lastList = other 445 (λ z. omega arith) (λ z. omega arith) i; conflicts = low i + 256 * high i })
 
-  pub turn-in : (i o : ℕ) → i < 4 → recordIn (set (set bs (368 + i) o) (372 + i) 0) ≡ withUnits (recordIn bs) (set (recordIn bs .units) i (emptied o (unitIn bs i))) (recordIn bs .holder)
+  pub turn-in : (i o : ℕ) → i < 4 → recordIn (set (set bs (368 + i) o) (372 + i) 0) ≡ withHeld (recordIn bs) (set (recordIn bs .held .units) i (emptied o (unitIn bs i))) (recordIn bs .held .holder)
   unfolding recordIn unitIn
   turn-in i o h =
       let cs = set (set bs (368 + i) o) (372 + i) 0 in
@@ -222,14 +226,15 @@ module _ (bs : List ℕ) (l : length bs ≡ 448) where
       let flag : getD cs (368 + i) 0 ≡ o = getD-set-other (set bs (368 + i) o) (372 + i) (368 + i) 0 0 (λ z. omega arith) ∙ getD-set-same bs (368 + i) o 0 (omega arith) in
       let count : getD cs (372 + i) 0 ≡ 0 = getD-set-same (set bs (368 + i) o) (372 + i) 0 0 (omega (arith, length-set bs (368 + i) o)) in
       let cells : cellsIn cs (128 + 60 * i) 15 ≡ cellsIn bs (128 + 60 * i) 15 = cells-agree bs cs (128 + 60 * i) 15 (λ j p q. other j (λ z. omega arith) (λ z. omega arith)) in
-      parts cs (same-queue bs cs (λ j p q. other j (λ z. omega arith) (λ z. omega arith))) (other 440 (λ z. omega arith) (λ z. omega arith)) (other 441 (λ z. omega arith) (λ z. omega arith))
-      (same-pair bs cs 442 (λ j p q. other j (λ z. omega arith) (λ z. omega arith)))
-      (units-set bs cs (emptied o (unitIn bs i)) i h (λ k. unit (flag k) (count k) (cells k))
-      (λ j k n.
-      unit-agree bs cs j k (other (368 + j) (λ z. n (omega arith)) (λ z. omega arith)) (other (372 + j) (λ z. omega arith) (λ z. n (omega arith)))
-      (λ x p q. other x (λ z. omega arith) (λ z. omega arith))))
-      (same-holder bs cs (λ j p q. other j (λ z. omega arith) (λ z. omega arith))) (other 444 (λ z. omega arith) (λ z. omega arith)) (other 445 (λ z. omega arith) (λ z. omega arith))
-      (same-pair bs cs 446 (λ j p q. other j (λ z. omega arith) (λ z. omega arith)))
+      parts cs (same-ring bs cs (λ j p q. other j (λ z. omega arith) (λ z. omega arith)) (λ j p q. other j (λ z. omega arith) (λ z. omega arith)))
+      (λ x. record {
+        units = units-set bs cs (emptied o (unitIn bs i)) i h (λ k. unit (flag k) (count k) (cells k))
+            (λ j k n.
+            unit-agree bs cs j k (other (368 + j) (λ z. n (omega arith)) (λ z. omega arith)) (other (372 + j) (λ z. omega arith) (λ z. n (omega arith)))
+            (λ y p q. other y (λ z. omega arith) (λ z. omega arith))) x;
+        holder = same-holder bs cs (λ j p q. other j (λ z. omega arith) (λ z. omega arith)) x;
+      })
+      (same-tally bs cs (λ j p q. other j (λ z. omega arith) (λ z. omega arith)))
 
   -- a cell, and a byte behind all of them
   celled : (a k w j : ℕ) (c : Cell) → a ≤ 364 → 368 ≤ k → j < a ⊎ a + 4 ≤ j → j ≢ k → getD (set (cellSet bs a c) k w) j 0 ≡ getD bs j 0
@@ -238,7 +243,7 @@ module _ (bs : List ℕ) (l : length bs ≡ 448) where
   celled a k w j c h m (inr n) o =
       getD-set-other (cellSet bs a c) k j w 0 o ∙ stored-other bs a c (omega arith) j (λ z. omega arith) (λ z. omega arith) (λ z. omega arith) (λ z. omega arith)
 
-  pub append-in : (p v : ℕ) (c : Cell) → p < 32 → recordIn (set (cellSet bs (4 * p) c) 441 v) ≡ withQueue (recordIn bs) (set (recordIn bs .queue) p c) v
+  pub append-in : (p v : ℕ) (c : Cell) → p < 32 → recordIn (set (cellSet bs (4 * p) c) 441 v) ≡ withRing (recordIn bs) (set (recordIn bs .ring .queue) p c) (recordIn bs .ring .head) v (recordIn bs .ring .done)
   unfolding recordIn
   append-in p v c h =
       let ds = cellSet bs (4 * p) c in
@@ -246,15 +251,17 @@ module _ (bs : List ℕ) (l : length bs ≡ 448) where
       let m : length ds ≡ 448 = cellSet-length bs (4 * p) c (omega arith) ∙ l in
       let other : (j : ℕ) → 128 ≤ j → j ≢ 441 → getD cs j 0 ≡ getD bs j 0 = λ j a n. celled (4 * p) 441 v j c (omega arith) (omega arith) (inr (omega arith)) n in
       parts cs
-      (cells-agree ds cs 0 32 (λ j x y. getD-set-other ds 441 j v 0 (λ z. omega arith)) ∙ cells-at bs 0 32 p (4 * p) c (sym (zero-add (4 * p))) h (omega arith))
-      (other 440 (omega arith) (λ z. omega arith)) (getD-set-same ds 441 v 0 (omega arith))
-      (same-pair bs cs 442 (λ j x y. other j (omega arith) (λ z. omega arith))) (same-units bs cs (λ j x y. other j (omega arith) (λ z. omega arith)))
-      (same-holder bs cs (λ j x y. other j (omega arith) (λ z. omega arith))) (other 444 (omega arith) (λ z. omega arith)) (other 445 (omega arith) (λ z. omega arith))
-      (same-pair bs cs 446 (λ j x y. other j (omega arith) (λ z. omega arith)))
+      (λ i. record {
+        queue = (cells-agree ds cs 0 32 (λ j x y. getD-set-other ds 441 j v 0 (λ z. omega arith)) ∙ cells-at bs 0 32 p (4 * p) c (sym (zero-add (4 * p))) h (omega arith)) i;
+        head = other 440 (omega arith) (λ z. omega arith) i;
+        len = getD-set-same ds 441 v 0 (omega arith) i;
+        done = same-pair bs cs 442 (λ j x y. other j (omega arith) (λ z. omega arith)) i;
+      })
+      (same-held bs cs (λ j x y. other j (omega arith) (λ z. omega arith))) (same-tally bs cs (λ j x y. other j (omega arith) (λ z. omega arith)))
 
   pub journal-in : (i n v : ℕ) (c : Cell) → i < 4 → n < 15
       → recordIn (set (cellSet bs (128 + 4 * (15 * i + n)) c) (372 + i) v)
-      ≡ withUnits (recordIn bs) (set (recordIn bs .units) i (unit (unitIn bs i .opened) v (set (unitIn bs i .journal) n c))) (recordIn bs .holder)
+      ≡ withHeld (recordIn bs) (set (recordIn bs .held .units) i (unit (unitIn bs i .opened) v (set (unitIn bs i .journal) n c))) (recordIn bs .held .holder)
   unfolding recordIn unitIn
   journal-in i n v c h g =
       let a = 128 + 4 * (15 * i + n) in
@@ -266,14 +273,15 @@ module _ (bs : List ℕ) (l : length bs ≡ 448) where
       cells-agree ds cs (128 + 60 * i) 15 (λ j x y. getD-set-other ds (372 + i) j v 0 (λ z. omega arith)) ∙ cells-at bs (128 + 60 * i) 15 n a c (omega arith) g (omega arith) in
       let count : getD cs (372 + i) 0 ≡ v = getD-set-same ds (372 + i) v 0 (omega arith) in
       let flag : getD cs (368 + i) 0 ≡ getD bs (368 + i) 0 = other (368 + i) (inr (omega arith)) (λ z. omega arith) in
-      parts cs (same-queue bs cs (λ j x y. other j (inl (omega arith)) (λ z. omega arith))) (other 440 (inr (omega arith)) (λ z. omega arith)) (other 441 (inr (omega arith)) (λ z. omega arith))
-      (same-pair bs cs 442 (λ j x y. other j (inr (omega arith)) (λ z. omega arith)))
-      (units-set bs cs (unit (getD bs (368 + i) 0) v (set (cellsIn bs (128 + 60 * i) 15) n c)) i h (λ k. unit (flag k) (count k) (cells k))
-      (λ j k e.
-      unit-agree bs cs j k (other (368 + j) (inr (omega arith)) (λ z. omega arith)) (other (372 + j) (inr (omega arith)) (λ z. e (omega arith)))
-      (λ x p q. other x (side x j e p q (decLt i j)) (λ z. omega arith))))
-      (same-holder bs cs (λ j x y. other j (inr (omega arith)) (λ z. omega arith))) (other 444 (inr (omega arith)) (λ z. omega arith)) (other 445 (inr (omega arith)) (λ z. omega arith))
-      (same-pair bs cs 446 (λ j x y. other j (inr (omega arith)) (λ z. omega arith)))
+      parts cs (same-ring bs cs (λ j x y. other j (inl (omega arith)) (λ z. omega arith)) (λ j x y. other j (inr (omega arith)) (λ z. omega arith)))
+      (λ y. record {
+        units = units-set bs cs (unit (getD bs (368 + i) 0) v (set (cellsIn bs (128 + 60 * i) 15) n c)) i h (λ k. unit (flag k) (count k) (cells k))
+            (λ j k e.
+            unit-agree bs cs j k (other (368 + j) (inr (omega arith)) (λ z. omega arith)) (other (372 + j) (inr (omega arith)) (λ z. e (omega arith)))
+            (λ x p q. other x (side x j e p q (decLt i j)) (λ z. omega arith))) y;
+        holder = same-holder bs cs (λ j x y. other j (inr (omega arith)) (λ z. omega arith)) y;
+      })
+      (same-tally bs cs (λ j x y. other j (inr (omega arith)) (λ z. omega arith)))
     where
       side : (x j : ℕ) → j ≢ i → 128 + 60 * j ≤ x → x < 128 + 60 * j + 60 → Dec (i < j) → x < 128 + 4 * (15 * i + n) ⊎ 128 + 4 * (15 * i + n) + 4 ≤ x
       side x j e p q (yes o) = inr (omega arith)
@@ -301,9 +309,8 @@ module _ (bs : List ℕ) (l : length bs ≡ 448) where
       let len : getD cs 441 0 ≡ n = getD-set-other w 443 441 b 0 (λ z. omega arith) ∙ getD-set-other y 442 441 a 0 (λ z. omega arith) ∙ getD-set-same x 441 n 0 (omega arith) in
       let low : getD cs 442 0 ≡ a = getD-set-other w 443 442 b 0 (λ z. omega arith) ∙ getD-set-same y 442 a 0 (omega arith) in
       let high : getD cs 443 0 ≡ b = getD-set-same w 443 b 0 (omega arith) in
-      parts cs (same-queue bs cs (λ j p q. other j (inl (omega arith)))) head len (λ i. low i + 256 * high i)
-      (same-units bs cs (λ j p q. other j (inl (omega arith)))) (same-holder bs cs (λ j p q. other j (inl (omega arith)))) (other 444 (inr (omega arith))) (other 445 (inr (omega arith)))
-      (same-pair bs cs 446 (λ j p q. other j (inr (omega arith))))
+      parts cs (λ i. record { queue = cells-agree bs cs 0 32 (λ j p q. other j (inl (omega arith))) i; head = head i; len = len i; done = low i + 256 * high i })
+      (same-held bs cs (λ j p q. other j (inl (omega arith)))) (same-tally bs cs (λ j p q. other j (inr (omega arith))))
 
 -- What unit u holds, given up block by block: bytes cs when those before block i + 1 are done.
 pub record Freed (u : ℕ) (bs cs : List ℕ) (i : ℕ) : Type 0 where
@@ -348,9 +355,9 @@ pub freed-all : (u : ℕ) (bs cs : List ℕ) (i : ℕ) → i ≤ 64 → 64 ≤ i
 unfolding recordIn
 freed-all u bs cs i n h f =
     let high : (j : ℕ) → 440 ≤ j → getD cs j 0 ≡ getD bs j 0 = λ j m. f .others j (inr (omega arith)) in
-    parts cs (same-queue bs cs (λ j p q. f .others j (inl (omega arith)))) (high 440 (omega arith)) (high 441 (omega arith))
-    (same-pair bs cs 442 (λ j p q. high j (omega arith))) (same-units bs cs (λ j p q. f .others j (inl (omega arith)))) (holders-freed u bs cs i h f)
-    (high 444 (omega arith)) (high 445 (omega arith)) (same-pair bs cs 446 (λ j p q. high j (omega arith)))
+    parts cs (same-ring bs cs (λ j p q. f .others j (inl (omega arith))) (λ j p q. high j p))
+    (λ x. record { units = same-units bs cs (λ j p q. f .others j (inl (omega arith))) x; holder = holders-freed u bs cs i h f x })
+    (same-tally bs cs (λ j p q. high j (omega arith)))
 
 -- Every record that bytes mean has its shape.
 pub in-shaped : (bs : List ℕ) → shaped (recordIn bs) ≡ true

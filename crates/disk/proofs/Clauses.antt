@@ -22,12 +22,12 @@ use Rattle.disk.proofs.Questions.{card-length, queue-data, journal-data
 pub record LogRight (d : Disk) (z : Reader Content) : Type 0 where
   pub card : cardLength (d .card) ≡ true
   pub queueData : length (d .queueData) ≡ 8192
-  pub places : length (d .rec .queue) ≡ 32
-  pub room : d .rec .len ≤ 32
-  pub head : d .rec .head < 32
+  pub places : length (d .rec .ring .queue) ≡ 32
+  pub room : d .rec .ring .len ≤ 32
+  pub head : d .rec .ring .head < 32
   pub lawful : all (λ e. legal (raw 0 e)) (queued d) ≡ true
   pub replays : committedReader d ≡ some z
-  pub stands : headStanding (d .card) (d .rec .done) (queued d) ≡ true
+  pub stands : headStanding (d .card) (d .rec .ring .done) (queued d) ≡ true
 
 -- unit u and its journal
 pub record UnitRight (d : Disk) (u : ℕ) : Type 0 where
@@ -42,8 +42,8 @@ HolderRight d s b = (holderOf (d .rec) b ≡ 0) ⊎ ((isOpenUnit d (holderOf (d 
 
 -- the units, over the committed state s
 pub record UnitsRight (d : Disk) (s : State Content) : Type 0 where
-  pub four : length (d .rec .units) ≡ 4
-  pub table : length (d .rec .holder) ≡ 64
+  pub four : length (d .rec .held .units) ≡ 4
+  pub table : length (d .rec .held .holder) ≡ 64
   pub units : (u : ℕ) → 1 ≤ u → u ≤ 4 → UnitRight d u
   pub holders : (b : ℕ) → 1 ≤ b → b ≤ 64 → HolderRight d s b
 
@@ -52,9 +52,9 @@ pub record Right (d : Disk) : Type 0 where
   pub log : LogRight d reader
   pub units : UnitsRight d (reader .state)
   pub journalData : length (d .journalData) ≡ 15360
-  pub lastBlock : isBlock (d .rec .lastBlock) ≡ true
-  pub lastList : isList (d .rec .lastList) ≡ true
-  pub conflicts : d .rec .conflicts ≤ 65535
+  pub lastBlock : isBlock (d .rec .tally .lastBlock) ≡ true
+  pub lastList : isList (d .rec .tally .lastList) ≡ true
+  pub conflicts : d .rec .tally .conflicts ≤ 65535
 
 pub committed-is : (d : Disk) (z : Reader Content) → committedReader d ≡ some z → committed d ≡ z .state
 unfolding committed stateOf
@@ -62,9 +62,9 @@ committed-is d z e = ap {B = State Content} (λ o. stateOf o) e
 
 -- Clauses of the shape.
 record Shape (r : Record) : Type 0 where
-  queue : length (r .queue) ≡ 32
-  units : length (r .units) ≡ 4
-  holder : length (r .holder) ≡ 64
+  queue : length (r .ring .queue) ≡ 32
+  units : length (r .held .units) ≡ 4
+  holder : length (r .held .holder) ≡ 64
   journals : (u : ℕ) → 1 ≤ u → u ≤ 4 → length (unitAt r u .journal) ≡ 15
 
 for-four : (P : ℕ → Type 0) → P 1 → P 2 → P 3 → P 4 → (u : ℕ) → 1 ≤ u → u ≤ 4 → P u
@@ -82,8 +82,8 @@ shape r h =
     let (h3, j3) = and-true _ (eqb (length (unitAt r 3 .journal)) 15) h4 in
     let (h2, j2) = and-true _ (eqb (length (unitAt r 2 .journal)) 15) h3 in
     let (h1, j1) = and-true _ (eqb (length (unitAt r 1 .journal)) 15) h2 in
-    let (h0, k) = and-true _ (eqb (length (r .holder)) 64) h1 in
-    let (q, u) = and-true (eqb (length (r .queue)) 32) (eqb (length (r .units)) 4) h0 in
+    let (h0, k) = and-true _ (eqb (length (r .held .holder)) 64) h1 in
+    let (q, u) = and-true (eqb (length (r .ring .queue)) 32) (eqb (length (r .held .units)) 4) h0 in
     record {
       queue = eqb-true _ 32 q;
       units = eqb-true _ 4 u;
@@ -148,7 +148,7 @@ units-right d s e h us hs =
       holders = λ b p q. holder-right d s b e (all-from (holderSound d) (λ b. b) 1 64 hs b p (omega arith));
     }
 
-right-shaped : (d : Disk) (s : State Content) → length (d .rec .queue) ≡ 32 → UnitsRight d s → shaped (d .rec) ≡ true
+right-shaped : (d : Disk) (s : State Content) → length (d .rec .ring .queue) ≡ 32 → UnitsRight d s → shaped (d .rec) ≡ true
 unfolding unitOf
 right-shaped d s q k = shape-shaped (d .rec) (record { queue = q; units = k .four; holder = k .table; journals = λ u a b. k .units u a b .places })
 
@@ -170,8 +170,8 @@ right d l h =
         card = card-length d l;
         queueData = queue-data d l;
         places = shape r (each-at _ h 0) .queue;
-        room = leb-true (r .len) 32 (each-at _ h 1);
-        head = ltb-true (r .head) 32 (each-at _ h 2);
+        room = leb-true (r .ring .len) 32 (each-at _ h 1);
+        head = ltb-true (r .ring .head) 32 (each-at _ h 2);
         lawful = each-at _ h 6;
         replays = e;
         stands = each-at _ h 9;
@@ -180,7 +180,7 @@ right d l h =
       journalData = journal-data d l;
       lastBlock = each-at _ h 3;
       lastList = each-at _ h 4;
-      conflicts = leb-true (r .conflicts) 65535 (each-at _ h 5);
+      conflicts = leb-true (r .tally .conflicts) 65535 (each-at _ h 5);
     }
 
 pub right-sound : (d : Disk) → Right d → recordSound d ≡ true
@@ -189,8 +189,8 @@ right-sound d k =
     let r = d .rec in
     let l = k .log in
     let z = k .reader in
-    rw (right-shaped d (z .state) (l .places) (k .units), le-true (r .len) 32 (l .room), lt-true (r .head) 32 (l .head))
-    (rw (k .lastBlock, k .lastList, le-true (r .conflicts) 65535 (k .conflicts))
+    rw (right-shaped d (z .state) (l .places) (k .units), le-true (r .ring .len) 32 (l .room), lt-true (r .ring .head) 32 (l .head))
+    (rw (k .lastBlock, k .lastList, le-true (r .tally .conflicts) 65535 (k .conflicts))
     (rw (l .lawful, right-units d (z .state) (k .units), is-some (committedReader d) z (l .replays), l .stands)
     (rw (right-holders d (z .state) (committed-is d z (l .replays)) (k .units)))))
 

@@ -38,7 +38,7 @@ outcome-sound (fault g i) r e = absurd (Option·none-ne-some _ e)
 -- The segments that a sound disk's card carries, with the queue behind them.
 pub record Open (d : Disk) (z : Reader Content) : Type 0 where
   pub segs : List (List (Entry Content))
-  pub flows : Flows (d .card) segs (queued d) (d .rec .done)
+  pub flows : Flows (d .card) segs (queued d) (d .rec .ring .done)
   pub reader : Reader Content
   pub walks : readerOf (mounted (d .card)) ≡ some reader
   pub first : replay start (joined segs) ≡ some reader
@@ -53,7 +53,7 @@ open-log d z l =
     let g = good-all (queued d) (l .lawful) (queued-sized d (l .queueData)) in
     record {
       segs = ess;
-      flows = record { carries = k; good = g; head = standing-head (d .card) ess k (queued d) (d .rec .done) g (l .stands) };
+      flows = record { carries = k; good = g; head = standing-head (d .card) ess k (queued d) (d .rec .ring .done) g (l .stands) };
       reader = r;
       walks = p;
       first = v;
@@ -64,22 +64,22 @@ open-log d z l =
 abbrev pub left : ℕ → Disk → Disk
 left a d = afterFlush d (flushed a d .flow)
 
-pub flow-of : (d : Disk) (ess : List (List (Entry Content))) → Carries (d .card) ess → flowOf d ≡ flowFor (d .card) ess (queued d) (d .rec .done)
+pub flow-of : (d : Disk) (ess : List (List (Entry Content))) → Carries (d .card) ess → flowOf d ≡ flowFor (d .card) ess (queued d) (d .rec .ring .done)
 unfolding flowOf flowFor
-flow-of d ess h i = record { card = d .card; place = tail-end (d .card) ess h i; queue = queued d; done = d .rec .done }
+flow-of d ess h i = record { card = d .card; place = tail-end (d .card) ess h i; queue = queued d; done = d .rec .ring .done }
 
 flush-flow : (a : ℕ) (d : Disk) (z : Reader Content) (o : Open d z) → Flushes (flushed a d .flow) (o .segs) (queued d)
 unfolding flushed
 flush-flow a d z o =
     let c = o .flows .carries in
-    rw (flow-of d (o .segs) c, carries-segments (d .card) (o .segs) c) (flush-flows a 0 (d .card) (o .segs) (queued d) (d .rec .done) (o .flows))
+    rw (flow-of d (o .segs) c, carries-segments (d .card) (o .segs) c) (flush-flows a 0 (d .card) (o .segs) (queued d) (d .rec .ring .done) (o .flows))
 
 pub record Turn (a : ℕ) (d : Disk) (z : Reader Content) : Type 0 where
   pub before : Open d z
   pub after : Flushes (flushed a d .flow) (before .segs) (queued d)
   pub card : left a d .card ≡ after .card
   pub queue : queued (left a d) ≡ after .queue
-  pub done : left a d .rec .done ≡ after .done
+  pub done : left a d .rec .ring .done ≡ after .done
 
 module _ (d : Disk) (f : Flow) (c : List ℕ) (ess : List (List (Entry Content))) (q : List (Entry Content)) (k : ℕ) (e : f ≡ flowFor c ess q k) where
   flow-card : afterFlush d f .card ≡ c
@@ -90,7 +90,7 @@ module _ (d : Disk) (f : Flow) (c : List ℕ) (ess : List (List (Entry Content))
   unfolding flowFor
   flow-queue = ap (λ (x : Flow). x .queue) e
 
-  flow-done : afterFlush d f .rec .done ≡ k
+  flow-done : afterFlush d f .rec .ring .done ≡ k
   unfolding afterFlush flowFor
   flow-done = ap (λ (x : Flow). x .done) e
 
@@ -146,7 +146,7 @@ pub flush-size : (a : ℕ) (d : Disk) (z : Reader Content) → Turn a d z → le
 flush-size a d z t =
     ap length (t .card) ∙ t .after .flows .carries .size ∙ ap (λ (n : ℕ). 4096 * n) (t .after .size) ∙ sym (t .before .flows .carries .size)
 
-flush-stands : (a : ℕ) (d : Disk) (z : Reader Content) → Turn a d z → headStanding (left a d .card) (left a d .rec .done) (queued (left a d)) ≡ true
+flush-stands : (a : ℕ) (d : Disk) (z : Reader Content) → Turn a d z → headStanding (left a d .card) (left a d .rec .ring .done) (queued (left a d)) ≡ true
 flush-stands a d z t =
     let f = t .after in
     rw (t .queue, t .card, t .done) (head-standing (f .card) (f .segs) (f .flows .carries) (f .queue) (f .done) (f .flows .good) (f .flows .head))

@@ -65,18 +65,18 @@ module _ (bs cs : List ℕ) where
     numbers-fixed x y k l = go k l
       where
         done : pairIn bs 442 ≡ pairIn cs 442
-        done = ap (λ (r : Record). r .done) e
+        done = ap (λ (r : Record). r .ring .done) e
 
         conflicts : pairIn bs 446 ≡ pairIn cs 446
-        conflicts = ap (λ (r : Record). r .conflicts) e
+        conflicts = ap (λ (r : Record). r .tally .conflicts) e
 
         go : (k : ℕ) → k < 8 → getD bs (440 + k) 0 ≡ getD cs (440 + k) 0
-        go zero h = ap (λ (r : Record). r .head) e
-        go (suc zero) h = ap (λ (r : Record). r .len) e
+        go zero h = ap (λ (r : Record). r .ring .head) e
+        go (suc zero) h = ap (λ (r : Record). r .ring .len) e
         go (suc (suc zero)) h = omega (arith, done, x 442, y 442)
         go (suc (suc (suc zero))) h = omega (arith, done, x 442, y 442)
-        go (suc (suc (suc (suc zero)))) h = ap (λ (r : Record). r .lastBlock) e
-        go (suc (suc (suc (suc (suc zero))))) h = ap (λ (r : Record). r .lastList) e
+        go (suc (suc (suc (suc zero)))) h = ap (λ (r : Record). r .tally .lastBlock) e
+        go (suc (suc (suc (suc (suc zero))))) h = ap (λ (r : Record). r .tally .lastList) e
         go (suc (suc (suc (suc (suc (suc zero)))))) h = omega (arith, conflicts, x 446, y 446)
         go (suc (suc (suc (suc (suc (suc (suc zero))))))) h = omega (arith, conflicts, x 446, y 446)
         go (suc (suc (suc (suc (suc (suc (suc (suc k)))))))) h = absurd (omega arith)
@@ -89,11 +89,11 @@ module _ (bs cs : List ℕ) where
         at j m h = rw m h
 
         go : Dec (i < 128) → Dec (i < 368) → Dec (i < 372) → Dec (i < 376) → Dec (i < 440) → getD bs i 0 ≡ getD cs i 0
-        go (yes p) q r s t = cells-fixed 0 32 (ap (λ (r : Record). r .queue) e) i (omega arith) (omega arith)
+        go (yes p) q r s t = cells-fixed 0 32 (ap (λ (r : Record). r .ring .queue) e) i (omega arith) (omega arith)
         go (no p) (yes q) r s t = journals-fixed i (omega arith) q
         go (no p) (no q) (yes r) s t = at (368 + (i - 368)) (omega arith) (opened-fixed (i - 368) (omega arith))
         go (no p) (no q) (no r) (yes s) t = at (372 + (i - 372)) (omega arith) (len-fixed (i - 372) (omega arith))
-        go (no p) (no q) (no r) (no s) (yes t) = bytes-fixed 376 64 (ap (λ (r : Record). r .holder) e) i (omega arith) (omega arith)
+        go (no p) (no q) (no r) (no s) (yes t) = bytes-fixed 376 64 (ap (λ (r : Record). r .held .holder) e) i (omega arith) (omega arith)
         go (no p) (no q) (no r) (no s) (no t) = at (440 + (i - 440)) (omega arith) (numbers-fixed x y (i - 440) (omega arith))
 
 pub record-fixed : RecordFixed

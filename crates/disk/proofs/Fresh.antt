@@ -27,11 +27,11 @@ replay-none (some r) = refl
 module _ (d : Disk) (h : d .rec ≡ freshRecord) where
   pub fresh-queue : queued d ≡ []
   unfolding queued freshRecord from
-  fresh-queue = ap (from (queuedAt d) 0) (ap (λ (r : Record). r .len) h)
+  fresh-queue = ap (from (queuedAt d) 0) (ap (λ (r : Record). r .ring .len) h)
 
   pub fresh-journal : (u : ℕ) → journalOf d u ≡ []
   unfolding journalOf unitOf freshRecord from
-  fresh-journal u = ap (from (journalAt d u) 0) (ap (λ (r : Record). getD (r .units) (u - 1) noUnit .len) h ∙ fresh-length unitCount (u - 1))
+  fresh-journal u = ap (from (journalAt d u) 0) (ap (λ (r : Record). getD (r .held .units) (u - 1) noUnit .len) h ∙ fresh-length unitCount (u - 1))
 
   pub fresh-reader : committedReader d ≡ readerOf (mounted (d .card))
   unfolding committedReader

@@ -48,7 +48,7 @@ head-more c k [] es h = subst (λ (n : ℕ). headStanding c n es ≡ true) (sym 
 head-more c k (e ∷ q) es h = h
 
 -- The entry joins the queue.
-pub enqueue-log : (e : Entry Content) (d : Disk) (z y : Reader Content) → LogRight d z → d .rec .len < 32 → Good e → read z e ≡ some y → LogRight (enqueue e d) y
+pub enqueue-log : (e : Entry Content) (d : Disk) (z y : Reader Content) → LogRight d z → d .rec .ring .len < 32 → Good e → read z e ≡ some y → LogRight (enqueue e d) y
 unfolding all replay
 enqueue-log e d z y l m g r =
     let b = beside-one e d in
@@ -61,10 +61,10 @@ enqueue-log e d z y l m g r =
       head = rw (b .head) (l .head);
       lawful = rw q (all-append (λ x. legal (raw 0 x)) (queued d) (e ∷ []) (l .lawful) (rw (g .lawful)));
       replays = reader-more d (enqueue e d) z y (e ∷ []) (b .card) q (l .replays) (rw r);
-      stands = rw (q, b .card, b .done) (head-more (d .card) (d .rec .done) (queued d) (e ∷ []) (l .stands));
+      stands = rw (q, b .card, b .done) (head-more (d .card) (d .rec .ring .done) (queued d) (e ∷ []) (l .stands));
     }
 
-pub enqueueAll-log : (es : List (Entry Content)) (d : Disk) (z y : Reader Content) → LogRight d z → d .rec .len + length es ≤ 32 → AllGood es
+pub enqueueAll-log : (es : List (Entry Content)) (d : Disk) (z y : Reader Content) → LogRight d z → d .rec .ring .len + length es ≤ 32 → AllGood es
     → replay z es ≡ some y → LogRight (enqueueAll es d) y
 unfolding enqueueAll replay
 enqueueAll-log [] d z y l m g r = subst (LogRight d) (Option·some-injective _ _ r) l
@@ -73,8 +73,8 @@ enqueueAll-log (e ∷ es) d z y l m g r =
     enqueueAll-log es (enqueue e d) x y (enqueue-log e d z x l (omega arith) (g .0) p) (omega (arith, enqueue-length e d)) (g .1) q
 
 -- Another disk with the same card and queue.
-pub log-same : (d e : Disk) (z : Reader Content) → e .card ≡ d .card → e .queueData ≡ d .queueData → e .rec .queue ≡ d .rec .queue
-    → e .rec .head ≡ d .rec .head → e .rec .len ≡ d .rec .len → e .rec .done ≡ d .rec .done → LogRight d z → LogRight e z
+pub log-same : (d e : Disk) (z : Reader Content) → e .card ≡ d .card → e .queueData ≡ d .queueData → e .rec .ring .queue ≡ d .rec .ring .queue
+    → e .rec .ring .head ≡ d .rec .ring .head → e .rec .ring .len ≡ d .rec .ring .len → e .rec .ring .done ≡ d .rec .ring .done → LogRight d z → LogRight e z
 log-same d e z c x q h n k l =
     let s : queued e ≡ queued d = queued-same d e x q h n in
     record {

@@ -35,22 +35,22 @@ released-at u hs i = getD-map (λ h. cond (eqb h u) 0 h) hs i (none (eqb 0 u))
 
 pub closing-holder : (u : ℕ) (d : Disk) (b : ℕ) → holderOf (d .rec) b ≢ u → holderOf (closing u d .rec) b ≡ holderOf (d .rec) b
 unfolding closing
-closing-holder u d b n = released-at u (d .rec .holder) (b - 1) ∙ rw (eqb-false (holderOf (d .rec) b) u n)
+closing-holder u d b n = released-at u (d .rec .held .holder) (b - 1) ∙ rw (eqb-false (holderOf (d .rec) b) u n)
 
 pub closing-released : (u : ℕ) (d : Disk) (b : ℕ) → holderOf (d .rec) b ≡ u → holderOf (closing u d .rec) b ≡ 0
 unfolding closing
-closing-released u d b e = released-at u (d .rec .holder) (b - 1) ∙ rw (eq-true (holderOf (d .rec) b) u e)
+closing-released u d b e = released-at u (d .rec .held .holder) (b - 1) ∙ rw (eq-true (holderOf (d .rec) b) u e)
 
 -- A block that stream s makes: unit s holds it; stream 0 holds nothing.
-pub hold-holder : (s b : ℕ) (d : Disk) → 1 ≤ b → b ≤ length (d .rec .holder) → holderOf (d .rec) b ≡ 0 → holderOf (hold s b d .rec) b ≡ s
+pub hold-holder : (s b : ℕ) (d : Disk) → 1 ≤ b → b ≤ length (d .rec .held .holder) → holderOf (d .rec) b ≡ 0 → holderOf (hold s b d .rec) b ≡ s
 unfolding hold
 hold-holder zero b d p q h = h
-hold-holder (suc u) b d p q h = getD-set-same (d .rec .holder) (b - 1) (suc u) 0 (omega arith)
+hold-holder (suc u) b d p q h = getD-set-same (d .rec .held .holder) (b - 1) (suc u) 0 (omega arith)
 
 pub hold-other : (s b x : ℕ) (d : Disk) → holderOf (d .rec) b ≡ 0 → holderOf (d .rec) x ≢ 0 → holderOf (hold s b d .rec) x ≡ holderOf (d .rec) x
 unfolding hold
 hold-other zero b x d h n = refl
-hold-other (suc u) b x d h n = getD-set-other (d .rec .holder) (b - 1) (x - 1) (suc u) 0 (λ e. n (ap (λ (i : ℕ). getD (d .rec .holder) i 0) e ∙ h))
+hold-other (suc u) b x d h n = getD-set-other (d .rec .held .holder) (b - 1) (x - 1) (suc u) 0 (λ e. n (ap (λ (i : ℕ). getD (d .rec .held .holder) i 0) e ∙ h))
 
 -- Blocks that a change puts, as a test and as a list.
 module _ {D : Type 0} (p : ℕ → Bool) where

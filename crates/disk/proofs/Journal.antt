@@ -26,22 +26,22 @@ use Rattle.disk.proofs.Buffer.{length-spliced, filled-place, other-plac
 use Rattle.disk.proofs.Queue.{beside-one, beside-all, AllSized, change-fill, change-sized}
 
 -- What a unit is after each step.
-pub unit-same : (d e : Disk) (u : ℕ) → e .rec .units ≡ d .rec .units → unitOf e u ≡ unitOf d u
+pub unit-same : (d e : Disk) (u : ℕ) → e .rec .held .units ≡ d .rec .held .units → unitOf e u ≡ unitOf d u
 unfolding unitOf
 unit-same d e u h = ap (λ (us : List Unit). getD us (u - 1) noUnit) h
 
-pub unit-added : (u : ℕ) (c : Change Content) (d : Disk) → 1 ≤ u → u ≤ 4 → length (d .rec .units) ≡ 4
+pub unit-added : (u : ℕ) (c : Change Content) (d : Disk) → 1 ≤ u → u ≤ 4 → length (d .rec .held .units) ≡ 4
     → unitOf (journalAdd u c d) u ≡ journaled (unitOf d u) (cellOf (plain c))
 unfolding unitOf journalAdd
-unit-added u c d p q n = getD-set-same (d .rec .units) (u - 1) _ noUnit (omega arith)
+unit-added u c d p q n = getD-set-same (d .rec .held .units) (u - 1) _ noUnit (omega arith)
 
-pub unit-opening : (u : ℕ) (d : Disk) → 1 ≤ u → u ≤ 4 → length (d .rec .units) ≡ 4 → unitOf (opening u d) u ≡ emptied 1 (unitOf d u)
+pub unit-opening : (u : ℕ) (d : Disk) → 1 ≤ u → u ≤ 4 → length (d .rec .held .units) ≡ 4 → unitOf (opening u d) u ≡ emptied 1 (unitOf d u)
 unfolding unitOf opening
-unit-opening u d p q n = getD-set-same (d .rec .units) (u - 1) _ noUnit (omega arith)
+unit-opening u d p q n = getD-set-same (d .rec .held .units) (u - 1) _ noUnit (omega arith)
 
-pub unit-closing : (u : ℕ) (d : Disk) → 1 ≤ u → u ≤ 4 → length (d .rec .units) ≡ 4 → unitOf (closing u d) u ≡ emptied 0 (unitOf d u)
+pub unit-closing : (u : ℕ) (d : Disk) → 1 ≤ u → u ≤ 4 → length (d .rec .held .units) ≡ 4 → unitOf (closing u d) u ≡ emptied 0 (unitOf d u)
 unfolding unitOf closing
-unit-closing u d p q n = getD-set-same (d .rec .units) (u - 1) _ noUnit (omega arith)
+unit-closing u d p q n = getD-set-same (d .rec .held .units) (u - 1) _ noUnit (omega arith)
 
 module _ (u v : ℕ) (p : 1 ≤ u) (q : 1 ≤ v) (n : u ≢ v) where
   unit-other : (us : List Unit) (x : Unit) → getD (set us (u - 1) x) (v - 1) noUnit ≡ getD us (v - 1) noUnit
@@ -49,15 +49,15 @@ module _ (u v : ℕ) (p : 1 ≤ u) (q : 1 ≤ v) (n : u ≢ v) where
 
   pub unit-added-other : (c : Change Content) (d : Disk) → unitOf (journalAdd u c d) v ≡ unitOf d v
   unfolding unitOf journalAdd
-  unit-added-other c d = unit-other (d .rec .units) _
+  unit-added-other c d = unit-other (d .rec .held .units) _
 
   pub unit-opening-other : (d : Disk) → unitOf (opening u d) v ≡ unitOf d v
   unfolding unitOf opening
-  unit-opening-other d = unit-other (d .rec .units) _
+  unit-opening-other d = unit-other (d .rec .held .units) _
 
   pub unit-closing-other : (d : Disk) → unitOf (closing u d) v ≡ unitOf d v
   unfolding unitOf closing
-  unit-closing-other d = unit-other (d .rec .units) _
+  unit-closing-other d = unit-other (d .rec .held .units) _
 
 -- Journals.
 pub journal-size : (d : Disk) (u : ℕ) → length (journalOf d u) ≡ unitOf d u .len
@@ -78,21 +78,21 @@ module _ (u : ℕ) (c : Change Content) (d : Disk) (p : 1 ≤ u) (q : u ≤ 4) (
   unfolding journalAdd
   journal-data-add = length-spliced (d .journalData) _ (carriedBy c) (omega arith) z ∙ l
 
-  journal-new : length (d .rec .units) ≡ 4 → length (unitOf d u .journal) ≡ 15 → journalAt (journalAdd u c d) u (unitOf d u .len) ≡ c
+  journal-new : length (d .rec .held .units) ≡ 4 → length (unitOf d u .journal) ≡ 15 → journalAt (journalAdd u c d) u (unitOf d u .len) ≡ c
   unfolding journalAt journalAdd
   journal-new n k =
       rw (unit-added u c d p q n)
       (rw (getD-set-same (unitOf d u .journal) (unitOf d u .len) (cellOf (plain c)) noCell (omega arith))
       (change-fill _ c (filled-place (d .journalData) (journalPlace u (unitOf d u .len)) (carriedBy c) (omega arith) z)))
 
-  journal-old : length (d .rec .units) ≡ 4 → (k : ℕ) → k < unitOf d u .len → journalAt (journalAdd u c d) u k ≡ journalAt d u k
+  journal-old : length (d .rec .held .units) ≡ 4 → (k : ℕ) → k < unitOf d u .len → journalAt (journalAdd u c d) u k ≡ journalAt d u k
   unfolding journalAt journalAdd
   journal-old n k h =
       rw (unit-added u c d p q n)
       (rw (getD-set-other (unitOf d u .journal) (unitOf d u .len) k (cellOf (plain c)) noCell (omega arith))
       (rw (other-place (d .journalData) (journalPlace u (unitOf d u .len)) (journalPlace u k) (carriedBy c) (omega arith) (omega arith) z (omega arith))))
 
-  pub journal-add : length (d .rec .units) ≡ 4 → length (unitOf d u .journal) ≡ 15 → journalOf (journalAdd u c d) u ≡ journalOf d u ++ c ∷ []
+  pub journal-add : length (d .rec .held .units) ≡ 4 → length (unitOf d u .journal) ≡ 15 → journalOf (journalAdd u c d) u ≡ journalOf d u ++ c ∷ []
   unfolding journalOf
   journal-add n k =
       ap (from f 0) (ap (λ (x : Unit). x .len) (unit-added u c d p q n) ∙ add-one (unitOf d u .len))
@@ -130,7 +130,7 @@ empty-set (y ∷ us) (suc i) x h = empty-set us i x h
 
 closing-len : (u : ℕ) (d : Disk) → unitOf (closing u d) u .len ≡ 0
 unfolding unitOf closing
-closing-len u d = empty-set (d .rec .units) (u - 1) _ refl
+closing-len u d = empty-set (d .rec .held .units) (u - 1) _ refl
 
 pub journal-closing : (u : ℕ) (d : Disk) → journalOf (closing u d) u ≡ []
 journal-closing u d = journal-none (closing u d) u (closing-len u d)
@@ -141,7 +141,7 @@ journal-closing-other u v d p q n = journal-same d (closing u d) v refl (unit-cl
 
 opening-len : (u v : ℕ) (d : Disk) → v - 1 ≡ u - 1 → unitOf (opening u d) v .len ≡ 0
 unfolding unitOf opening
-opening-len u v d e = rw e (empty-set (d .rec .units) (u - 1) _ refl)
+opening-len u v d e = rw e (empty-set (d .rec .held .units) (u - 1) _ refl)
 
 pub journal-opening : (u v : ℕ) (d : Disk) → unitOf d u .len ≡ 0 → journalOf (opening u d) v ≡ journalOf d v
 unfolding unitOf opening
@@ -149,7 +149,7 @@ journal-opening u v d h = go (ℕ-discrete (v - 1) (u - 1))
   where
     go : Dec (v - 1 ≡ u - 1) → journalOf (opening u d) v ≡ journalOf d v
     go (yes e) = journal-none (opening u d) v (opening-len u v d e) ∙ sym (journal-none d v (rw e h))
-    go (no e) = journal-same d (opening u d) v refl (getD-set-other (d .rec .units) (u - 1) (v - 1) _ noUnit e)
+    go (no e) = journal-same d (opening u d) v refl (getD-set-other (d .rec .held .units) (u - 1) (v - 1) _ noUnit e)
 
 -- The entries that a unit's end queues, and their data.
 pub unit-entries : (cs : List (Change Content)) → length (unitEntries cs) ≡ suc (length cs)

@@ -149,7 +149,7 @@ journal-right u c d o m x g f k =
     }
 
 -- Entries that join the queue.
-enqueueAll-right : (es : List (Entry Content)) (d : Disk) (k : Right d) (z : Reader Content) → d .rec .len + length es ≤ 32 → AllGood es
+enqueueAll-right : (es : List (Entry Content)) (d : Disk) (k : Right d) (z : Reader Content) → d .rec .ring .len + length es ≤ 32 → AllGood es
     → replay (k .reader) es ≡ some z → UnitsRight d (z .state) → Right (enqueueAll es d)
 enqueueAll-right es d k z m g r u =
     let b = beside-all es d in
@@ -168,7 +168,7 @@ unfolding read
 plain-read z c s a = rw a
 
 -- a change on stream 0; what it puts is held by no unit
-plain-right : (c : Change Content) (d : Disk) → d .rec .len < 32 → Good (plain c) → applies c (committed d .lists) ≡ true
+plain-right : (c : Change Content) (d : Disk) → d .rec .ring .len < 32 → Good (plain c) → applies c (committed d .lists) ≡ true
     → ((b : ℕ) → puts c b ≡ true → holderOf (d .rec) b ≡ 0) → Right d → Right (enqueue (plain c) d)
 plain-right c d m g a f k =
     let b = beside-one (plain c) d in
@@ -299,7 +299,7 @@ unfolding enqueueAll
 closing-enqueueAll u [] d = refl
 closing-enqueueAll u (e ∷ es) d = closing-enqueueAll u es (enqueue e d) ∙ ap (enqueueAll es) (closing-enqueue u e d)
 
-closing-len : (u : ℕ) (d : Disk) → closing u d .rec .len ≡ d .rec .len
+closing-len : (u : ℕ) (d : Disk) → closing u d .rec .ring .len ≡ d .rec .ring .len
 unfolding closing
 closing-len u d = refl
 

@@ -124,11 +124,11 @@ open-views d P p c f v h = go (eqb v 5) refl (eqb v 0) refl
     go false e true g = rw (e, g) c
     go false e false g = rw (e, g) (f v (rw (e, g) at h))
 
-pub queue-room : (d : Disk) (n : ℕ) → queueRoom d n ≡ true → d .rec .len + n ≤ 32
+pub queue-room : (d : Disk) (n : ℕ) → queueRoom d n ≡ true → d .rec .ring .len + n ≤ 32
 unfolding queueRoom
-queue-room d n h = leb-true (d .rec .len + n) 32 h
+queue-room d n h = leb-true (d .rec .ring .len + n) 32 h
 
-pub stream-room : (d : Disk) → streamRoom d 0 ≡ true → d .rec .len < 32
+pub stream-room : (d : Disk) → streamRoom d 0 ≡ true → d .rec .ring .len < 32
 unfolding streamRoom
 stream-room d h = omega (arith, queue-room d 1 h)
 
@@ -160,7 +160,7 @@ pub list-number : (d : Disk) → isSome (freeList d) ≡ true
 unfolding freeList orElse
 list-number d h =
     let (n, e) = some-of (freeList d) h in
-    let f = free-from (λ l. taken l (committed d .lists)) 16 16 (d .rec .lastList) n (omega arith) e in
+    let f = free-from (λ l. taken l (committed d .lists)) 16 16 (d .rec .tally .lastList) n (omega arith) e in
     rw e (f .0, in-range 16 n (f .1) (f .2))
 
 -- the block that NewBlock gives: on no list, held by no unit, and in range
@@ -169,6 +169,6 @@ pub block-number : (d : Disk) → isSome (freeBlock d) ≡ true
 unfolding freeBlock orElse
 block-number d h =
     let (n, e) = some-of (freeBlock d) h in
-    let f = free-from (λ b. placed b (committed d .lists) || not (eqb (holderOf (d .rec) b) 0)) 64 64 (d .rec .lastBlock) n (omega arith) e in
+    let f = free-from (λ b. placed b (committed d .lists) || not (eqb (holderOf (d .rec) b) 0)) 64 64 (d .rec .tally .lastBlock) n (omega arith) e in
     let (a, b) = or-both (placed n (committed d .lists)) (not (eqb (holderOf (d .rec) n) 0)) (f .0) in
     rw e (a, eqb-true _ 0 (false-not (eqb (holderOf (d .rec) n) 0) b), in-range 64 n (f .1) (f .2))

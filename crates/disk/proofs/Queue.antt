@@ -58,53 +58,53 @@ ring-fits : (n : ℕ) → 256 * (n % 32) + 256 ≤ 8192
 ring-fits n = omega arith
 
 -- The entry joins the queue.
-pub enqueue-length : (e : Entry Content) (d : Disk) → enqueue e d .rec .len ≡ suc (d .rec .len)
+pub enqueue-length : (e : Entry Content) (d : Disk) → enqueue e d .rec .ring .len ≡ suc (d .rec .ring .len)
 unfolding enqueue
-enqueue-length e d = add-one (d .rec .len)
+enqueue-length e d = add-one (d .rec .ring .len)
 
-pub enqueue-places : (e : Entry Content) (d : Disk) → length (enqueue e d .rec .queue) ≡ length (d .rec .queue)
+pub enqueue-places : (e : Entry Content) (d : Disk) → length (enqueue e d .rec .ring .queue) ≡ length (d .rec .ring .queue)
 unfolding enqueue
-enqueue-places e d = length-set (d .rec .queue) _ (cellOf e)
+enqueue-places e d = length-set (d .rec .ring .queue) _ (cellOf e)
 
 pub enqueue-data : (e : Entry Content) (d : Disk) → length (d .queueData) ≡ 8192 → Sized (carried e) → length (enqueue e d .queueData) ≡ 8192
 unfolding enqueue
-enqueue-data e d l z = length-spliced (d .queueData) _ (carried e) (omega (arith, l, ring-fits (d .rec .head + d .rec .len))) z ∙ l
+enqueue-data e d l z = length-spliced (d .queueData) _ (carried e) (omega (arith, l, ring-fits (d .rec .ring .head + d .rec .ring .len))) z ∙ l
 
-pub queue-length : (d : Disk) → length (queued d) ≡ d .rec .len
+pub queue-length : (d : Disk) → length (queued d) ≡ d .rec .ring .len
 unfolding queued
-queue-length d = from-length (queuedAt d) 0 (d .rec .len)
+queue-length d = from-length (queuedAt d) 0 (d .rec .ring .len)
 
-queued-new : (e : Entry Content) (d : Disk) → length (d .queueData) ≡ 8192 → length (d .rec .queue) ≡ 32 → Sized (carried e) → queuedAt (enqueue e d) (d .rec .len) ≡ e
+queued-new : (e : Entry Content) (d : Disk) → length (d .queueData) ≡ 8192 → length (d .rec .ring .queue) ≡ 32 → Sized (carried e) → queuedAt (enqueue e d) (d .rec .ring .len) ≡ e
 unfolding queuedAt enqueue
 queued-new e d l q z =
-    rw (getD-set-same (d .rec .queue) p (cellOf e) noCell (omega (arith, ring-small (d .rec .head + d .rec .len))))
-    (entry-fill (slot (spliceSome (d .queueData) (256 * p) (carried e)) p) e (filled-place (d .queueData) p (carried e) (omega (arith, ring-fits (d .rec .head + d .rec .len))) z))
+    rw (getD-set-same (d .rec .ring .queue) p (cellOf e) noCell (omega (arith, ring-small (d .rec .ring .head + d .rec .ring .len))))
+    (entry-fill (slot (spliceSome (d .queueData) (256 * p) (carried e)) p) e (filled-place (d .queueData) p (carried e) (omega (arith, ring-fits (d .rec .ring .head + d .rec .ring .len))) z))
   where
     p : ℕ
-    p = ringPlace (d .rec) (d .rec .len)
+    p = ringPlace (d .rec) (d .rec .ring .len)
 
-queued-old : (e : Entry Content) (d : Disk) (k : ℕ) → length (d .queueData) ≡ 8192 → d .rec .len < 32 → Sized (carried e) → k < d .rec .len
+queued-old : (e : Entry Content) (d : Disk) (k : ℕ) → length (d .queueData) ≡ 8192 → d .rec .ring .len < 32 → Sized (carried e) → k < d .rec .ring .len
     → queuedAt (enqueue e d) k ≡ queuedAt d k
 unfolding queuedAt enqueue
 queued-old e d k l m z a =
-    rw (getD-set-other (d .rec .queue) p j (cellOf e) noCell (ring-apart (d .rec .head) k (d .rec .len) a m))
-    (rw (other-place (d .queueData) p j (carried e) (omega (arith, ring-fits (d .rec .head + d .rec .len))) (omega (arith, ring-fits (d .rec .head + k))) z
-    (λ e. ring-apart (d .rec .head) k (d .rec .len) a m (sym e))))
+    rw (getD-set-other (d .rec .ring .queue) p j (cellOf e) noCell (ring-apart (d .rec .ring .head) k (d .rec .ring .len) a m))
+    (rw (other-place (d .queueData) p j (carried e) (omega (arith, ring-fits (d .rec .ring .head + d .rec .ring .len))) (omega (arith, ring-fits (d .rec .ring .head + k))) z
+    (λ e. ring-apart (d .rec .ring .head) k (d .rec .ring .len) a m (sym e))))
   where
     p : ℕ
-    p = ringPlace (d .rec) (d .rec .len)
+    p = ringPlace (d .rec) (d .rec .ring .len)
 
     j : ℕ
     j = ringPlace (d .rec) k
 
-pub queued-add : (e : Entry Content) (d : Disk) → length (d .queueData) ≡ 8192 → length (d .rec .queue) ≡ 32 → d .rec .len < 32 → Sized (carried e)
+pub queued-add : (e : Entry Content) (d : Disk) → length (d .queueData) ≡ 8192 → length (d .rec .ring .queue) ≡ 32 → d .rec .ring .len < 32 → Sized (carried e)
     → queued (enqueue e d) ≡ queued d ++ e ∷ []
 unfolding queued
 queued-add e d l q m z =
     ap (from f 0) (enqueue-length e d)
-    ∙ from-snoc f 0 (d .rec .len)
-    ∙ ap (λ (x : Entry Content). from f 0 (d .rec .len) ++ x ∷ []) (ap f (zero-add (d .rec .len)) ∙ queued-new e d l q z)
-    ∙ ap (λ (r : List (Entry Content)). r ++ e ∷ []) (from-ext f (queuedAt d) (d .rec .len) (λ k a. queued-old e d k l m z a))
+    ∙ from-snoc f 0 (d .rec .ring .len)
+    ∙ ap (λ (x : Entry Content). from f 0 (d .rec .ring .len) ++ x ∷ []) (ap f (zero-add (d .rec .ring .len)) ∙ queued-new e d l q z)
+    ∙ ap (λ (r : List (Entry Content)). r ++ e ∷ []) (from-ext f (queuedAt d) (d .rec .ring .len) (λ k a. queued-old e d k l m z a))
   where
     f : ℕ → Entry Content
     f = queuedAt (enqueue e d)
@@ -114,7 +114,7 @@ abbrev pub AllSized : List (Entry Content) → Type 0
 AllSized [] = Unit {0}
 AllSized (e ∷ es) = Sized (carried e) × AllSized es
 
-pub queued-all : (es : List (Entry Content)) (d : Disk) → length (d .queueData) ≡ 8192 → length (d .rec .queue) ≡ 32 → d .rec .len + length es ≤ 32 → AllSized es
+pub queued-all : (es : List (Entry Content)) (d : Disk) → length (d .queueData) ≡ 8192 → length (d .rec .ring .queue) ≡ 32 → d .rec .ring .len + length es ≤ 32 → AllSized es
     → queued (enqueueAll es d) ≡ queued d ++ es
 unfolding enqueueAll
 queued-all [] d l q m z = sym (append-nil (queued d))
@@ -128,7 +128,7 @@ unfolding enqueueAll
 enqueueAll-data [] d l z = l
 enqueueAll-data (e ∷ es) d l z = enqueueAll-data es (enqueue e d) (enqueue-data e d l (z .0)) (z .1)
 
-pub enqueueAll-length : (es : List (Entry Content)) (d : Disk) → enqueueAll es d .rec .len ≡ d .rec .len + length es
+pub enqueueAll-length : (es : List (Entry Content)) (d : Disk) → enqueueAll es d .rec .ring .len ≡ d .rec .ring .len + length es
 unfolding enqueueAll
 enqueueAll-length [] d = omega arith
 enqueueAll-length (e ∷ es) d = omega (arith, enqueueAll-length es (enqueue e d), enqueue-length e d)
@@ -156,24 +156,24 @@ sized-from f k (suc n) h = (h k, sized-from f (suc k) n h)
 
 sized-at : (d : Disk) (k : ℕ) → length (d .queueData) ≡ 8192 → Sized (carried (queuedAt d k))
 unfolding queuedAt
-sized-at d k l = entry-sized _ _ (length-slot (d .queueData) (ringPlace (d .rec) k) (omega (arith, ring-fits (d .rec .head + k))))
+sized-at d k l = entry-sized _ _ (length-slot (d .queueData) (ringPlace (d .rec) k) (omega (arith, ring-fits (d .rec .ring .head + k))))
 
 pub queued-sized : (d : Disk) → length (d .queueData) ≡ 8192 → AllSized (queued d)
 unfolding queued
-queued-sized d l = sized-from (queuedAt d) 0 (d .rec .len) (λ k. sized-at d k l)
+queued-sized d l = sized-from (queuedAt d) 0 (d .rec .ring .len) (λ k. sized-at d k l)
 
 -- what the queue's growth leaves alone
 pub record Beside (d e : Disk) : Type 0 where
   pub card : e .card ≡ d .card
   pub journalData : e .journalData ≡ d .journalData
-  pub places : length (e .rec .queue) ≡ length (d .rec .queue)
-  pub head : e .rec .head ≡ d .rec .head
-  pub done : e .rec .done ≡ d .rec .done
-  pub units : e .rec .units ≡ d .rec .units
-  pub holder : e .rec .holder ≡ d .rec .holder
-  pub lastBlock : e .rec .lastBlock ≡ d .rec .lastBlock
-  pub lastList : e .rec .lastList ≡ d .rec .lastList
-  pub conflicts : e .rec .conflicts ≡ d .rec .conflicts
+  pub places : length (e .rec .ring .queue) ≡ length (d .rec .ring .queue)
+  pub head : e .rec .ring .head ≡ d .rec .ring .head
+  pub done : e .rec .ring .done ≡ d .rec .ring .done
+  pub units : e .rec .held .units ≡ d .rec .held .units
+  pub holder : e .rec .held .holder ≡ d .rec .held .holder
+  pub lastBlock : e .rec .tally .lastBlock ≡ d .rec .tally .lastBlock
+  pub lastList : e .rec .tally .lastList ≡ d .rec .tally .lastList
+  pub conflicts : e .rec .tally .conflicts ≡ d .rec .tally .conflicts
 
 pub beside-one : (e : Entry Content) (d : Disk) → Beside d (enqueue e d)
 unfolding enqueue
@@ -181,7 +181,7 @@ beside-one e d =
     record {
       card = refl;
       journalData = refl;
-      places = length-set (d .rec .queue) _ (cellOf e);
+      places = length-set (d .rec .ring .queue) _ (cellOf e);
       head = refl;
       done = refl;
       units = refl;
@@ -226,32 +226,32 @@ beside-all (e ∷ es) d =
 ring-shift : (h n k : ℕ) → ((h + n) % 32 + k) % 32 ≡ (h + (n + k)) % 32
 ring-shift h n k = mod-add-mod (h + n) 32 k ∙ ap (λ (m : ℕ). m % 32) (let e : h + n + k ≡ h + (n + k) = omega arith in e)
 
-drained-at : (d : Disk) (f : Flow) (k : ℕ) → queuedAt (afterFlush d f) k ≡ queuedAt d (d .rec .len - length (f .queue) + k)
+drained-at : (d : Disk) (f : Flow) (k : ℕ) → queuedAt (afterFlush d f) k ≡ queuedAt d (d .rec .ring .len - length (f .queue) + k)
 unfolding queuedAt afterFlush
-drained-at d f k = rw (ring-shift (d .rec .head) (d .rec .len - length (f .queue)) k)
+drained-at d f k = rw (ring-shift (d .rec .ring .head) (d .rec .ring .len - length (f .queue)) k)
 
-pub queued-flushed : (d : Disk) (f : Flow) (n : ℕ) → n ≤ d .rec .len → f .queue ≡ drop n (queued d) → queued (afterFlush d f) ≡ f .queue
+pub queued-flushed : (d : Disk) (f : Flow) (n : ℕ) → n ≤ d .rec .ring .len → f .queue ≡ drop n (queued d) → queued (afterFlush d f) ≡ f .queue
 unfolding queued afterFlush
 queued-flushed d f n h e =
     ap (from (queuedAt (afterFlush d f)) 0) left
     ∙ from-shift (queuedAt (afterFlush d f)) (queuedAt d) 0 (0 + n) m
-    (λ k o. ap (queuedAt (afterFlush d f)) (zero-add k) ∙ drained-at d f k ∙ ap (queuedAt d) (let p : d .rec .len - length (f .queue) + k ≡ 0 + n + k = omega (arith, left) in p))
+    (λ k o. ap (queuedAt (afterFlush d f)) (zero-add k) ∙ drained-at d f k ∙ ap (queuedAt d) (let p : d .rec .ring .len - length (f .queue) + k ≡ 0 + n + k = omega (arith, left) in p))
     ∙ sym (from-drop (queuedAt d) 0 n m)
-    ∙ ap (λ (j : ℕ). drop n (from (queuedAt d) 0 j)) (let p : n + m ≡ d .rec .len = omega arith in p)
+    ∙ ap (λ (j : ℕ). drop n (from (queuedAt d) 0 j)) (let p : n + m ≡ d .rec .ring .len = omega arith in p)
     ∙ sym e
   where
     m : ℕ
-    m = d .rec .len - n
+    m = d .rec .ring .len - n
 
     left : length (f .queue) ≡ m
     left = ap length e ∙ length-drop n (queued d) ∙ ap (λ (j : ℕ). j - n) (queue-length d)
 
-pub flushed-head : (d : Disk) (f : Flow) → afterFlush d f .rec .head < 32
+pub flushed-head : (d : Disk) (f : Flow) → afterFlush d f .rec .ring .head < 32
 unfolding afterFlush
-flushed-head d f = ring-small (d .rec .head + (d .rec .len - length (f .queue)))
+flushed-head d f = ring-small (d .rec .ring .head + (d .rec .ring .len - length (f .queue)))
 
 -- What leaves the queue alone.
-pub queued-same : (d e : Disk) → e .queueData ≡ d .queueData → e .rec .queue ≡ d .rec .queue → e .rec .head ≡ d .rec .head → e .rec .len ≡ d .rec .len
+pub queued-same : (d e : Disk) → e .queueData ≡ d .queueData → e .rec .ring .queue ≡ d .rec .ring .queue → e .rec .ring .head ≡ d .rec .ring .head → e .rec .ring .len ≡ d .rec .ring .len
     → queued e ≡ queued d
 unfolding queued queuedAt
 queued-same d e a b c n i =

@@ -40,7 +40,7 @@ queue-ready c k (e ∷ q) h = head-ready c k (home (segmentsIn c) (tail c) e) e 
 
 pub flow-ready : (d : Disk) → Right d → Ready (segmentsIn (d .card)) (flowOf d .place) (flowOf d .queue) (flowOf d .done)
 unfolding flowOf
-flow-ready d k = queue-ready (d .card) (d .rec .done) (queued d) (k .log .stands)
+flow-ready d k = queue-ready (d .card) (d .rec .ring .done) (queued d) (k .log .stands)
 
 -- the disk that a flush leaves stands in the flow that it ended with, on as many segments
 pub left-flow : (a : ℕ) (d : Disk) → Right d → flowOf (left a d) ≡ flushed a d .flow
@@ -98,12 +98,12 @@ data-from f k (suc n) h = (h k, data-from f (suc k) n h)
 
 queue-bytes : (d : Disk) → AllBytes (d .queueData) → AllDataBytes (queued d)
 unfolding queued queuedAt
-queue-bytes d h = data-from _ 0 (d .rec .len) (λ k. entry-data _ _ (bytes-slot (d .queueData) (ringPlace (d .rec) k) h))
+queue-bytes d h = data-from _ 0 (d .rec .ring .len) (λ k. entry-data _ _ (bytes-slot (d .queueData) (ringPlace (d .rec) k) h))
 
 pub todo-in : (d : Disk) → Right d → AllBytes (d .queueData) → AllIn (segmentsIn (d .card)) (todo d)
 unfolding todo rest flowOf
 todo-in d k b =
     let o = open-log d (k .reader) (k .log) in
     let n = segmentsIn (d .card) in
-    in-drop n (d .rec .done) (ahead n (tail (d .card)) (queued d))
+    in-drop n (d .rec .ring .done) (ahead n (tail (d .card)) (queued d))
     (ahead-in n (tail (d .card)) (queued d) (sane-tail (d .card) (o .segs) (o .flows .carries)) (o .flows .good) (queue-bytes d b))

@@ -105,12 +105,12 @@ flush-in-order d l s =
     let k = right d l s in
     let o = open-log d (k .reader) (k .log) in
     let c = o .flows .carries in
-    let i : (a : ℕ) → flushOf a 0 (d .card) (o .segs) (queued d) (d .rec .done) ≡ flushed a d
+    let i : (a : ℕ) → flushOf a 0 (d .card) (o .segs) (queued d) (d .rec .ring .done) ≡ flushed a d
     = λ a. sym (λ j. flushFrom (carries-segments (d .card) (o .segs) c j) a 0 (flow-of d (o .segs) c j)) in
     record {
       only = λ a c′ w. steps-only w 0 (o .segs) (o .flows) ∙ ap cardOf (i a);
-      each = λ a e. subst (λ (x : Flushed). Steps (d .card) (queued d) (d .rec .done) a (cardOf x)) (i a)
-          (steps-each a 0 (d .card) (o .segs) (queued d) (d .rec .done) (o .flows) (ap (λ (x : Flushed). x .stores) (i a) ∙ e ∙ omega arith));
+      each = λ a e. subst (λ (x : Flushed). Steps (d .card) (queued d) (d .rec .ring .done) a (cardOf x)) (i a)
+          (steps-each a 0 (d .card) (o .segs) (queued d) (d .rec .ring .done) (o .flows) (ap (λ (x : Flushed). x .stores) (i a) ∙ e ∙ omega arith));
     }
 
 -- The steps of a formatting with g segments to come.

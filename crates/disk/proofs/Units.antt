@@ -61,7 +61,7 @@ units-state d s t f k = record { four = k .four; table = k .table; units = k .un
     go b p q (inr (o, n)) = inr (o, f b p q o n)
 
 -- Another disk with the same units and holders.
-pub units-same : (d e : Disk) (s : State Content) → e .journalData ≡ d .journalData → e .rec .units ≡ d .rec .units → e .rec .holder ≡ d .rec .holder → UnitsRight d s → UnitsRight e s
+pub units-same : (d e : Disk) (s : State Content) → e .journalData ≡ d .journalData → e .rec .held .units ≡ d .rec .held .units → e .rec .held .holder ≡ d .rec .held .holder → UnitsRight d s → UnitsRight e s
 units-same d e s j u h k = record {
   four = rw u (k .four);
   table = rw h (k .table);
@@ -81,7 +81,7 @@ pub hold-units : (u b : ℕ) (d : Disk) (s : State Content) → isOpenUnit d (su
 unfolding hold
 hold-units u b d s o p q z n k = record {
   four = k .four;
-  table = length-set (d .rec .holder) (b - 1) (suc u) ∙ k .table;
+  table = length-set (d .rec .held .holder) (b - 1) (suc u) ∙ k .table;
   units = λ v x y. unit-kept d e v (unit v) (journal-hold (suc u) b d v) (λ c h. hold-other (suc u) b c d z (λ w. omega arith) ∙ h) (k .units v x y);
   holders = λ c x y. go c x y (ℕ-discrete c b);
 }
@@ -98,7 +98,7 @@ hold-units u b d s o p q z n k = record {
     go : (c : ℕ) → 1 ≤ c → c ≤ 64 → Dec (c ≡ b) → HolderRight e s c
     go c x y (yes w) = inr (rw w (rw (hold-holder (suc u) b d p (omega (arith, k .table)) z) (still (suc u) o)), rw w n)
     go c x y (no w) =
-        holder-kept d e s c (getD-set-other (d .rec .holder) (b - 1) (c - 1) (suc u) 0 (omega arith)) (λ v h. still v) (k .holders c x y)
+        holder-kept d e s c (getD-set-other (d .rec .held .holder) (b - 1) (c - 1) (suc u) 0 (omega arith)) (λ v h. still v) (k .holders c x y)
 
 -- A change joins unit u's journal: what it puts is held by u.
 module _ (u : ℕ) (c : Change Content) (d : Disk) (s : State Content) (o : isOpenUnit d u ≡ true) (l : length (d .journalData) ≡ 15360) (m : unitOf d u .len < 15)
@@ -106,11 +106,11 @@ module _ (u : ℕ) (c : Change Content) (d : Disk) (s : State Content) (o : isOp
   abbrev added : Disk
   added = journalAdd u c d
 
-  added-four : length (d .rec .units) ≡ 4 → length (added .rec .units) ≡ 4
+  added-four : length (d .rec .held .units) ≡ 4 → length (added .rec .held .units) ≡ 4
   unfolding journalAdd
-  added-four h = length-set (d .rec .units) (u - 1) _ ∙ h
+  added-four h = length-set (d .rec .held .units) (u - 1) _ ∙ h
 
-  added-holder : added .rec .holder ≡ d .rec .holder
+  added-holder : added .rec .held .holder ≡ d .rec .held .holder
   unfolding journalAdd
   added-holder = refl
 
@@ -164,11 +164,11 @@ module _ (u : ℕ) (d : Disk) (s : State Content) (p : 1 ≤ u) (q : u ≤ 4) (k
   abbrev begun : Disk
   begun = opening u d
 
-  begun-four : length (begun .rec .units) ≡ 4
+  begun-four : length (begun .rec .held .units) ≡ 4
   unfolding opening
-  begun-four = length-set (d .rec .units) (u - 1) _ ∙ k .four
+  begun-four = length-set (d .rec .held .units) (u - 1) _ ∙ k .four
 
-  begun-holder : begun .rec .holder ≡ d .rec .holder
+  begun-holder : begun .rec .held .holder ≡ d .rec .held .holder
   unfolding opening
   begun-holder = refl
 
@@ -212,13 +212,13 @@ module _ (u : ℕ) (d : Disk) (s : State Content) (p : 1 ≤ u) (q : u ≤ 4) (k
   abbrev ended : Disk
   ended = closing u d
 
-  ended-four : length (ended .rec .units) ≡ 4
+  ended-four : length (ended .rec .held .units) ≡ 4
   unfolding closing
-  ended-four = length-set (d .rec .units) (u - 1) _ ∙ k .four
+  ended-four = length-set (d .rec .held .units) (u - 1) _ ∙ k .four
 
-  ended-table : length (ended .rec .holder) ≡ 64
+  ended-table : length (ended .rec .held .holder) ≡ 64
   unfolding closing released
-  ended-table = length-map (d .rec .holder) _ ∙ k .table
+  ended-table = length-map (d .rec .held .holder) _ ∙ k .table
 
   ended-unit : unitOf ended u ≡ emptied 0 (unitOf d u)
   ended-unit = unit-closing u d p q (k .four)

@@ -35,11 +35,11 @@ withRecord d r = disk (d .card) (d .queueData) (d .journalData) r
 unfoldable pub queuedAt : Disk → ℕ → Entry Content
 queuedAt d k =
     let p = ringPlace (d .rec) k in
-    let q = getD (d .rec .queue) p noCell in
+    let q = getD (d .rec .ring .queue) p noCell in
     mapEntry (λ s. slot (d .queueData) p) (asEntry (memberIn q) (entryIn q))
 
 unfoldable pub queued : Disk → List (Entry Content)
-queued d = from (queuedAt d) 0 (d .rec .len)
+queued d = from (queuedAt d) 0 (d .rec .ring .len)
 
 unfoldable pub unitOf : Disk → ℕ → Unit
 unitOf d u = unitAt (d .rec) u

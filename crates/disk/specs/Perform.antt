@@ -39,7 +39,7 @@ spliceSome d i (some v) = splice d i v
 unfoldable pub enqueue : Entry Content → Disk → Disk
 enqueue e d =
     let r = d .rec in
-    let p = ringPlace r (r .len) in
+    let p = ringPlace r (r .ring .len) in
     record {
       card = d .card;
       queueData = spliceSome (d .queueData) (slotBytes * p) (carried e);
@@ -137,7 +137,7 @@ unitEntries cs = map member cs ++ commit (length cs) ∷ []
 
 -- the flow that the disk stands in, and the disk that a flow leaves
 unfoldable pub flowOf : Disk → Flow
-flowOf d = record { card = d .card; place = tail (d .card); queue = queued d; done = d .rec .done }
+flowOf d = record { card = d .card; place = tail (d .card); queue = queued d; done = d .rec .ring .done }
 
 unfoldable pub flushed : ℕ → Disk → Flushed
 flushed a d = flushFrom (segmentsIn (d .card)) a 0 (flowOf d)
@@ -150,7 +150,7 @@ afterFlush d f =
       card = f .card;
       queueData = d .queueData;
       journalData = d .journalData;
-      rec = withFlow r ((r .head + (r .len - length (f .queue))) % queuePlaces) (length (f .queue)) (f .done);
+      rec = withFlow r ((r .ring .head + (r .ring .len - length (f .queue))) % queuePlaces) (length (f .queue)) (f .done);
     }
 
 -- the card after the first k stores of a formatting
@@ -170,7 +170,7 @@ reply d n m x = record { disk = d; answer = record { code = 0; value = n; second
 unfoldable pub accepted : Call → Disk → Result
 accepted format d = reply (record { card = formatted (segmentsIn (d .card)) (d .card); queueData = d .queueData; journalData = d .journalData; rec = freshRecord }) 0 0 []
 accepted mount d = reply (withRecord d freshRecord) 0 0 []
-accepted conflictCount d = reply d (d .rec .conflicts) 0 []
+accepted conflictCount d = reply d (d .rec .tally .conflicts) 0 []
 accepted (onStream s e) d = let n = numberGiven e d in reply (made s (changeFor e n) d) n 0 []
 accepted (inView v k) d = let f = found k (view d v) in reply d (f .0) 0 (f .1)
 accepted (begin u) d = reply (opening u d) 0 0 []

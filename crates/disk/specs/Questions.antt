@@ -41,11 +41,11 @@ freeFrom used limit (suc k) last =
 unfoldable pub freeBlock : Disk → Option ℕ
 freeBlock d =
     let s = committed d in
-    freeFrom (λ b. placed b (s .lists) || not (eqb (holderOf (d .rec) b) 0)) 64 64 (d .rec .lastBlock)
+    freeFrom (λ b. placed b (s .lists) || not (eqb (holderOf (d .rec) b) 0)) 64 64 (d .rec .tally .lastBlock)
 
 -- "NewList likewise with 16 (free: not taken in the committed state)"
 unfoldable pub freeList : Disk → Option ℕ
-freeList d = let s = committed d in freeFrom (λ l. taken l (s .lists)) 16 16 (d .rec .lastList)
+freeList d = let s = committed d in freeFrom (λ l. taken l (s .lists)) 16 16 (d .rec .tally .lastList)
 
 -- "11. Has the journal fewer than 15?" (streams 1 to 4)
 unfoldable pub journalRoom : Disk → ℕ → Bool
@@ -57,7 +57,7 @@ endApplies d u = isSome (applyAll (journalOf d u) (committed d))
 
 -- "13. Does the queue take what is added": n entries
 unfoldable pub queueRoom : Disk → ℕ → Bool
-queueRoom d n = leb (d .rec .len + n) queuePlaces
+queueRoom d n = leb (d .rec .ring .len + n) queuePlaces
 
 -- (stream 0)
 unfoldable pub streamRoom : Disk → ℕ → Bool

@@ -23,18 +23,28 @@ pub record Unit : Type 0 where
   pub len : ℕ
   pub journal : List Cell
 
--- The queue with its head's place, its length and the head's stores that are done; the units; the unit that holds each block, 0 for none; block and
--- list given last; the conflict count.
-pub record Record : Type 0 where
+-- the queue in its places, the head's place, the queue's length, and the head's stores that are done
+pub record Ring : Type 0 where
   pub queue : List Cell
   pub head : ℕ
   pub len : ℕ
   pub done : ℕ
+
+-- the units, and the unit that holds each block, 0 for none
+pub record Held : Type 0 where
   pub units : List Unit
   pub holder : List ℕ
+
+-- block and list given last, and the conflict count
+pub record Tally : Type 0 where
   pub lastBlock : ℕ
   pub lastList : ℕ
   pub conflicts : ℕ
+
+pub record Record : Type 0 where
+  pub ring : Ring
+  pub held : Held
+  pub tally : Tally
 
 abbrev pub unit : ℕ → ℕ → List Cell → Unit
 unit o n j = record { opened = o; len = n; journal = j }
@@ -57,15 +67,9 @@ unitIn bs i = unit (getD bs (368 + i) 0) (getD bs (372 + i) 0) (cellsIn bs (128 
 -- what the bytes mean; each of them stands for a part, or for half of one
 unfoldable pub recordIn : List ℕ → Record
 recordIn bs = record {
-  queue = cellsIn bs 0 queuePlaces;
-  head = getD bs 440 0;
-  len = getD bs 441 0;
-  done = pairIn bs 442;
-  units = from (unitIn bs) 0 unitCount;
-  holder = bytesIn bs 376 64;
-  lastBlock = getD bs 444 0;
-  lastList = getD bs 445 0;
-  conflicts = pairIn bs 446;
+  ring = record { queue = cellsIn bs 0 queuePlaces; head = getD bs 440 0; len = getD bs 441 0; done = pairIn bs 442 };
+  held = record { units = from (unitIn bs) 0 unitCount; holder = bytesIn bs 376 64 };
+  tally = record { lastBlock = getD bs 444 0; lastList = getD bs 445 0; conflicts = pairIn bs 446 };
 }
 
 -- what stands in a place that holds nothing, and past the end of the units
@@ -80,53 +84,44 @@ noUnit = unit 0 0 []
 unfoldable pub freshUnit : Unit
 freshUnit = unit 0 0 (replicate journalPlaces noCell)
 
--- a record by its parts: queue, head, length, stores done, units, holders, block and list given last, conflicts
-abbrev recordOf : List Cell → ℕ → ℕ → ℕ → List Unit → List ℕ → ℕ → ℕ → ℕ → Record
-recordOf q h n k us hs b l c = record { queue = q; head = h; len = n; done = k; units = us; holder = hs; lastBlock = b; lastList = l; conflicts = c }
-
 unfoldable pub freshRecord : Record
 unfolding freshUnit
-freshRecord = recordOf (replicate queuePlaces noCell) 0 0 0 (replicate unitCount freshUnit) (replicate 64 0) 64 16 0
+freshRecord = record {
+  ring = record { queue = replicate queuePlaces noCell; head = 0; len = 0; done = 0 };
+  held = record { units = replicate unitCount freshUnit; holder = replicate 64 0 };
+  tally = record { lastBlock = 64; lastList = 16; conflicts = 0 };
+}
 
 -- the place of the queue's entry k: "32 places used in a ring"
 abbrev pub ringPlace : Record → ℕ → ℕ
-ringPlace r k = (r .head + k) % queuePlaces
+ringPlace r k = (r .ring .head + k) % queuePlaces
 
 abbrev pub unitAt : Record → ℕ → Unit
-unitAt r u = getD (r .units) (u - 1) noUnit
+unitAt r u = getD (r .held .units) (u - 1) noUnit
 
 abbrev pub isOpen : Unit → Bool
 isOpen x = not (eqb (x .opened) 0)
 
 -- the unit that holds block b, or 0
 abbrev pub holderOf : Record → ℕ → ℕ
-holderOf r b = getD (r .holder) (b - 1) 0
+holderOf r b = getD (r .held .holder) (b - 1) 0
 
 -- the lists are as long as those of every record that bytes mean
 unfoldable pub shaped : Record → Bool
 shaped r =
-    eqb (length (r .queue)) queuePlaces && eqb (length (r .units)) unitCount && eqb (length (r .holder)) 64
+    eqb (length (r .ring .queue)) queuePlaces && eqb (length (r .held .units)) unitCount && eqb (length (r .held .holder)) 64
     && eqb (length (unitAt r 1 .journal)) journalPlaces && eqb (length (unitAt r 2 .journal)) journalPlaces
     && eqb (length (unitAt r 3 .journal)) journalPlaces && eqb (length (unitAt r 4 .journal)) journalPlaces
 
--- the record with another part
-abbrev pub withQueue : Record → List Cell → ℕ → Record
-withQueue r q n = recordOf q (r .head) n (r .done) (r .units) (r .holder) (r .lastBlock) (r .lastList) (r .conflicts)
+-- the record with one of its three parts made anew
+abbrev pub withRing : Record → List Cell → ℕ → ℕ → ℕ → Record
+withRing r q h n k = record { ring = record { queue = q; head = h; len = n; done = k }; held = r .held; tally = r .tally }
 
-abbrev pub withFlow : Record → ℕ → ℕ → ℕ → Record
-withFlow r h n k = recordOf (r .queue) h n k (r .units) (r .holder) (r .lastBlock) (r .lastList) (r .conflicts)
+abbrev pub withHeld : Record → List Unit → List ℕ → Record
+withHeld r us hs = record { ring = r .ring; held = record { units = us; holder = hs }; tally = r .tally }
 
-abbrev pub withUnits : Record → List Unit → List ℕ → Record
-withUnits r us hs = recordOf (r .queue) (r .head) (r .len) (r .done) us hs (r .lastBlock) (r .lastList) (r .conflicts)
-
-abbrev pub withLastBlock : Record → ℕ → Record
-withLastBlock r b = recordOf (r .queue) (r .head) (r .len) (r .done) (r .units) (r .holder) b (r .lastList) (r .conflicts)
-
-abbrev pub withLastList : Record → ℕ → Record
-withLastList r l = recordOf (r .queue) (r .head) (r .len) (r .done) (r .units) (r .holder) (r .lastBlock) l (r .conflicts)
-
-abbrev pub withConflicts : Record → ℕ → Record
-withConflicts r n = recordOf (r .queue) (r .head) (r .len) (r .done) (r .units) (r .holder) (r .lastBlock) (r .lastList) n
+abbrev pub withTally : Record → ℕ → ℕ → ℕ → Record
+withTally r b l n = record { ring = r .ring; held = r .held; tally = record { lastBlock = b; lastList = l; conflicts = n } }
 
 -- a unit with its journal emptied; the elements stay as they are
 abbrev pub emptied : ℕ → Unit → Unit
@@ -140,22 +135,39 @@ journaled x e = unit (x .opened) (x .len + 1) (set (x .journal) (x .len) e)
 unfoldable pub released : ℕ → List ℕ → List ℕ
 released u hs = map (λ h. cond (eqb h u) 0 h) hs
 
--- An entry more in the queue, and in unit u's journal; unit u open (1) or closed (0) with its journal emptied; block b held by unit u; what unit u
--- holds released; a conflict more: "stops at 65,535".
+-- an entry more in the queue
 abbrev pub appended : Cell → Record → Record
-appended e r = withQueue r (set (r .queue) (ringPlace r (r .len)) e) (r .len + 1)
+appended e r = withRing r (set (r .ring .queue) (ringPlace r (r .ring .len)) e) (r .ring .head) (r .ring .len + 1) (r .ring .done)
 
+-- the queue's entries where they are, its head's place, its length and the stores done others
+abbrev pub withFlow : Record → ℕ → ℕ → ℕ → Record
+withFlow r h n k = withRing r (r .ring .queue) h n k
+
+-- an entry more in unit u's journal
 abbrev pub journalGrown : ℕ → Cell → Record → Record
-journalGrown u e r = withUnits r (set (r .units) (u - 1) (journaled (unitAt r u) e)) (r .holder)
+journalGrown u e r = withHeld r (set (r .held .units) (u - 1) (journaled (unitAt r u) e)) (r .held .holder)
 
+-- unit u open (1) or closed (0) with its journal emptied
 abbrev pub unitTurned : ℕ → ℕ → Record → Record
-unitTurned o u r = withUnits r (set (r .units) (u - 1) (emptied o (unitAt r u))) (r .holder)
+unitTurned o u r = withHeld r (set (r .held .units) (u - 1) (emptied o (unitAt r u))) (r .held .holder)
 
+-- block b held by unit u; what unit u holds released
 abbrev pub holding : ℕ → ℕ → Record → Record
-holding b u r = withUnits r (r .units) (set (r .holder) (b - 1) u)
+holding b u r = withHeld r (r .held .units) (set (r .held .holder) (b - 1) u)
 
 abbrev pub releasing : ℕ → Record → Record
-releasing u r = withUnits r (r .units) (released u (r .holder))
+releasing u r = withHeld r (r .held .units) (released u (r .held .holder))
 
+-- block b, list l given last
+abbrev pub withLastBlock : Record → ℕ → Record
+withLastBlock r b = withTally r b (r .tally .lastList) (r .tally .conflicts)
+
+abbrev pub withLastList : Record → ℕ → Record
+withLastList r l = withTally r (r .tally .lastBlock) l (r .tally .conflicts)
+
+abbrev pub withConflicts : Record → ℕ → Record
+withConflicts r n = withTally r (r .tally .lastBlock) (r .tally .lastList) n
+
+-- a conflict more: "stops at 65,535"
 abbrev pub conflictCounted : Record → Record
-conflictCounted r = withConflicts r (min 65535 (r .conflicts + 1))
+conflictCounted r = withConflicts r (min 65535 (r .tally .conflicts + 1))

@@ -57,11 +57,11 @@ recordSound d =
     let r = d .rec in
     each
     (shaped r
-    ∷ leb (r .len) queuePlaces ∷ ltb (r .head) queuePlaces
-    ∷ isBlock (r .lastBlock) ∷ isList (r .lastList) ∷ leb (r .conflicts) 65535
+    ∷ leb (r .ring .len) queuePlaces ∷ ltb (r .ring .head) queuePlaces
+    ∷ isBlock (r .tally .lastBlock) ∷ isList (r .tally .lastList) ∷ leb (r .tally .conflicts) 65535
     ∷ all (λ e. legal (raw 0 e)) (queued d)
     ∷ all (unitSound d) (from (λ u. u) 1 unitCount)
     ∷ isSome (committedReader d)
-    ∷ headStanding (d .card) (r .done) (queued d)
+    ∷ headStanding (d .card) (r .ring .done) (queued d)
     ∷ all (holderSound d) (from (λ b. b) 1 64)
     ∷ [])

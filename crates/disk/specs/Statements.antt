@@ -73,8 +73,8 @@ CutFormat = (k : ℕ) (c : List ℕ) → cardLength c ≡ true → k ≤ segment
 -- "storing the count before the entry": the order of a flush's stores in time. Steps, each of which is required of the card as it is, lead after k of
 -- them to the card that allowance k leaves, and to no other; and that many such steps there are.
 pub record StepsOfFlush (d : Disk) : Type 0 where
-  pub only : (k : ℕ) (c : List ℕ) → Steps (d .card) (queued d) (d .rec .done) k c → c ≡ flushed k d .flow .card
-  pub each : (k : ℕ) → flushed k d .stores ≡ k → Steps (d .card) (queued d) (d .rec .done) k (flushed k d .flow .card)
+  pub only : (k : ℕ) (c : List ℕ) → Steps (d .card) (queued d) (d .rec .ring .done) k c → c ≡ flushed k d .flow .card
+  pub each : (k : ℕ) → flushed k d .stores ≡ k → Steps (d .card) (queued d) (d .rec .ring .done) k (flushed k d .flow .card)
 
 abbrev pub FlushInOrder : Type 0
 FlushInOrder = (d : Disk) → lengthsRight d ≡ true → recordSound d ≡ true → StepsOfFlush d

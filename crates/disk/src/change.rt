@@ -49,7 +49,7 @@ fn put_cell(rec: &mut [u8; RECORD], i: usize, member: bool, entry: LogEntry)
 
 // An entry more at the end of the queue.
 pub fn append(rec: &mut [u8; RECORD], member: bool, entry: LogEntry)
-    requires { ⌜ (recordIn (now rec) .len < 32) × (recordIn (now rec) .head < 32) ⌝ }
+    requires { ⌜ (recordIn (now rec) .ring .len < 32) × (recordIn (now rec) .ring .head < 32) ⌝ }
     ensures { λ r. ⌜ recordIn (now (rec .exit)) ≡ appended (cellOf (asEntry member entry)) (recordIn (now (rec .entry))) ⌝ }
 {
     sized(*rec);

@@ -96,37 +96,37 @@ fn wide(byte: u8) -> usize
 // The parts.
 
 pub fn head(rec: &[u8; RECORD]) -> usize
-    ensures { λ r. ⌜ r ≡ recordIn (now (rec .entry)) .head ⌝ }
+    ensures { λ r. ⌜ r ≡ recordIn (now (rec .entry)) .ring .head ⌝ }
 {
     wide(rec[HEAD])
 }
 
 pub fn len(rec: &[u8; RECORD]) -> usize
-    ensures { λ r. ⌜ r ≡ recordIn (now (rec .entry)) .len ⌝ }
+    ensures { λ r. ⌜ r ≡ recordIn (now (rec .entry)) .ring .len ⌝ }
 {
     wide(rec[LEN])
 }
 
 pub fn done(rec: &[u8; RECORD]) -> usize
-    ensures { λ r. ⌜ r ≡ recordIn (now (rec .entry)) .done ⌝ }
+    ensures { λ r. ⌜ r ≡ recordIn (now (rec .entry)) .ring .done ⌝ }
 {
     of_bytes(rec[DONE], rec[DONE + 1]) as usize
 }
 
 pub fn last_block(rec: &[u8; RECORD]) -> u8
-    ensures { λ r. ⌜ r ≡ recordIn (now (rec .entry)) .lastBlock ⌝ }
+    ensures { λ r. ⌜ r ≡ recordIn (now (rec .entry)) .tally .lastBlock ⌝ }
 {
     rec[LAST_BLOCK]
 }
 
 pub fn last_list(rec: &[u8; RECORD]) -> u8
-    ensures { λ r. ⌜ r ≡ recordIn (now (rec .entry)) .lastList ⌝ }
+    ensures { λ r. ⌜ r ≡ recordIn (now (rec .entry)) .tally .lastList ⌝ }
 {
     rec[LAST_LIST]
 }
 
 pub fn conflicts(rec: &[u8; RECORD]) -> u16
-    ensures { λ r. ⌜ r ≡ recordIn (now (rec .entry)) .conflicts ⌝ }
+    ensures { λ r. ⌜ r ≡ recordIn (now (rec .entry)) .tally .conflicts ⌝ }
 {
     of_bytes(rec[CONFLICTS_AT], rec[CONFLICTS_AT + 1])
 }
@@ -161,7 +161,7 @@ pub fn holder_of(rec: &[u8; RECORD], block: u8) -> u8
 // The entry in a place of the queue.
 pub fn queue_entry(rec: &[u8; RECORD], at: usize) -> Queued
     requires { ⌜ at < 32 ⌝ }
-    ensures { λ r. ⌜ (r .member ≡ memberIn (getD (recordIn (now (rec .entry)) .queue) at noCell)) × (r .entry ≡ entryIn (getD (recordIn (now (rec .entry)) .queue) at noCell)) ⌝ }
+    ensures { λ r. ⌜ (r .member ≡ memberIn (getD (recordIn (now (rec .entry)) .ring .queue) at noCell)) × (r .entry ≡ entryIn (getD (recordIn (now (rec .entry)) .ring .queue) at noCell)) ⌝ }
 {
     let i = CELL * at;
     let map = rec[i];

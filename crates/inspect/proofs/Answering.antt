@@ -63,21 +63,21 @@ putBy-map f (write b d) = refl
 putBy-map f (delBlock b) = refl
 putBy-map f (delList l) = refl
 
-change-is : (r : Record) (u : ℕ) (f : ℕ → Content) (c : Change ℕ) → journalSound r u (mapChange f c) ≡ changeRight (r .holder) u c
+change-is : (r : Record) (u : ℕ) (f : ℕ → Content) (c : Change ℕ) → journalSound r u (mapChange f c) ≡ changeRight (r .held .holder) u c
 unfolding journalSound changeRight mapEntry
 change-is r u f c = rw (putBy-map f c, ← raw-map f 0 (member c), mapEntry)
 
 module _ (d : Disk) where
-  unit-is : (u : ℕ) → unitSound d u ≡ unitRight (d .rec .holder) (unitAt (d .rec) u) u
+  unit-is : (u : ℕ) → unitSound d u ≡ unitRight (d .rec .held .holder) (unitAt (d .rec) u) u
   unfolding unitSound unitRight unitOf journalOf journalAt each
-  unit-is u = rw (all-same (journalSound (d .rec) u) (changeRight (d .rec .holder) u) (journalAt d u) (changeIn (unitAt (d .rec) u)) 0 (unitAt (d .rec) u .len) change-at)
+  unit-is u = rw (all-same (journalSound (d .rec) u) (changeRight (d .rec .held .holder) u) (journalAt d u) (changeIn (unitAt (d .rec) u)) 0 (unitAt (d .rec) u .len) change-at)
     where
-      change-at : (k : ℕ) → journalSound (d .rec) u (journalAt d u k) ≡ changeRight (d .rec .holder) u (changeIn (unitAt (d .rec) u) k)
+      change-at : (k : ℕ) → journalSound (d .rec) u (journalAt d u k) ≡ changeRight (d .rec .held .holder) u (changeIn (unitAt (d .rec) u) k)
       change-at k = change-is (d .rec) u (λ s. slot (d .journalData) (journalPlace u k)) (changeIn (unitAt (d .rec) u) k)
 
   units-is : all (unitSound d) (from (λ u. u) 1 unitCount) ≡ unitsRight (d .rec)
   unfolding unitsRight
-  units-is = all-same (unitSound d) (λ u. unitRight (d .rec .holder) (unitAt (d .rec) u) u) (λ u. u) (λ u. u) 1 unitCount unit-is
+  units-is = all-same (unitSound d) (λ u. unitRight (d .rec .held .holder) (unitAt (d .rec) u) u) (λ u. u) (λ u. u) 1 unitCount unit-is
 
   pub parts : shaped (d .rec) ≡ true → recordSound d ≡ numbersRight (d .rec) && (unitsRight (d .rec) && behindLog d)
   unfolding recordSound numbersRight behindLog each
@@ -86,9 +86,9 @@ module _ (d : Disk) where
       let l = all (λ e. legal (raw 0 e)) (queued d) in
       let u = all (unitSound d) (from (λ u. u) 1 unitCount) in
       let s = isSome (committedReader d) in
-      let k = headStanding (d .card) (r .done) (queued d) in
+      let k = headStanding (d .card) (r .ring .done) (queued d) in
       let o = all (holderSound d) (from (λ b. b) 1 64) in
-      let ns = leb (r .len) 32 ∷ ltb (r .head) 32 ∷ isBlock (r .lastBlock) ∷ isList (r .lastList) ∷ leb (r .conflicts) 65535 ∷ [] in
+      let ns = leb (r .ring .len) 32 ∷ ltb (r .ring .head) 32 ∷ isBlock (r .tally .lastBlock) ∷ isList (r .tally .lastList) ∷ leb (r .tally .conflicts) 65535 ∷ [] in
       ap (λ (b : Bool). b && each (ns ++ l ∷ u ∷ s ∷ k ∷ o ∷ [])) h
       ∙ each-append ns (l ∷ u ∷ s ∷ k ∷ o ∷ [])
       ∙ ap (λ (b : Bool). each ns && b) (turned l u s k o ∙ ap (λ (b : Bool). b && behindLog d) units-is)

@@ -22,25 +22,25 @@ use Rattle.disk.specs.Disk.{disk, queuedAt, queued}
 use Rattle.disk.specs.Sound.{headStanding}
 
 module _ (c q j : List ℕ) (r : Record) where
-  pub head-none : (k : ℕ) → r .len ≡ 0 → headStanding c k (queued (disk c q j r)) ≡ eqb k 0
+  pub head-none : (k : ℕ) → r .ring .len ≡ 0 → headStanding c k (queued (disk c q j r)) ≡ eqb k 0
   unfolding queued from headStanding
   head-none k h = rw h
 
   abbrev headIn : Cell
-  headIn = getD (r .queue) (r .head) noCell
+  headIn = getD (r .ring .queue) (r .ring .head) noCell
 
   abbrev headWith : Content → Entry Content
   headWith d = going d (memberIn headIn) (entryIn headIn)
 
-  first : (d : Content) → r .head < 32 → r .len ≢ 0 → d ≡ slot q (r .head) → (es : List (Entry Content)) × (queued (disk c q j r) ≡ headWith d ∷ es)
+  first : (d : Content) → r .ring .head < 32 → r .ring .len ≢ 0 → d ≡ slot q (r .ring .head) → (es : List (Entry Content)) × (queued (disk c q j r) ≡ headWith d ∷ es)
   unfolding queued queuedAt
   first d h n y =
       let f = queuedAt (disk c q j r) in
-      let z : r .len - 0 ≡ r .len = omega arith in
-      let e : (r .head + 0) % 32 ≡ r .head = omega arith in
-      (from f (0 + 1) (r .len - (0 + 1)), ap (from f 0) (sym z) ∙ from-step f 0 (r .len) (omega arith) ∙ rw (e, y))
+      let z : r .ring .len - 0 ≡ r .ring .len = omega arith in
+      let e : (r .ring .head + 0) % 32 ≡ r .ring .head = omega arith in
+      (from f (0 + 1) (r .ring .len - (0 + 1)), ap (from f 0) (sym z) ∙ from-step f 0 (r .ring .len) (omega arith) ∙ rw (e, y))
 
-  pub head-some : (k : ℕ) (d : Content) (p : Place) (o : Option Place) → r .head < 32 → r .len ≢ 0 → d ≡ slot q (r .head) → p ≡ tail c
+  pub head-some : (k : ℕ) (d : Content) (p : Place) (o : Option Place) → r .ring .head < 32 → r .ring .len ≢ 0 → d ≡ slot q (r .ring .head) → p ≡ tail c
       → home (segmentsIn c) p (asEntry false (entryIn headIn)) ≡ o → headStanding c k (queued (disk c q j r)) ≡ headAt c k o (headWith d)
   unfolding headStanding
   head-some k d p o h n y t e =

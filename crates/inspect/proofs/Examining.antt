@@ -37,9 +37,9 @@ lengths-asked d h =
     let (a, b) = and-true (cardLength (d .card)) (eqb (length (d .queueData)) 8192) (and-true (cardLength (d .card) && eqb (length (d .queueData)) 8192) (eqb (length (d .journalData)) 15360) h .0) in
     (a, eqb-true (length (d .queueData)) 8192 b)
 
-pub numbers-asked : (r : Record) → numbersRight r ≡ true → (r .len ≤ 32) × (r .head < 32)
+pub numbers-asked : (r : Record) → numbersRight r ≡ true → (r .ring .len ≤ 32) × (r .ring .head < 32)
 unfolding numbersRight
-numbers-asked r h = (leb-true (r .len) 32 (each-at _ h 0), ltb-true (r .head) 32 (each-at _ h 1))
+numbers-asked r h = (leb-true (r .ring .len) 32 (each-at _ h 0), ltb-true (r .ring .head) 32 (each-at _ h 1))
 
 -- the place behind a log that was walked
 pub place-asked : (c : List ℕ) (p : Place) (n : ℕ) (m : Memory) → cardLength c ≡ true → Sounds c p n m → Within p × (p .segment < segmentsIn c)

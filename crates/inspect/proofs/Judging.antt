@@ -107,7 +107,7 @@ module _ (hs : List ℕ) (x : Unit) (u : ℕ) where
 
 -- The units.
 abbrev pub unitGood : Record → ℕ → Bool
-unitGood r u = unitRight (r .holder) (unitAt r u) u
+unitGood r u = unitRight (r .held .holder) (unitAt r u) u
 
 pub units-all : (r : Record) → all (unitGood r) (from (λ i. i + 1) 0 unitCount) ≡ unitsRight r
 unfolding unitsRight
@@ -127,9 +127,9 @@ module _ (r : Record) (u : ℕ) where
   open-unit a b = rw (le-true 1 u a, le-true u 4 b)
 
 -- The counts and numbers.
-pub numbers-all : (r : Record) → (leb (r .len) 32 && ltb (r .head) 32) && ((isBlock (r .lastBlock) && isList (r .lastList)) && leb (r .conflicts) 65535) ≡ numbersRight r
+pub numbers-all : (r : Record) → (leb (r .ring .len) 32 && ltb (r .ring .head) 32) && ((isBlock (r .tally .lastBlock) && isList (r .tally .lastList)) && leb (r .tally .conflicts) 65535) ≡ numbersRight r
 unfolding numbersRight each
-numbers-all r = five (leb (r .len) 32) (ltb (r .head) 32) (isBlock (r .lastBlock)) (isList (r .lastList)) (leb (r .conflicts) 65535)
+numbers-all r = five (leb (r .ring .len) 32) (ltb (r .ring .head) 32) (isBlock (r .tally .lastBlock)) (isList (r .tally .lastList)) (leb (r .tally .conflicts) 65535)
   where
     five : (a b c d e : Bool) → (a && b) && ((c && d) && e) ≡ a && (b && (c && (d && (e && true))))
     five false b c d e = refl

@@ -41,14 +41,14 @@ module _ (d : Disk) where
   unfolding queuedHere queuedAt
   entry-here k =
       let p = ringPlace (d .rec) k in
-      let q = getD (d .rec .queue) p noCell in
+      let q = getD (d .rec .ring .queue) p noCell in
       let e = asEntry (memberIn q) (entryIn q) in
       entry-comp (contents d) (λ s. queueLocation p) e
-      ∙ ap (λ (x : Content). mapEntry (λ s. x) e) (content-queue (d .card) (d .queueData) (d .journalData) p (mod-lt (d .rec .head + k) (omega arith)))
+      ∙ ap (λ (x : Content). mapEntry (λ s. x) e) (content-queue (d .card) (d .queueData) (d .journalData) p (mod-lt (d .rec .ring .head + k) (omega arith)))
 
   pub queue-here : map (mapEntry (contents d)) (queueHere (d .rec)) ≡ queued d
   unfolding queueHere queued
-  queue-here = map-from (mapEntry (contents d)) (queuedHere (d .rec)) (queuedAt d) 0 (d .rec .len) entry-here
+  queue-here = map-from (mapEntry (contents d)) (queuedHere (d .rec)) (queuedAt d) 0 (d .rec .ring .len) entry-here
 
   change-here : (u k : ℕ) → mapChange (contents d) (changeHere (unitOf d u) u k) ≡ journalAt d u k
   unfolding changeHere journalAt

@@ -20,7 +20,7 @@ use Rattle.inspect.specs.promises.Clauses.{lawful, ReplayTo}
 
 -- the entries from k on
 abbrev pub leftOf : Record → ℕ → List (Entry ℕ)
-leftOf r k = from (queuedHere r) k (r .len - k)
+leftOf r k = from (queuedHere r) k (r .ring .len - k)
 
 -- k entries of the queue fed to reader x: the tables keep a reader whose run has n members
 pub record FedUpTo (r : Record) (x : Reader ℕ) (k n : ℕ) (m : Memory) : Type 0 where
@@ -30,7 +30,7 @@ pub record FedUpTo (r : Record) (x : Reader ℕ) (k n : ℕ) (m : Memory) : Type
   pub laws : lawful (queueHere r) ≡ lawful (leftOf r k)
 
 abbrev pub queuedIn : Record → ℕ → Cell
-queuedIn r k = getD (r .queue) (ringPlace r k) noCell
+queuedIn r k = getD (r .ring .queue) (ringPlace r k) noCell
 
 -- the entry as it is fed
 abbrev pub fedAt : Record → ℕ → Entry ℕ
@@ -38,30 +38,30 @@ fedAt r k = mapEntry (λ s. queueLocation (ringPlace r k)) (asEntry (memberIn (q
 
 pub fed-none : (r : Record) (x : Reader ℕ) (n : ℕ) (m : Memory) → Keeps m n x → FedUpTo r x 0 n m
 unfolding queueHere
-fed-none r x n m h = let e : r .len - 0 ≡ r .len = omega arith in record { reader = x; kept = h; replays = rw e; laws = rw e }
+fed-none r x n m h = let e : r .ring .len - 0 ≡ r .ring .len = omega arith in record { reader = x; kept = h; replays = rw e; laws = rw e }
 
 module _ (r : Record) (x : Reader ℕ) (k n : ℕ) (m : Memory) (fed : FedUpTo r x k n m) where
   abbrev lawAt : Bool
   lawAt = legal (raw 0 (asEntry (memberIn (queuedIn r k)) (entryIn (queuedIn r k))))
 
-  step : k < r .len → leftOf r k ≡ fedAt r k ∷ leftOf r (k + 1)
+  step : k < r .ring .len → leftOf r k ≡ fedAt r k ∷ leftOf r (k + 1)
   unfolding queuedHere
-  step l = from-step (queuedHere r) k (r .len) l
+  step l = from-step (queuedHere r) k (r .ring .len) l
 
-  step-laws : k < r .len → lawful (queueHere r) ≡ lawAt && lawful (leftOf r (k + 1))
+  step-laws : k < r .ring .len → lawful (queueHere r) ≡ lawAt && lawful (leftOf r (k + 1))
   unfolding all
   step-laws l = fed .laws ∙ rw (step l) (rw (raw-map (λ s. queueLocation (ringPlace r k)) 0 (asEntry (memberIn (queuedIn r k)) (entryIn (queuedIn r k)))))
 
-  step-replays : k < r .len → (o : Option (Reader ℕ)) → read (fed .reader) (fedAt r k) ≡ o
+  step-replays : k < r .ring .len → (o : Option (Reader ℕ)) → read (fed .reader) (fedAt r k) ≡ o
       → replay x (queueHere r) ≡ elim o [ none ↦ none | some y ↦ replay y (leftOf r (k + 1)) ]
   unfolding replay
   step-replays l none e = fed .replays ∙ rw (step l) (rw (e, replay))
   step-replays l (some y) e = fed .replays ∙ rw (step l) (rw (e, replay))
 
-  pub fed-unlawful : k < r .len → lawAt ≡ false → lawful (queueHere r) && isSome (replay x (queueHere r)) ≡ false
+  pub fed-unlawful : k < r .ring .len → lawAt ≡ false → lawful (queueHere r) && isSome (replay x (queueHere r)) ≡ false
   fed-unlawful l h = rw (step-laws l ∙ ap (λ (b : Bool). b && lawful (leftOf r (k + 1))) h)
 
-  pub fed-refused : k < r .len → read (fed .reader) (fedAt r k) ≡ none → lawful (queueHere r) && isSome (replay x (queueHere r)) ≡ false
+  pub fed-refused : k < r .ring .len → read (fed .reader) (fedAt r k) ≡ none → lawful (queueHere r) && isSome (replay x (queueHere r)) ≡ false
   unfolding isSome
   fed-refused l e = rw (step-replays l none e) (go (lawful (queueHere r)))
     where
@@ -69,7 +69,7 @@ module _ (r : Record) (x : Reader ℕ) (k n : ℕ) (m : Memory) (fed : FedUpTo r
       go true = refl
       go false = refl
 
-  pub fed-more : k < r .len → lawAt ≡ true → (n′ : ℕ) (m′ : Memory) (y : Reader ℕ) → read (fed .reader) (fedAt r k) ≡ some y → Keeps m′ n′ y → FedUpTo r x (k + 1) n′ m′
+  pub fed-more : k < r .ring .len → lawAt ≡ true → (n′ : ℕ) (m′ : Memory) (y : Reader ℕ) → read (fed .reader) (fedAt r k) ≡ some y → Keeps m′ n′ y → FedUpTo r x (k + 1) n′ m′
   fed-more l h n′ m′ y e q = record {
     reader = y;
     kept = q;
@@ -77,8 +77,8 @@ module _ (r : Record) (x : Reader ℕ) (k n : ℕ) (m : Memory) (fed : FedUpTo r
     laws = step-laws l ∙ ap (λ (b : Bool). b && lawful (leftOf r (k + 1))) h;
   }
 
-  pub fed-all : r .len ≤ k → ReplayTo (queueHere r) x true (m .tables)
+  pub fed-all : r .ring .len ≤ k → ReplayTo (queueHere r) x true (m .tables)
   unfolding all replay
   fed-all l =
-      let e : leftOf r k ≡ [] = from-none (queuedHere r) k (r .len) l in
+      let e : leftOf r k ≡ [] = from-none (queuedHere r) k (r .ring .len) l in
       (fed .laws ∙ rw e, fed .reader, fed .replays ∙ rw e, fed .kept .shows)

@@ -22,7 +22,7 @@ both-false false b c h = refl
 
 module _ (c q : List ℕ) (r : Record) (x : Reader ℕ) where
   abbrev heads : Bool
-  heads = headStanding c (r .done) (queued (disk c q [] r))
+  heads = headStanding c (r .ring .done) (queued (disk c q [] r))
 
   settled-refused : lawful (queueHere r) && isSome (replay x (queueHere r)) ≡ false → false ≡ settledRight c q r x
   unfolding settledRight each
@@ -42,21 +42,21 @@ module _ (c q : List ℕ) (m : Memory) (run : ℕ) (r : Record) (b : Bool) (t : 
 
   -- the holders have answer h, and the head k
   module _ (entered : b ≡ true) (h : Bool) (held : OfShown t (λ rs. h ≡ holdersRight r rs)) where
-    answer-is : (x : Reader ℕ) → Keeps m run x → h && headStanding c (r .done) (queued (disk c q [] r)) ≡ settledRight c q r x
+    answer-is : (x : Reader ℕ) → Keeps m run x → h && headStanding c (r .ring .done) (queued (disk c q [] r)) ≡ settledRight c q r x
     answer-is x k =
         let (l, y, e, s) = rw entered at (fed x k) in
-        ap (λ (b : Bool). b && headStanding c (r .done) (queued (disk c q [] r))) (held (y .state .lists) s)
+        ap (λ (b : Bool). b && headStanding c (r .ring .done) (queued (disk c q [] r))) (held (y .state .lists) s)
         ∙ settled-entered c q r x l y e
 
     pub settles-held : h ≡ false → Settles c q m run r false t
     settles-held z = record {
-      answer = λ x k. ap (λ (b : Bool). b && headStanding c (r .done) (queued (disk c q [] r))) (sym z) ∙ answer-is x k;
+      answer = λ x k. ap (λ (b : Bool). b && headStanding c (r .ring .done) (queued (disk c q [] r))) (sym z) ∙ answer-is x k;
       shows = λ x y k e. absurd (false≢true e);
     }
 
-    pub settles-last : h ≡ true → (k : Bool) → k ≡ headStanding c (r .done) (queued (disk c q [] r)) → Settles c q m run r k t
+    pub settles-last : h ≡ true → (k : Bool) → k ≡ headStanding c (r .ring .done) (queued (disk c q [] r)) → Settles c q m run r k t
     settles-last z k e = record {
-      answer = λ x n. e ∙ ap (λ (b : Bool). b && headStanding c (r .done) (queued (disk c q [] r))) (sym z) ∙ answer-is x n;
+      answer = λ x n. e ∙ ap (λ (b : Bool). b && headStanding c (r .ring .done) (queued (disk c q [] r))) (sym z) ∙ answer-is x n;
       shows = λ x y n f p.
           let (l, w, o, s) = rw entered at (fed x n) in
           let i : w ≡ y = Option·some-injective _ _ (sym o ∙ p) in

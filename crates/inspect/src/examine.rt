@@ -41,7 +41,7 @@ fn settle(
     nodes: &mut [u8; 1280],
     members: &mut [u8; 128],
 ) -> bool
-    requires { ⌜ (cardLength (now card) ≡ true) × (length (now queue_data) ≡ 8192) × (recordIn (now rec) .len ≤ 32) × (recordIn (now rec) .head < 32) × (behind ≡ tail (now card)) × Within behind × (behind .segment < segmentsIn (now card)) × (run ≤ 64 * 255) ⌝ }
+    requires { ⌜ (cardLength (now card) ≡ true) × (length (now queue_data) ≡ 8192) × (recordIn (now rec) .ring .len ≤ 32) × (recordIn (now rec) .ring .head < 32) × (behind ≡ tail (now card)) × Within behind × (behind .segment < segmentsIn (now card)) × (run ≤ 64 * 255) ⌝ }
     ensures { λ r. ⌜ Settles (now (card .entry)) (now (queue_data .entry)) (memory (now (nodes .entry)) (now (members .entry))) run (recordIn (now (rec .entry))) r (tablesIn (now (nodes .exit))) ⌝ }
 {
     if !enter_queue(nodes, members, rec, run) {
@@ -63,7 +63,7 @@ fn settle_apart(
     nodes: &[u8; 1280],
     members: &mut [u8; 128],
 ) -> bool
-    requires { ⌜ (cardLength (now card) ≡ true) × (length (now queue_data) ≡ 8192) × (recordIn (now rec) .len ≤ 32) × (recordIn (now rec) .head < 32) × (behind ≡ tail (now card)) × Within behind × (behind .segment < segmentsIn (now card)) × (run ≤ 64 * 255) ⌝ }
+    requires { ⌜ (cardLength (now card) ≡ true) × (length (now queue_data) ≡ 8192) × (recordIn (now rec) .ring .len ≤ 32) × (recordIn (now rec) .ring .head < 32) × (behind ≡ tail (now card)) × Within behind × (behind .segment < segmentsIn (now card)) × (run ≤ 64 * 255) ⌝ }
     ensures { λ r. ⌜ Settled (now (card .entry)) (now (queue_data .entry)) (memory (now (nodes .entry)) (now (members .entry))) run (recordIn (now (rec .entry))) r ⌝ }
 {
     let mut nodes_then = *nodes;
@@ -78,7 +78,7 @@ fn examine_log(
     persistent: bool,
     nodes: &mut [u8; 1280],
 ) -> Examined
-    requires { ⌜ (cardLength (now card) ≡ true) × (length (now queue_data) ≡ 8192) × (recordIn (now rec) .len ≤ 32) × (recordIn (now rec) .head < 32) ⌝ }
+    requires { ⌜ (cardLength (now card) ≡ true) × (length (now queue_data) ≡ 8192) × (recordIn (now rec) .ring .len ≤ 32) × (recordIn (now rec) .ring .head < 32) ⌝ }
     ensures { λ r. ⌜ ((j : List ℕ) → ExaminesLog (cond persistent 5 0) (diskIn (now (card .entry)) (now (queue_data .entry)) j (now (rec .entry))) r (tablesIn (now (nodes .exit)))) ⌝ }
 {
     let mut members = [0u8; 128];

@@ -21,7 +21,7 @@ const LISTS: u8 = LogEntry::LISTS;
 
 // The first free block after the one given last, 0 if none is free.
 pub fn free_block(nodes: &[u8; 1280], rec: &[u8; RECORD]) -> u8
-    ensures { λ r. ⌜ OfShown (tablesIn (now (nodes .entry))) (λ rs. r ≡ orElse 0 (freeFrom (λ b. placed b rs || not (eqb (holderOf (recordIn (now (rec .entry))) b) 0)) 64 64 (recordIn (now (rec .entry)) .lastBlock))) ⌝ }
+    ensures { λ r. ⌜ OfShown (tablesIn (now (nodes .entry))) (λ rs. r ≡ orElse 0 (freeFrom (λ b. placed b rs || not (eqb (holderOf (recordIn (now (rec .entry))) b) 0)) 64 64 (recordIn (now (rec .entry)) .tally .lastBlock))) ⌝ }
 {
     let mut b = last_block(rec);
     let mut i = 0u8;
@@ -39,7 +39,7 @@ pub fn free_block(nodes: &[u8; 1280], rec: &[u8; RECORD]) -> u8
 
 // The first free list after the one given last, 0 if none is free.
 pub fn free_list(nodes: &[u8; 1280], rec: &[u8; RECORD]) -> u8
-    ensures { λ r. ⌜ OfShown (tablesIn (now (nodes .entry))) (λ rs. r ≡ orElse 0 (freeFrom (λ l. taken l rs) 16 16 (recordIn (now (rec .entry)) .lastList))) ⌝ }
+    ensures { λ r. ⌜ OfShown (tablesIn (now (nodes .entry))) (λ rs. r ≡ orElse 0 (freeFrom (λ l. taken l rs) 16 16 (recordIn (now (rec .entry)) .tally .lastList))) ⌝ }
 {
     let mut l = last_list(rec);
     let mut i = 0u8;

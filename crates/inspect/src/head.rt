@@ -24,8 +24,8 @@ ghost use Rattle.disk.specs.Sound.{headStanding};
 
 // Do they stand on the card, `place` being the place behind its log?
 pub fn head_stands(card: &[u8], queue_data: &[u8], rec: &[u8; RECORD], place: Place) -> bool
-    requires { ⌜ (cardLength (now card) ≡ true) × (length (now queue_data) ≡ 8192) × (recordIn (now rec) .len ≤ 32) × (recordIn (now rec) .head < 32) × (place ≡ tail (now card)) × Within place × (place .segment < segmentsIn (now card)) ⌝ }
-    ensures { λ r. ⌜ ((j : List ℕ) → r ≡ headStanding (now (card .entry)) (recordIn (now (rec .entry)) .done) (queued (diskIn (now (card .entry)) (now (queue_data .entry)) j (now (rec .entry))))) ⌝ }
+    requires { ⌜ (cardLength (now card) ≡ true) × (length (now queue_data) ≡ 8192) × (recordIn (now rec) .ring .len ≤ 32) × (recordIn (now rec) .ring .head < 32) × (place ≡ tail (now card)) × Within place × (place .segment < segmentsIn (now card)) ⌝ }
+    ensures { λ r. ⌜ ((j : List ℕ) → r ≡ headStanding (now (card .entry)) (recordIn (now (rec .entry)) .ring .done) (queued (diskIn (now (card .entry)) (now (queue_data .entry)) j (now (rec .entry))))) ⌝ }
 {
     let stores = done(rec);
     if len(rec) == 0 {

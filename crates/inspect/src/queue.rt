@@ -21,7 +21,7 @@ pub fn enter_queue(
     rec: &[u8; RECORD],
     run: usize,
 ) -> bool
-    requires { ⌜ (recordIn (now rec) .len ≤ 32) × (recordIn (now rec) .head < 32) × (run ≤ 64 * 255) ⌝ }
+    requires { ⌜ (recordIn (now rec) .ring .len ≤ 32) × (recordIn (now rec) .ring .head < 32) × (run ≤ 64 * 255) ⌝ }
     ensures { λ r. ⌜ Replays (memory (now (nodes .entry)) (now (members .entry))) run (recordIn (now (rec .entry))) r (tablesIn (now (nodes .exit))) ⌝ }
 {
     let first = head(rec);

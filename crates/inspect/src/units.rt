@@ -16,7 +16,7 @@ ghost use Rattle.inspect.specs.promises.Clauses.{changeRight, unitRight,
 
 // May the entry stand in unit u's journal?
 fn entry_right(rec: &[u8; RECORD], u: u8, e: LogEntry) -> bool
-    ensures { λ r. ⌜ r ≡ changeRight (recordIn (now (rec .entry)) .holder) u (asChange e) ⌝ }
+    ensures { λ r. ⌜ r ≡ changeRight (recordIn (now (rec .entry)) .held .holder) u (asChange e) ⌝ }
 {
     if !is_member(e) {
         return false;
@@ -34,7 +34,7 @@ fn entry_right(rec: &[u8; RECORD], u: u8, e: LogEntry) -> bool
 
 fn unit_right(rec: &[u8; RECORD], u: usize) -> bool
     requires { ⌜ (1 ≤ u) × (u ≤ 4) ⌝ }
-    ensures { λ r. ⌜ r ≡ unitRight (recordIn (now (rec .entry)) .holder) (unitAt (recordIn (now (rec .entry))) u) u ⌝ }
+    ensures { λ r. ⌜ r ≡ unitRight (recordIn (now (rec .entry)) .held .holder) (unitAt (recordIn (now (rec .entry))) u) u ⌝ }
 {
     let n = journal_len(rec, u);
     if Unit::JOURNAL < n {

@@ -38,11 +38,11 @@ AddsAfter qs s e r Accepted r′ = (r′ ≡ added s e r) × ((d : Disk) → d .
 
 -- what a sound record has, of an open stream s; unit 1 stands for stream 0's
 abbrev pub InRange : ℕ → Record → Type 0
-InRange s r = (s ≤ 4) × (r .len ≤ 32) × (r .head < 32) × (unitAt r s .len ≤ 15)
+InRange s r = (s ≤ 4) × (r .ring .len ≤ 32) × (r .ring .head < 32) × (unitAt r s .len ≤ 15)
 
 -- the place of the data of the entry that stream s takes next: of the queue data for stream 0, of the journal data for a unit
 abbrev pub placeNext : ℕ → Record → ℕ
-placeNext s r = cond (eqb s 0) (ringPlace r (r .len)) (journalPlace s (unitAt r s .len))
+placeNext s r = cond (eqb s 0) (ringPlace r (r .ring .len)) (journalPlace s (unitAt r s .len))
 
 -- place p is there
 abbrev pub HasPlace : ℕ → ℕ → Type 0

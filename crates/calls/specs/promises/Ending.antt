@@ -35,8 +35,8 @@ QueuesMember q j r e k q′ r′ = (c : List ℕ) → enqueue (member (mapChange
 pub record Ready (q j : List ℕ) (r : Record) (u : ℕ) : Type 0 where
   pub queueData : length q ≡ 8192
   pub journalData : length j ≡ 15360
-  pub queue : r .len ≤ 32
-  pub head : r .head < 32
+  pub queue : r .ring .len ≤ 32
+  pub head : r .ring .head < 32
   pub first : 1 ≤ u
   pub last : u ≤ 4
   pub room : unitAt r u .len ≤ 15
@@ -48,7 +48,7 @@ QueuesUnit q j r u q′ r′ = (c : List ℕ) → (let d = disk c q j r in enque
 
 -- End behind question 4; does every change of the journal apply?
 abbrev pub endQuestions : Bool → Record → ℕ → List (ℕ × Bool)
-endQuestions a r u = (12, a) ∷ (13, leb (r .len + (unitAt r u .len + 1)) 32) ∷ []
+endQuestions a r u = (12, a) ∷ (13, leb (r .ring .len + (unitAt r u .len + 1)) 32) ∷ []
 
 -- refused by the first no, as the definition leaves a refused End; or accepted, queued and closed
 abbrev pub EndsAs : Bool → List ℕ → List ℕ → Record → ℕ → Reply → List ℕ → Record → Type 0

@@ -58,10 +58,10 @@ pub record Flushable (c q : List ℕ) (r : Record) (p : Place) : Type 0 where
   pub place : p ≡ tail c
   pub within : Within p
   pub inside : p .segment < segmentsIn c
-  pub room : r .len ≤ 32
-  pub head : r .head < 32
+  pub room : r .ring .len ≤ 32
+  pub head : r .ring .head < 32
   pub queueData : length q ≡ 8192
-  pub begun : 0 < r .len → r .done < length (entryStores p (queuedAt (disk c q [] r) 0))
+  pub begun : 0 < r .ring .len → r .ring .done < length (entryStores p (queuedAt (disk c q [] r) 0))
   pub journalData : List ℕ
   pub lengths : lengthsRight (disk c q journalData r) ≡ true
   pub sound : recordSound (disk c q journalData r) ≡ true

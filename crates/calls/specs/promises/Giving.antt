@@ -23,18 +23,18 @@ use Rattle.calls.specs.promises.Adds.{added, rooms}
 
 -- of committed lists rs
 abbrev pub freeListIn : {D : Type 0} → Record → List (Row D) → Option ℕ
-freeListIn r rs = freeFrom (λ l. taken l rs) 16 16 (r .lastList)
+freeListIn r rs = freeFrom (λ l. taken l rs) 16 16 (r .tally .lastList)
 
 abbrev pub freeBlockIn : {D : Type 0} → Record → List (Row D) → Option ℕ
-freeBlockIn r rs = freeFrom (λ b. placed b rs || not (eqb (holderOf r b) 0)) 64 64 (r .lastBlock)
+freeBlockIn r rs = freeFrom (λ b. placed b rs || not (eqb (holderOf r b) 0)) 64 64 (r .tally .lastBlock)
 
 -- NewList behind question 4
 abbrev pub takenList : Record → ℕ → Record
 takenList r l = withLastList (appended (cellOf (asEntry false (Take l))) r) l
 
 abbrev pub Takes : Record → List (Row ℕ) → NumberReply → Record → Type 0
-Takes r rs (Refused x) r′ = (r′ ≡ r) × (firstNo ((10, isSome (freeListIn r rs)) ∷ (13, leb (r .len + 1) 32) ∷ []) ≡ number x)
-Takes r rs (Number l) r′ = (r′ ≡ takenList r l) × (freeListIn r rs ≡ some l) × (leb (r .len + 1) 32 ≡ true)
+Takes r rs (Refused x) r′ = (r′ ≡ r) × (firstNo ((10, isSome (freeListIn r rs)) ∷ (13, leb (r .ring .len + 1) 32) ∷ []) ≡ number x)
+Takes r rs (Number l) r′ = (r′ ≡ takenList r l) × (freeListIn r rs ≡ some l) × (leb (r .ring .len + 1) 32 ≡ true)
 
 -- NewBlock: block b put on list l behind block p, first if p is 0, and held by unit s
 abbrev pub putEntry : ℕ → ℕ → ℕ → LogEntry

@@ -21,7 +21,7 @@ use Rattle.inspect.specs.promises.Located.{queueHere, journalHere}
 
 -- "counts and numbers in range"
 unfoldable pub numbersRight : Record → Bool
-numbersRight r = each (leb (r .len) queuePlaces ∷ ltb (r .head) queuePlaces ∷ isBlock (r .lastBlock) ∷ isList (r .lastList) ∷ leb (r .conflicts) 65535 ∷ [])
+numbersRight r = each (leb (r .ring .len) queuePlaces ∷ ltb (r .ring .head) queuePlaces ∷ isBlock (r .tally .lastBlock) ∷ isList (r .tally .lastList) ∷ leb (r .tally .conflicts) 65535 ∷ [])
 
 -- may change c stand in unit u's journal, hs being the holders?
 unfoldable pub changeRight : List ℕ → ℕ → Change ℕ → Bool
@@ -37,7 +37,7 @@ unitRight hs x u = each (leb (x .len) journalPlaces ∷ (isOpen x || eqb (x .len
 
 -- all four
 unfoldable pub unitsRight : Record → Bool
-unitsRight r = all (λ u. unitRight (r .holder) (unitAt r u) u) (from (λ u. u) 1 unitCount)
+unitsRight r = all (λ u. unitRight (r .held .holder) (unitAt r u) u) (from (λ u. u) 1 unitCount)
 
 -- is u the number of an open unit?
 unfoldable pub openUnit : Record → ℕ → Bool
@@ -75,7 +75,7 @@ rowsOf (some x) = x .state .lists
 unfoldable pub settledRight : List ℕ → List ℕ → Record → Reader ℕ → Bool
 settledRight c q r x =
     let o = replay x (queueHere r) in
-    each (lawful (queueHere r) ∷ isSome o ∷ holdersRight r (rowsOf o) ∷ headStanding c (r .done) (queued (disk c q [] r)) ∷ [])
+    each (lawful (queueHere r) ∷ isSome o ∷ holdersRight r (rowsOf o) ∷ headStanding c (r .ring .done) (queued (disk c q [] r)) ∷ [])
 
 -- the answer b to it, whichever reader the lent tables keep
 abbrev pub Settled : List ℕ → List ℕ → Memory → ℕ → Record → Bool → Type 0

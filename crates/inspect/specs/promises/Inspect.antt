@@ -32,7 +32,7 @@ behindLog d =
     (all (λ e. legal (raw 0 e)) (queued d)
     ∷ isSome (committedReader d)
     ∷ all (holderSound d) (from (λ b. b) 1 64)
-    ∷ headStanding (d .card) (d .rec .done) (queued d)
+    ∷ headStanding (d .card) (d .rec .ring .done) (queued d)
     ∷ [])
 
 -- these hold, the tables showing state v and p being the place behind the log

@@ -26,10 +26,10 @@ pub record Located (d : Disk) (t : Tables) (s : State Content) : Type 0 where
 
 -- the queue's entry k
 unfoldable pub queuedHere : Record → ℕ → Entry ℕ
-queuedHere r k = let p = ringPlace r k in let q = getD (r .queue) p noCell in mapEntry (λ s. queueLocation p) (asEntry (memberIn q) (entryIn q))
+queuedHere r k = let p = ringPlace r k in let q = getD (r .ring .queue) p noCell in mapEntry (λ s. queueLocation p) (asEntry (memberIn q) (entryIn q))
 
 unfoldable pub queueHere : Record → List (Entry ℕ)
-queueHere r = from (queuedHere r) 0 (r .len)
+queueHere r = from (queuedHere r) 0 (r .ring .len)
 
 -- change k of unit u's journal
 unfoldable pub changeHere : Unit → ℕ → ℕ → Change ℕ

@@ -36,14 +36,14 @@ returns : tie.Need-returns
 returns c =
     let a = c .before .before .before .before .before .args in
     let n = c .before .conflicts in
-    let e : (n .result + 1) % 256 + 256 * ((n .result + 1) / 256) ≡ min 65535 (recordIn (a .rec .now) .conflicts + 1) = omega (arith, n .ensures) in
+    let e : (n .result + 1) % 256 + 256 * ((n .result + 1) / 256) ≡ min 65535 (recordIn (a .rec .now) .tally .conflicts + 1) = omega (arith, n .ensures) in
     conflicts-in (a .rec .now) (c .before .before .before .sized .ensures) _ _ ∙ ap (withConflicts (recordIn (a .rec .now))) e
 
 returns-2 : tie.Need-returns-2
 returns-2 c =
     let a = c .before .before .before .before .before .args in
     let n = c .before .conflicts in
-    let e : recordIn (a .rec .now) .conflicts ≡ min 65535 (recordIn (a .rec .now) .conflicts + 1) = omega (arith, n .ensures) in
+    let e : recordIn (a .rec .now) .tally .conflicts ≡ min 65535 (recordIn (a .rec .now) .tally .conflicts + 1) = omega (arith, n .ensures) in
     ap (withConflicts (recordIn (a .rec .now))) e
 
 pub count-conflict-spec : {M : Type 1} → statement M

@@ -24,7 +24,7 @@ held : (r : Record) (rs : List (Row ℕ)) (b : ℕ) → holderOf r b ≢ 0 → u
 held r rs b h = rw (eqb-false (holderOf r b) 0 h) (or-true (placed b rs))
 
 abbrev Inv-loop : tie.InvT-loop
-Inv-loop nodes rec b₀ i₀ b i = (i ≤ 64) × OfShown (tablesIn nodes) (λ rs. Left (used (recordIn rec) rs) 64 (recordIn rec .lastBlock) i b)
+Inv-loop nodes rec b₀ i₀ b i = (i ≤ 64) × OfShown (tablesIn nodes) (λ rs. Left (used (recordIn rec) rs) 64 (recordIn rec .tally .lastBlock) i b)
 
 abbrev μ-loop : tie.MeasureT-loop
 μ-loop nodes rec b₀ i₀ b i = 64 - i

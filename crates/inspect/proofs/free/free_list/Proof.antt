@@ -13,7 +13,7 @@ use Rattle.inspect.proofs.free.free_list.Statement.{statement}
 use Rattle.inspect.proofs.free.free_list.Tie as tie
 
 abbrev Inv-loop : tie.InvT-loop
-Inv-loop nodes rec l₀ i₀ l i = (i ≤ 16) × OfShown (tablesIn nodes) (λ rs. Left (λ x. taken x rs) 16 (recordIn rec .lastList) i l)
+Inv-loop nodes rec l₀ i₀ l i = (i ≤ 16) × OfShown (tablesIn nodes) (λ rs. Left (λ x. taken x rs) 16 (recordIn rec .tally .lastList) i l)
 
 abbrev μ-loop : tie.MeasureT-loop
 μ-loop nodes rec l₀ i₀ l i = 16 - i

@@ -28,7 +28,7 @@ returns c =
     let d = c .before .before in
     let a = d .before .before .before .args in
     let r = recordIn (a .rec .now) in
-    λ j. rw (d .done .ensures) (sym (head-none (a .card .now) (a .queue-data .now) j r (r .done) (sym (c .before .len .ensures) ∙ c .if1 .taken)))
+    λ j. rw (d .done .ensures) (sym (head-none (a .card .now) (a .queue-data .now) j r (r .ring .done) (sym (c .before .len .ensures) ∙ c .if1 .taken)))
 
 head-requires : tie.Need-head-requires
 head-requires c κs = search needs
@@ -84,8 +84,8 @@ returns-2 c =
     let r = recordIn (a .rec .now) in
     let g = c .before .before .before .p .given in
     λ j.
-    rw (head-some (a .card .now) (a .queue-data .now) j r (r .done) _ (a .place) (some (g .0 .0)) (s .pre .3)
-    (λ z. i .if1 .left (i .before .len .ensures ∙ z)) (slot-part (a .queue-data .now) (r .head)) (s .pre .4)
+    rw (head-some (a .card .now) (a .queue-data .now) j r (r .ring .done) _ (a .place) (some (g .0 .0)) (s .pre .3)
+    (λ z. i .if1 .left (i .before .len .ensures ∙ z)) (slot-part (a .queue-data .now) (r .ring .head)) (s .pre .4)
     (sym (rw (g .1, q .ensures .1, h .ensures) at (o .home-of .ensures))))
     (rw (q .ensures .0, q .ensures .1, h .ensures, i .before .before .done .ensures) at (c .is-begun .ensures))
 
@@ -101,7 +101,7 @@ returns-3 c =
     let r = recordIn (a .rec .now) in
     λ j.
     rw (i .before .before .done .ensures)
-    (sym (head-some (a .card .now) (a .queue-data .now) j r (r .done) _ (a .place) none (s .pre .3)
+    (sym (head-some (a .card .now) (a .queue-data .now) j r (r .ring .done) _ (a .place) none (s .pre .3)
     (λ z. i .if1 .left (i .before .len .ensures ∙ z)) refl (s .pre .4)
     (sym (rw (c .enum-told .given .1, q .ensures .1, h .ensures) at (o .home-of .ensures)))))
 

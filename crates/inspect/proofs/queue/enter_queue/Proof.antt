@@ -14,7 +14,7 @@ use Rattle.inspect.proofs.queue.enter_queue.Tie as tie
 abbrev Inv-loop : tie.InvT-loop
 Inv-loop nodes₀ members₀ rec run first n members-in-run₀ k₀ nodes members members-in-run k =
     let r = recordIn rec in
-    (k ≤ n) × (n ≡ r .len) × (first ≡ r .head) × (members-in-run ≤ run + k)
+    (k ≤ n) × (n ≡ r .ring .len) × (first ≡ r .ring .head) × (members-in-run ≤ run + k)
     × ((x : Reader ℕ) → Keeps (memory nodes₀ members₀) run x → FedUpTo r x k members-in-run (memory nodes members))
 
 abbrev μ-loop : tie.MeasureT-loop

@@ -15,7 +15,7 @@ is-member-requires c κs = search needs
 returns : tie.Need-returns
 returns c =
     let s = c .before .before .args in
-    change-wrong (recordIn (s .rec .now) .holder) (s .u) (asChange (s .e)) (sym (c .before .is-member .ensures) ∙ not-true _ (c .if1 .taken))
+    change-wrong (recordIn (s .rec .now) .held .holder) (s .u) (asChange (s .e)) (sym (c .before .is-member .ensures) ∙ not-true _ (c .if1 .taken))
 
 enum-known-e : tie.Need-enum-known-e
 enum-known-e c = search needs
@@ -35,7 +35,7 @@ returns-2 c =
     let s = c .before .before .before .before .before .before .args in
     let g = c .before .before .e .given in
     let m = sym (c .before .before .before .before .before .is-member .ensures) ∙ not-false _ (c .before .before .before .before .if1 .left) in
-    rw (c .holder-of .ensures) (change-puts (recordIn (s .rec .now) .holder) (s .u) (asChange (s .e)) (g .0 .0) m (rw (g .1)))
+    rw (c .holder-of .ensures) (change-puts (recordIn (s .rec .now) .held .holder) (s .u) (asChange (s .e)) (g .0 .0) m (rw (g .1)))
 
 returns-3 : tie.Need-returns-3
 unfolding putBy asChange
@@ -43,12 +43,12 @@ returns-3 c =
     let s = c .before .before .before .before .before .before .args in
     let g = c .before .before .e2 .given in
     let m = sym (c .before .before .before .before .before .is-member .ensures) ∙ not-false _ (c .before .before .before .before .if1 .left) in
-    rw (c .holder-of2 .ensures) (change-puts (recordIn (s .rec .now) .holder) (s .u) (asChange (s .e)) (g .0 .0) m (rw (g .1)))
+    rw (c .holder-of2 .ensures) (change-puts (recordIn (s .rec .now) .held .holder) (s .u) (asChange (s .e)) (g .0 .0) m (rw (g .1)))
 
 returns-4 : tie.Need-returns-4
 returns-4 c =
     let s = c .before .before .before .args in
-    change-no-put (recordIn (s .rec .now) .holder) (s .u) (s .e) (c .match .keys3) (sym (c .before .before .is-member .ensures) ∙ not-false _ (c .before .if1 .left))
+    change-no-put (recordIn (s .rec .now) .held .holder) (s .u) (s .e) (c .match .keys3) (sym (c .before .before .is-member .ensures) ∙ not-false _ (c .before .if1 .left))
 
 pub entry-right-spec : {M : Type 1} → statement M
 entry-right-spec =

@@ -14,7 +14,7 @@ use Rattle.inspect.proofs.units.unit_right.Tie as tie
 abbrev Inv-loop : tie.InvT-loop
 Inv-loop rec u n k₀ k =
     let x = unitAt (recordIn rec) u in
-    (k ≤ n) × (n ≡ x .len) × (n ≤ 15) × (isOpen x ≡ true) × Left (changeRight (recordIn rec .holder) u) (changeIn x) (x .len) k
+    (k ≤ n) × (n ≡ x .len) × (n ≤ 15) × (isOpen x ≡ true) × Left (changeRight (recordIn rec .held .holder) u) (changeIn x) (x .len) k
 
 abbrev μ-loop : tie.MeasureT-loop
 μ-loop rec u n k₀ k = n - k
@@ -26,7 +26,7 @@ returns : tie.Need-returns Inv-loop μ-loop
 returns c =
     let s = c .before .before .args in
     let r = recordIn (s .rec .now) in
-    unit-long (r .holder) (unitAt r (s .u)) (s .u) (omega (arith, c .before .journal-len .ensures, c .if1 .taken))
+    unit-long (r .held .holder) (unitAt r (s .u)) (s .u) (omega (arith, c .before .journal-len .ensures, c .if1 .taken))
 
 opened-requires : tie.Need-opened-requires Inv-loop μ-loop
 opened-requires c κs = search needs
@@ -36,7 +36,7 @@ returns-2 c =
     let s = c .before .before .before .before .args in
     let r = recordIn (s .rec .now) in
     rw (c .before .before .before .journal-len .ensures)
-    (unit-closed (r .holder) (unitAt r (s .u)) (s .u) (sym (c .before .opened .ensures) ∙ not-true _ (c .if2 .taken)))
+    (unit-closed (r .held .holder) (unitAt r (s .u)) (s .u) (sym (c .before .opened .ensures) ∙ not-true _ (c .if2 .taken)))
 
 loop-holds : tie.Need-loop-holds Inv-loop μ-loop
 loop-holds c = (omega arith, c .before .before .before .journal-len .ensures, omega arith, sym (c .before .opened .ensures) ∙ not-false _ (c .if2 .left), left-all _ _ _)
@@ -57,8 +57,8 @@ returns-3 c =
     let r = recordIn (s .rec .now) in
     let x = unitAt r (s .u) in
     let e = rw (c .before .before .journal-entry .ensures) at (c .before .entry-right .ensures) in
-    left-fails (changeRight (r .holder) (s .u)) (changeIn x) (x .len) (l .k) (l .inv .4) (omega arith) (sym e ∙ not-true _ (c .if3 .taken))
-    ∙ unit-open (r .holder) x (s .u) (omega arith) (l .inv .3)
+    left-fails (changeRight (r .held .holder) (s .u)) (changeIn x) (x .len) (l .k) (l .inv .4) (omega arith) (sym e ∙ not-true _ (c .if3 .taken))
+    ∙ unit-open (r .held .holder) x (s .u) (omega arith) (l .inv .3)
 
 add-k : tie.Need-add-k Inv-loop μ-loop
 add-k c = search needs
@@ -77,7 +77,7 @@ loop-again c =
       l .inv .1,
       l .inv .2,
       l .inv .3,
-      left-passes (changeRight (r .holder) (s .u)) (changeIn x) (x .len) (l .k) (l .inv .4) (omega arith) (sym e ∙ not-false _ (c .if3 .left)),
+      left-passes (changeRight (r .held .holder) (s .u)) (changeIn x) (x .len) (l .k) (l .inv .4) (omega arith) (sym e ∙ not-false _ (c .if3 .left)),
     )
 
 returns-4 : tie.Need-returns-4 Inv-loop μ-loop
@@ -86,8 +86,8 @@ returns-4 c =
     let s = c .before .before .before .before .before .before .args in
     let r = recordIn (s .rec .now) in
     let x = unitAt r (s .u) in
-    left-ends (changeRight (r .holder) (s .u)) (changeIn x) (x .len) (l .k) (l .inv .4) (omega arith)
-    ∙ unit-open (r .holder) x (s .u) (omega arith) (l .inv .3)
+    left-ends (changeRight (r .held .holder) (s .u)) (changeIn x) (x .len) (l .k) (l .inv .4) (omega arith)
+    ∙ unit-open (r .held .holder) x (s .u) (omega arith) (l .inv .3)
 
 pub unit-right-spec : {M : Type 1} → statement M
 unit-right-spec =
