@@ -1,7 +1,7 @@
 """What tests/card-file and tests/card-file-faults share: card files in folders of their own, runs of the programs, and cases.
 
-The programs are target/bin/shell and target/bin/lister, or the commands in the environment variables SHELL_UNDER_TEST and
-LISTER_UNDER_TEST. They are copied first, so that a user without rights can run them too.
+The programs are target/bin/shell, target/bin/lister and target/bin/page, or the commands in the environment variables
+SHELL_UNDER_TEST, LISTER_UNDER_TEST and PAGE_UNDER_TEST. They are copied first, so that a user without rights can run them too.
 """
 
 import os
@@ -17,6 +17,9 @@ from programs import ours
 SECONDS_FOR_A_RUN = 60
 
 NOBODY = 65534
+
+# The programs that read a card on standard input.
+READERS = "lister", "page"
 
 # Every byte of a card counts, so the old one and the new one differ in all of them.
 OLD = bytes(n * 7 % 251 for n in range(16_384))
@@ -48,12 +51,12 @@ class Run:
 
 
 class Folder:
-    """A folder of its own, with both programs beside it."""
+    """A folder of its own, with the programs beside it."""
 
     def __enter__(self):
         self.top = Path(tempfile.mkdtemp(prefix="test-"))
         self.top.chmod(0o755)
-        for name in "shell", "lister":
+        for name in "shell", *READERS:
             shutil.copy(ours(name)[0], self.top / name)
             (self.top / name).chmod(0o755)
         self.path = self.top / "cards"
@@ -69,9 +72,8 @@ class Folder:
     def shell(self):
         return str(self.top / "shell")
 
-    @property
-    def lister(self):
-        return str(self.top / "lister")
+    def reader(self, name):
+        return str(self.top / name)
 
     def card(self, content=OLD, name="card"):
         path = self.path / name

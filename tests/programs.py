@@ -26,12 +26,12 @@ def build_second():
 
 
 def second(name, *arguments):
-    """The command of the second implementation's shell or lister."""
+    """The command of the second implementation's shell, lister or page program."""
     return [BUILT / f"second-{name}", *arguments]
 
 
 def ours(name):
-    """The command of our shell or lister, or the one in NAME_UNDER_TEST; a path in it begins at the repository's root."""
+    """The command of our shell, lister or page program, or the one in NAME_UNDER_TEST; a path in it begins at the repository's root."""
     variable = f"{name.upper()}_UNDER_TEST"
     command = shlex.split(os.environ.get(variable, f"target/bin/{name}"))
     path = shutil.which(ROOT / command[0] if "/" in command[0] else command[0])

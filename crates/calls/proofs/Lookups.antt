@@ -1,28 +1,34 @@
 -- What the look-ups perform, from what the tables of a view answer.
-use mathlib.Core.Path.{_≡_, sym, _∙_}
+use mathlib.Core.Path.{_≡_, sym, ap, _∙_}
 use mathlib.Core.Logic.{_≢_}
 use mathlib.Core.Bool.{Bool, true, false, _&&_, _||_}
-use mathlib.Core.List.{List, []}
-use Prim.Native.Nat.{ℕ}
+use mathlib.Core.List.{List, [], _++_}
+use Prim.Native.Nat.{ℕ, _+_, _≤_, _<_}
+use native.Mathlib.Omega.{arith}
 use lib.Dec.{leb, eqb}
-use lib.ListN.{length}
-use Rattle.lists.specs.State.{taken, onList}
-use Rattle.lists.specs.Lookup.{nextAfter}
+use lib.ListN.{length, drop}
+use lib.Seq.{sets-eq}
+use Rattle.lists.specs.State.{Row, taken, onList}
+use Rattle.lists.specs.Lookup.{nextAfter, listNums}
 use Rattle.lists.specs.promises.Tables.{Tables, IsList, OfShown}
-use Rattle.lists.proofs.Basic.{eqb-false, eq-true}
+use Rattle.lists.proofs.Storing.{Stored}
+use Rattle.lists.proofs.Basic.{eqb-false, eq-true, le-true, gt-false}
 use Rattle.log.specs.Entry.{isList}
+use Rattle.text.specs.Written.{written, Puts}
+use Rattle.listing.specs.Page.{pageText}
+use Rattle.listing.proofs.Pages.{page-map}
 use Rattle.disk.specs.declared.answer.Refusal.{Refusal}
-use Rattle.disk.specs.declared.answer.Refusal.the-variants.{OutOfRange, ListNotTaken, PredecessorElsewhere}
+use Rattle.disk.specs.declared.answer.Refusal.the-variants.{OutOfRange, ListNotTaken, PredecessorElsewhere, BufferTooShort}
 use Rattle.disk.specs.declared.answer.NumberReply as N
 use Rattle.disk.specs.Disk.{Disk, view}
-use Rattle.disk.specs.Call.{blockAfter, inventory, inView, lentTo, destination}
+use Rattle.disk.specs.Call.{blockAfter, inventory, page, inView, lentTo, destination}
 use Rattle.disk.specs.Questions.{predecessorRight, lookQuestions, questions, refusal}
 use Rattle.disk.specs.Perform.{found, accepted}
 use Rattle.disk.specs.Answers.{number, numberAnswer}
 use Rattle.calls.specs.Performs.{Performs}
 use Rattle.inspect.specs.promises.Inspect.{Sees}
-use Rattle.inspect.proofs.Locating.{onList-here, listNums-here, of-shown, taken-told, nextAfter-told}
-use Rattle.calls.proofs.Taken.{Stored}
+use Rattle.inspect.specs.promises.Located.{contents}
+use Rattle.inspect.proofs.Locating.{lists-here, onList-here, listNums-here, of-shown, taken-told, nextAfter-told}
 use Rattle.calls.proofs.Refusing.{ask-yes, ask-no, last-yes, seen, position-range, usual-performs-refused, performs-accepted}
 
 module _ (d : Disk) (v l p : ℕ) where
@@ -79,8 +85,46 @@ module _ (d : Disk) (v : ℕ) (x : List ℕ) where
     unfolding refusal questions lookQuestions destination lentTo numberAnswer number
     inventory-out h = usual-performs-refused (inView v (inventory x)) d OutOfRange tt (seen _ s ∙ ask-no 5 _ _ (eqb-false (length x) 16 h))
 
-    pub inventory-given : length x ≡ 16 → (n : ℕ) (y : List ℕ) → OfShown t (λ rs. Stored x rs n y) → Inventories (N.the-variants.Number n) y
+    pub inventory-given : length x ≡ 16 → (n : ℕ) (y : List ℕ) → OfShown t (λ rs. Stored x (listNums rs) n y) → Inventories (N.the-variants.Number n) y
     unfolding refusal questions lookQuestions accepted found numberAnswer
     inventory-given h n y f =
-        let (a, b) = of-shown d t (view d v) (s .located) (λ rs. Stored x rs n y) f in
+        let (a, b) = of-shown d t (view d v) (s .located) (λ rs. Stored x (listNums rs) n y) f in
         performs-accepted (inView v (inventory x)) d _ (seen _ s ∙ last-yes 5 _ (eq-true (length x) 16 h)) (rw (listNums-here d t (view d v) (s .located), a, b))
+
+-- A text put at the front of a buffer that it fits.
+put-front : (x t y : List ℕ) (next n : ℕ) → Puts x 0 t y next → n ≡ length t → n ≤ length x → y ≡ t ++ drop n x
+unfolding written
+put-front x t y next n p e h =
+    let same : 0 + length t ≡ n = omega arith in
+    p .bytes ∙ sets-eq t x 0 (omega arith) ∙ ap (λ (k : ℕ). t ++ drop k x) same
+
+module _ (d : Disk) (v : ℕ) (x : List ℕ) where
+  abbrev Prints : N.NumberReply → List ℕ → Type 0
+  Prints r y = Performs (inView v (page x)) d d (numberAnswer r) y
+
+  module _ (t : Tables) (s : Sees true d v t) (n : ℕ) (f : OfShown t (λ rs. n ≡ length (pageText rs))) where
+    abbrev here : List (Row ℕ)
+    here = s .located .here .lists
+
+    here-length : n ≡ length (pageText here)
+    here-length = of-shown d t (view d v) (s .located) (λ rs. n ≡ length (pageText rs)) f
+
+    page-view : pageText (view d v .lists) ≡ pageText here
+    page-view = ap pageText (lists-here d t (view d v) (s .located)) ∙ page-map (contents d) here
+
+    view-length : length (pageText (view d v .lists)) ≡ n
+    view-length = ap length page-view ∙ sym here-length
+
+    pub page-short : length x < n → Prints (N.the-variants.Refused BufferTooShort) x
+    unfolding refusal questions lookQuestions destination lentTo numberAnswer number
+    page-short h =
+        usual-performs-refused (inView v (page x)) d BufferTooShort tt
+        (seen _ s ∙ ask-no 14 _ _ (gt-false (length (pageText (view d v .lists))) (length x) (omega (arith, view-length))))
+
+    pub page-given : n ≤ length x → (y : List ℕ) (next : ℕ) → OfShown t (λ rs. Puts x 0 (pageText rs) y next) → Prints (N.the-variants.Number n) y
+    unfolding refusal questions lookQuestions accepted found numberAnswer
+    page-given h y next g =
+        let p = put-front x (pageText here) y next n (of-shown d t (view d v) (s .located) (λ rs. Puts x 0 (pageText rs) y next) g) here-length h in
+        performs-accepted (inView v (page x)) d _
+        (seen _ s ∙ last-yes 14 _ (le-true (length (pageText (view d v .lists))) (length x) (omega (arith, view-length))))
+        (rw (view-length, page-view, p))

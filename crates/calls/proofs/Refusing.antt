@@ -11,7 +11,7 @@ use Rattle.lists.specs.promises.Tables.{Tables, IsList}
 use Rattle.lists.proofs.Basic.{and-true, or-cases, leb-true, eqb-true, eqb-false, gt-false}
 use Rattle.log.specs.Entry.{isList}
 use Rattle.disk.specs.declared.answer.Refusal.{Refusal}
-use Rattle.disk.specs.declared.answer.Refusal.the-variants.{WrongLength, LogFault, RecordUnsound, StreamClosed, OutOfRange, UnitOpen, ListNotTaken, BlockNotPlaced, PredecessorElsewhere, NoNumberFree, JournalFull, Conflict, QueueFull, Unwritten}
+use Rattle.disk.specs.declared.answer.Refusal.the-variants.{WrongLength, LogFault, RecordUnsound, StreamClosed, OutOfRange, UnitOpen, ListNotTaken, BlockNotPlaced, PredecessorElsewhere, NoNumberFree, JournalFull, Conflict, QueueFull, BufferTooShort, Unwritten}
 use Rattle.disk.specs.Disk.{Disk, view}
 use Rattle.disk.specs.Sound.{lengthsRight, recordSound, isOpenUnit}
 use Rattle.disk.specs.Questions.{streamOpen, editQuestions, lookQuestions, questions, ask, firstNo, refusal}
@@ -60,6 +60,7 @@ number-some NoNumberFree = (_, refl)
 number-some JournalFull = (_, refl)
 number-some Conflict = (_, refl)
 number-some QueueFull = (_, refl)
+number-some BufferTooShort = (_, refl)
 number-some Unwritten = (_, refl)
 
 pub number-nonzero : (x : Refusal) → number x ≢ 0

@@ -16,6 +16,7 @@ pub mod mount;
 pub mod new_block;
 pub mod new_list;
 pub mod next;
+pub mod page;
 mod ranges;
 pub mod read;
 pub mod write;

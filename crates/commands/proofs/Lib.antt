@@ -2,7 +2,6 @@ pub mod Accepted
 pub mod Breaking
 pub mod Calling
 pub mod Events
-pub mod Kept
 pub mod Lending
 pub mod Ranges
 pub mod Running

@@ -1,7 +1,7 @@
 -- The block behind another on a list fits a byte: no change of a log puts a block above 64.
 use mathlib.Core.Path.{_≡_, refl, sym, ap, _∙_}
 use mathlib.Core.Logic.{_≢_}
-use mathlib.Core.Bool.{Bool, true, false, _&&_, _||_, not}
+use mathlib.Core.Bool.{Bool, true, false, _||_, and-false}
 use mathlib.Core.List.{List, [], _∷_, map}
 use Prim.Native.Nat.{ℕ, _≤_, _<_}
 use native.Mathlib.Omega.{arith}
@@ -9,13 +9,9 @@ use native.Mathlib.Decide.{decLe}
 use lib.Dec.{leb, eqb}
 use lib.ListN.{getD}
 use Rattle.lists.specs.Basic.{any}
-use Rattle.lists.specs.Change.{Change, takeList, putFirst, putAfter, write, delBlock, delList, mapChange}
 use Rattle.lists.specs.State.{Block, Row, isBlockNum, onRow, placed}
 use Rattle.lists.specs.Lookup.{blocksOf, nextIn, nextAfter}
-use Rattle.lists.proofs.Basic.{and-true, or-both, not-false, not-true, leb-true, eqb-false, eqb-neq}
-use Rattle.lists.proofs.Count.{puts}
-use Rattle.lists.proofs.Placed.{placed-apply}
-use Rattle.log.specs.Entry.{legalChange, isBlock, isList}
+use Rattle.lists.proofs.Basic.{or-both, eqb-false, eqb-neq, gt-false}
 use Rattle.log.specs.Card.{Content}
 use Rattle.disk.specs.Disk.{Disk, view}
 use Rattle.disk.specs.Call.{blockAfter, inView}
@@ -27,28 +23,13 @@ use Rattle.calls.specs.Performs.{Performs}
 use Rattle.disk.proofs.Questions.{yes-all}
 use Rattle.disk.proofs.Clauses.{Right, right}
 use Rattle.disk.proofs.Performing.{perform-accepted}
-use Rattle.commands.proofs.Kept.{view-kept}
+use Rattle.disk.proofs.Ranges.{unplaced}
 use Rattle.commands.proofs.Accepted.{code-accepted}
 
 -- A block above 64 is on no list of an open view.
 module _ (b : ℕ) (far : 64 < b) where
-  other : (n : ℕ) → isBlock n ≡ true → not (eqb n b) ≡ true
-  other n h = not-true (eqb n b) (eqb-false n b (λ e. absurd (omega (arith, leb-true n 64 (and-true (leb 1 n) (leb n 64) h .1)))))
-
-  legal-spares : (k : ℕ) (c : Change Content) → legalChange (mapChange (λ x. k) c) ≡ true → not (puts c b) ≡ true
-  unfolding legalChange mapChange
-  legal-spares k (takeList l) h = refl
-  legal-spares k (putFirst n l) h = other n (and-true (isBlock n) (isList l) h .0)
-  legal-spares k (putAfter n l p) h = other n (and-true (isBlock n) (isList l) (and-true (isBlock n && isList l) (isBlock p) h .0) .0)
-  legal-spares k (write n x) h = refl
-  legal-spares k (delBlock n) h = refl
-  legal-spares k (delList l) h = refl
-
-  unplaced : (d : Disk) → Right d → (v : ℕ) → viewOpen d v ≡ true → placed b (view d v .lists) ≡ false
-  unfolding placed
-  unplaced d k v h =
-      view-kept (λ s. placed b (s .lists) ≡ false) (λ c. not (puts c b)) refl legal-spares
-      (λ c s t p e q. placed-apply c s t b (not-false (puts c b) p) q e) d k v h
+  unplaced-far : (d : Disk) → Right d → (v : ℕ) → viewOpen d v ≡ true → placed b (view d v .lists) ≡ false
+  unplaced-far d k v h = unplaced b (rw (gt-false b 64 far) (and-false (leb 1 b))) d k v h
 
   -- nor does it follow another there
   following : (p : ℕ) (ns : List ℕ) → any (λ n. eqb n b) ns ≡ false → nextIn p ns ≢ b
@@ -90,7 +71,7 @@ module _ (d : Disk) (v l p : ℕ) where
       let y = yes-all (inView v (blockAfter l p)) d h in
       let n = nextAfter (view d v .lists) l p in
       rw (perform-accepted (inView v (blockAfter l p)) d h)
-      (go n (λ b f. next-other b f (view d v .lists) l p (unplaced b f d (right d (y 0) (y 1)) v (y 2))))
+      (go n (λ b f. next-other b f (view d v .lists) l p (unplaced-far b f d (right d (y 0) (y 1)) v (y 2))))
     where
       go : (n : ℕ) → ((b : ℕ) → 64 < b → n ≢ b) → n ≤ 64
       go n f = elim (decLe n 64) [ yes q ↦ q | no q ↦ absurd (f n (omega arith) refl) ]

@@ -4,7 +4,7 @@ use mathlib.Core.List.{List, _++_}
 use Prim.Native.Nat.{ℕ}
 use lib.ListN.{take, replicate}
 use Rattle.disk.specs.Disk.{Disk}
-use Rattle.disk.specs.Call.{Edit, newList, newBlock, writeBlock, deleteBlock, deleteList, Look, readBlock, blockAfter, inventory, Call, format, mount, conflictCount, onStream, inView, begin, end, flush}
+use Rattle.disk.specs.Call.{Edit, newList, newBlock, writeBlock, deleteBlock, deleteList, Look, readBlock, blockAfter, inventory, page, Call, format, mount, conflictCount, onStream, inView, begin, end, flush}
 use Rattle.disk.specs.Perform.{perform}
 use Rattle.text.specs.Hex.{hexBytes}
 use Rattle.text.specs.Written.{Puts}
@@ -19,9 +19,9 @@ use Rattle.commands.specs.Replies.{lineOf}
 unfoldable pub dataLent : List ℕ → ℕ → List ℕ
 dataLent digits n = take n (hexBytes digits ++ replicate 44 0)
 
--- "with N (0 to 300) the destination lent has N bytes"
+-- "with N (0 to 300) the destination lent has N bytes"; of a page "the buffer lent has 820 bytes, or N (0 to 1,000)"
 unfoldable pub bytesLent : ℕ → List ℕ
-bytesLent n = take n (replicate 300 0)
+bytesLent n = take n (replicate 1000 0)
 
 -- the data to write stand in the line
 unfoldable pub editOf : List ℕ → E.Edit → Edit
@@ -35,6 +35,7 @@ unfoldable pub lookOf : K.Look → Look
 lookOf (K.the-variants.Read b n) = readBlock b (bytesLent n)
 lookOf (K.the-variants.Next l p) = blockAfter l p
 lookOf (K.the-variants.Inventory n) = inventory (bytesLent n)
+lookOf (K.the-variants.Page n) = page (bytesLent n)
 
 unfoldable pub callOf : List ℕ → Q.Request → Call
 callOf line Q.the-variants.Format = format

@@ -1,9 +1,9 @@
 -- The line that a call's result is printed as.
 use mathlib.Core.List.{List}
 use Prim.Native.Nat.{ℕ}
-use Rattle.disk.specs.Call.{Edit, newList, newBlock, writeBlock, deleteBlock, deleteList, Look, readBlock, blockAfter, inventory, Call, format, mount, conflictCount, onStream, inView, begin, end, flush}
+use Rattle.disk.specs.Call.{Edit, newList, newBlock, writeBlock, deleteBlock, deleteList, Look, readBlock, blockAfter, inventory, page, Call, format, mount, conflictCount, onStream, inView, begin, end, flush}
 use Rattle.disk.specs.Perform.{Answer, Result}
-use Rattle.script.specs.Lines.{answerLine, numberedLine, mountLine, flushLine, readLine, inventoryLine}
+use Rattle.script.specs.Lines.{answerLine, numberedLine, mountLine, flushLine, readLine, inventoryLine, pageReply}
 
 -- an edit: the number where one is given
 unfoldable pub editLine : Edit → Answer → List ℕ
@@ -17,6 +17,7 @@ unfoldable pub lookLine : Look → Result → List ℕ
 lookLine (readBlock b x) r = readLine (r .answer) (r .lent)
 lookLine (blockAfter l p) r = numberedLine (r .answer)
 lookLine (inventory x) r = inventoryLine (r .answer) (r .lent)
+lookLine (page x) r = pageReply (r .answer) (r .lent)
 
 unfoldable pub lineOf : Call → Result → List ℕ
 lineOf format r = answerLine (r .answer)

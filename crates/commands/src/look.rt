@@ -1,4 +1,4 @@
-// The look-ups in a view; read and the inventory, on so many bytes as are lent to them.
+// The look-ups in a view; read, the inventory and the page, on so many bytes as are lent to them.
 use crate::state::within;
 use disk::answer::NumberReply;
 use disk::answer::Reply;
@@ -6,6 +6,7 @@ use disk::record::RECORD;
 use script::command::Look;
 use script::replies::put_inventory;
 use script::replies::put_numbered;
+use script::replies::put_page;
 use script::replies::put_read;
 use text::line::part;
 ghost use lib.ListN.{take};
@@ -15,8 +16,8 @@ ghost use Rattle.disk.specs.Answers.{replyAnswer, numberAnswer};
 ghost use Rattle.calls.specs.Performs.{Performs};
 ghost use Rattle.commands.specs.Called.{lookOf, bytesLent, Calls};
 
-// The most bytes that are lent as a destination.
-const PART: usize = 300;
+// The most bytes that are lent as a destination: a page's.
+const PART: usize = 1000;
 
 pub fn look(
     view: usize,
@@ -57,6 +58,7 @@ pub fn look(
         Look::Inventory { lent } => {
             inventory(card, queue, journal, rec, view, lent as usize, out, at)
         }
+        Look::Page { lent } => { page(card, queue, journal, rec, view, lent as usize, out, at) }
     }
 }
 
@@ -125,4 +127,36 @@ fn inventory_part(
 {
     let n = within(lent, lists);
     calls::inventory::inventory(card, queue, journal, rec, view, &mut lists[..n])
+}
+
+fn page(
+    card: &[u8],
+    queue: &[u8],
+    journal: &[u8],
+    rec: &[u8; RECORD],
+    view: usize,
+    lent: usize,
+    out: &mut [u8],
+    at: usize,
+) -> usize
+    ensures { λ r. ⌜ Calls (call.inView view (call.page (bytesLent lent))) (diskIn (now (card .entry)) (now (queue .entry)) (now (journal .entry)) (now (rec .entry))) (diskIn (now (card .entry)) (now (queue .entry)) (now (journal .entry)) (now (rec .entry))) (now (out .entry)) at (now (out .exit)) r ⌝ }
+{
+    let mut buffer = [0u8; PART];
+    let reply = page_part(card, queue, journal, rec, view, lent, &mut buffer);
+    put_page(out, at, reply, part(&buffer, 0, lent))
+}
+
+fn page_part(
+    card: &[u8],
+    queue: &[u8],
+    journal: &[u8],
+    rec: &[u8; RECORD],
+    view: usize,
+    lent: usize,
+    buffer: &mut [u8],
+) -> NumberReply
+    ensures { λ r. ⌜ Performs (call.inView view (call.page (take lent (now (buffer .entry))))) (diskIn (now (card .entry)) (now (queue .entry)) (now (journal .entry)) (now (rec .entry))) (diskIn (now (card .entry)) (now (queue .entry)) (now (journal .entry)) (now (rec .entry))) (numberAnswer r) (take lent (now (buffer .exit))) ⌝ }
+{
+    let n = within(lent, buffer);
+    calls::page::page(card, queue, journal, rec, view, &mut buffer[..n])
 }

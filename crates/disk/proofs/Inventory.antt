@@ -31,9 +31,9 @@ use Rattle.disk.proofs.Performing.{perform-accepted}
 use Rattle.disk.proofs.Draining.{Open, open-log}
 
 -- each list once, and numbered in range
-record Listed (s : State Content) : Type 0 where
-  distinct : Distinct (s .lists)
-  range : numbered isList (s .lists) ≡ true
+pub record Listed (s : State Content) : Type 0 where
+  pub distinct : Distinct (s .lists)
+  pub range : numbered isList (s .lists) ≡ true
 
 -- A unit's journal takes no list.
 journal-takes : (r : Record) (u : ℕ) (cs : List (Change Content)) → all (journalSound r u) cs ≡ true → all (mayTake isList) cs ≡ true
@@ -74,7 +74,7 @@ module _ (d : Disk) (k : Right d) where
         range = overlay-numbered isList (journalOf d u) (committed d) (journal-takes (d .rec) u (journalOf d u) (k .units .units u p q .sound)) (c .range);
       }
 
-  view-listed : (v : ℕ) → viewOpen d v ≡ true → Listed (view d v)
+  pub view-listed : (v : ℕ) → viewOpen d v ≡ true → Listed (view d v)
   view-listed v h = open-views d Listed persistent-listed committed-listed unit-listed v h
 
 -- A unit's journal takes no list at all: there is no member map for it.

@@ -26,3 +26,6 @@ pub mod Allowance
 pub mod Order
 pub mod Inventory
 pub mod Contents
+pub mod Kept
+pub mod Ranges
+pub mod Page

@@ -10,7 +10,7 @@ use Rattle.lists.specs.State.{Row}
 use Rattle.lists.proofs.Basic.{and-true, ltb-true, lt-true, eqb-false}
 use Rattle.log.specs.Card.{Content}
 use Rattle.disk.specs.Disk.{Disk, view}
-use Rattle.disk.specs.Call.{Edit, newList, newBlock, writeBlock, deleteBlock, deleteList, Look, readBlock, blockAfter, inventory, Call, format, mount, conflictCount, onStream, inView, begin, end, flush}
+use Rattle.disk.specs.Call.{Edit, newList, newBlock, writeBlock, deleteBlock, deleteList, Look, readBlock, blockAfter, inventory, page, Call, format, mount, conflictCount, onStream, inView, begin, end, flush}
 use Rattle.disk.specs.Questions.{editQuestions, lookQuestions, questions}
 
 -- are the questions' numbers above n, and does each stand above the one before?
@@ -40,6 +40,7 @@ unfolding rising lookQuestions
 look-behind (readBlock b x) rs = record { rises = refl; ends-none = refl }
 look-behind (blockAfter l p) rs = record { rises = refl; ends-none = refl }
 look-behind (inventory x) rs = record { rises = refl; ends-none = refl }
+look-behind (page x) rs = record { rises = refl; ends-none = refl }
 
 pub questions-rise : (c : Call) (d : Disk) → rising 0 (questions c d) ≡ true
 unfolding rising questions

@@ -3,7 +3,7 @@ use Prim.Native.Nat.{ℕ}
 use Rattle.log.specs.Flush.{drained, full, spent}
 use Rattle.disk.specs.Perform.{Answer, endingNumber}
 use Rattle.disk.specs.declared.answer.Refusal.{Refusal}
-use Rattle.disk.specs.declared.answer.Refusal.the-variants.{WrongLength, LogFault, RecordUnsound, StreamClosed, OutOfRange, UnitOpen, ListNotTaken, BlockNotPlaced, PredecessorElsewhere, NoNumberFree, JournalFull, Conflict, QueueFull, Unwritten}
+use Rattle.disk.specs.declared.answer.Refusal.the-variants.{WrongLength, LogFault, RecordUnsound, StreamClosed, OutOfRange, UnitOpen, ListNotTaken, BlockNotPlaced, PredecessorElsewhere, NoNumberFree, JournalFull, Conflict, QueueFull, BufferTooShort, Unwritten}
 use Rattle.disk.specs.declared.answer.Reply as R
 use Rattle.disk.specs.declared.answer.MountReply as M
 use Rattle.disk.specs.declared.answer.NumberReply as N
@@ -23,6 +23,7 @@ number NoNumberFree = 10
 number JournalFull = 11
 number Conflict = 12
 number QueueFull = 13
+number BufferTooShort = 14
 number Unwritten = 15
 
 -- "On no, the number is returned; other returned numbers are 0."

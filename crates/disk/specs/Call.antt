@@ -18,8 +18,9 @@ pub data Look : Type 0 where
   readBlock : ℕ → List ℕ → Look  -- B, the destination lent
   blockAfter : ℕ → ℕ → Look  -- L P
   inventory : List ℕ → Look  -- the destination lent
+  page : List ℕ → Look  -- the buffer lent
 
--- "formatting, mounting, the nine calls [..], three look-ups"
+-- "formatting, mounting, the nine calls [..], three look-ups", and the printed page
 pub data Call : Type 0 where
   format mount conflictCount : Call
   onStream : ℕ → Edit → Call  -- S
@@ -44,6 +45,7 @@ unfoldable pub lentTo : Look → List ℕ
 lentTo (readBlock b x) = x
 lentTo (blockAfter l p) = []
 lentTo (inventory x) = x
+lentTo (page x) = x
 
 unfoldable pub destination : Call → List ℕ
 destination format = []

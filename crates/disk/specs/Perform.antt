@@ -14,9 +14,10 @@ use Rattle.log.specs.Cell.{cellOf}
 use Rattle.log.specs.Card.{Content, slotBytes, segmentsIn, Outcome, sound, fault, mounted, splice}
 use Rattle.log.specs.Store.{doStores, formatStores, tail}
 use Rattle.log.specs.Flush.{Flow, Flushed, Ending, drained, full, spent, flushFrom}
+use Rattle.listing.specs.Page.{pageText}
 use Rattle.disk.specs.Record.{ringPlace, withFlow, withLastBlock, withLastList, appended, journalGrown, unitTurned, holding, releasing, conflictCounted, freshRecord, queuePlaces}
 use Rattle.disk.specs.Disk.{Disk, withRecord, unitOf, journalPlace, journalOf, queued, view}
-use Rattle.disk.specs.Call.{Edit, newList, newBlock, writeBlock, deleteBlock, deleteList, Look, readBlock, blockAfter, inventory, Call, format, mount, conflictCount, onStream, inView, begin, end, flush, ends, destination}
+use Rattle.disk.specs.Call.{Edit, newList, newBlock, writeBlock, deleteBlock, deleteList, Look, readBlock, blockAfter, inventory, page, Call, format, mount, conflictCount, onStream, inView, begin, end, flush, ends, destination}
 use Rattle.disk.specs.Questions.{freeBlock, freeList, refusal}
 
 -- the returned numbers: the question's number or 0, and the results
@@ -119,6 +120,8 @@ found (readBlock b x) s = (0, orElse x (contentOf (s .lists) b))
 found (blockAfter l p) s = (nextAfter (s .lists) l p, [])
 -- "gives a view's lists by when the taking each has in that view stands in the serial history, earliest first": a state's lists stand in this order
 found (inventory x) s = let ls = listNums (s .lists) in (length ls, ls ++ drop (length ls) x)
+-- "The text goes into a lent buffer, its length is returned, and bytes after it don't change."
+found (page x) s = let text = pageText (s .lists) in (length text, text ++ drop (length text) x)
 
 unfoldable pub opening : ℕ → Disk → Disk
 opening u d = withRecord d (unitTurned 1 u (d .rec))

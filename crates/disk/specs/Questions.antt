@@ -10,10 +10,11 @@ use Rattle.lists.specs.State.{Row, State, taken, placed, onList, applyAll}
 use Rattle.lists.specs.Lookup.{written}
 use Rattle.log.specs.Entry.{isBlock, isList}
 use Rattle.log.specs.Card.{Content, slotBytes, mounted}
+use Rattle.listing.specs.Page.{pageText}
 use Rattle.disk.specs.Record.{isOpen, holderOf, queuePlaces, journalPlaces, unitCount}
 use Rattle.disk.specs.Disk.{Disk, unitOf, journalOf, readerOf, committed, view}
 use Rattle.disk.specs.Sound.{lengthsRight, recordSound, isOpenUnit}
-use Rattle.disk.specs.Call.{Edit, newList, newBlock, writeBlock, deleteBlock, deleteList, Look, readBlock, blockAfter, inventory, Call, format, mount, conflictCount, onStream, inView, begin, end, flush}
+use Rattle.disk.specs.Call.{Edit, newList, newBlock, writeBlock, deleteBlock, deleteList, Look, readBlock, blockAfter, inventory, page, Call, format, mount, conflictCount, onStream, inView, begin, end, flush}
 
 -- "2. Mounting: is the log acceptable"
 unfoldable pub mountable : Disk → Bool
@@ -80,6 +81,8 @@ unfoldable pub lookQuestions : Look → List (Row Content) → List (ℕ × Bool
 lookQuestions (readBlock b x) rs = (5, isBlock b && eqb (length x) slotBytes) ∷ (8, placed b rs) ∷ (15, written b rs) ∷ []
 lookQuestions (blockAfter l p) rs = (5, isList l && leb p 64) ∷ (7, taken l rs) ∷ (9, predecessorRight rs l p) ∷ []
 lookQuestions (inventory x) rs = (5, eqb (length x) 16) ∷ []
+-- "A buffer shorter than the text is refused 14, after question 9."
+lookQuestions (page x) rs = (14, leb (length (pageText rs)) (length x)) ∷ []
 
 -- the questions of a call in order, each with its number; "A call passes over what it doesn't use."
 unfoldable pub questions : Call → Disk → List (ℕ × Bool)

@@ -1,6 +1,6 @@
 -- What document 01 says of records, flushes and formattings beside the calls' promises: statements, each proved under its own name in proofs.
 use mathlib.Core.Path.{_≡_}
-use mathlib.Core.Logic.{_⊎_}
+use mathlib.Core.Logic.{_⊎_, _≢_}
 use mathlib.Core.Bool.{true}
 use mathlib.Core.List.{List}
 use Prim.Native.Nat.{ℕ, _+_, _-_, _≤_, _<_}
@@ -10,11 +10,12 @@ use Rattle.log.specs.Card.{cardLength, segmentsIn, count}
 use Rattle.log.specs.Store.{Store, doStores}
 use Rattle.log.specs.Flush.{rest}
 use Rattle.log.specs.Turns.{Steps, Clears}
+use Rattle.listing.specs.Page.{pageText, pageMost}
 use Rattle.disk.specs.Record.{recordIn}
 use Rattle.disk.specs.Disk.{Disk, queued, view}
 use Rattle.disk.specs.Sound.{lengthsRight, recordSound}
-use Rattle.disk.specs.Call.{inventory, Call, inView, flush}
-use Rattle.disk.specs.Questions.{refusal}
+use Rattle.disk.specs.Call.{inventory, page, Call, inView, flush}
+use Rattle.disk.specs.Questions.{viewOpen, refusal}
 use Rattle.disk.specs.Perform.{flowOf, flushed, formatted, perform}
 
 -- "Every accepted call, and refusal 12, leaves a record that is sound by question 3; this is proved." On any disk; the lengths stay right.
@@ -43,6 +44,22 @@ abbrev pub InventoryFills : Type 0
 InventoryFills =
     (v : ℕ) (x : List ℕ) (d : Disk) → refusal (inView v (inventory x)) d ≡ 0
     → let r = perform (inView v (inventory x)) d in Fills (listNums (view d v .lists)) (r .answer .value) x (r .lent)
+
+-- "The text goes into a lent buffer, its length is returned, and bytes after it don't change.": an accepted page
+abbrev pub PageFills : Type 0
+PageFills =
+    (v : ℕ) (x : List ℕ) (d : Disk) → refusal (inView v (page x)) d ≡ 0
+    → let r = perform (inView v (page x)) d in Fills (pageText (view d v .lists)) (r .answer .value) x (r .lent)
+
+-- a refused one leaves the buffer as it was
+abbrev pub PageRefused : Type 0
+PageRefused = (v : ℕ) (x : List ℕ) (d : Disk) → refusal (inView v (page x)) d ≢ 0 → perform (inView v (page x)) d .lent ≡ x
+
+-- how long the page of an open view is at most; a buffer of so many bytes is never too short
+abbrev pub PageBounded : Type 0
+PageBounded =
+    (v : ℕ) (d : Disk) → lengthsRight d ≡ true → recordSound d ≡ true → viewOpen d v ≡ true
+    → (length (pageText (view d v .lists)) ≤ pageMost) × ((x : List ℕ) → pageMost ≤ length x → refusal (inView v (page x)) d ≡ 0)
 
 -- "With allowance m+n it leaves what m, then n leaves, m+n being in range.": the disk; the stores add up, and the ending is the second's
 abbrev pub FlushSum : Type 0

@@ -15,6 +15,7 @@ pub enum Refusal {
     JournalFull,
     Conflict,
     QueueFull,
+    BufferTooShort,
     Unwritten,
 }
 

@@ -2,6 +2,7 @@
 // is never taken for an end, and where a function answers that it failed, errno is that of the call that did.
 pub mod arguments;
 pub mod found;
+pub mod input;
 pub mod message;
 pub mod path;
 pub mod save;

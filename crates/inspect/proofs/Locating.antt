@@ -80,7 +80,7 @@ module _ (d : Disk) where
 
 -- A state that tables show.
 module _ (d : Disk) (t : Tables) (s : State Content) (k : Located d t s) where
-  lists-here : s .lists ≡ map (mapRow (contents d)) (k .here .lists)
+  pub lists-here : s .lists ≡ map (mapRow (contents d)) (k .here .lists)
   lists-here = ap (λ (x : State Content). x .lists) (k .means)
 
   pub taken-here : (l : ℕ) → taken l (s .lists) ≡ taken l (k .here .lists)

@@ -22,12 +22,12 @@ use Rattle.text.specs.Decimal.{decimal}
 use Rattle.listing.specs.Listing.{total, numbers, listLine, listPart, contentText, blockLine, blockPart}
 use Rattle.listing.specs.promises.Shown.{sumAt}
 
-joined-append : {A : Type 0} (xs ys : List (List A)) → joined (xs ++ ys) ≡ joined xs ++ joined ys
+pub joined-append : {A : Type 0} (xs ys : List (List A)) → joined (xs ++ ys) ≡ joined xs ++ joined ys
 unfolding joined
 joined-append [] ys = refl
 joined-append (x ∷ xs) ys = rw (joined-append xs ys) (sym (append-assoc x (joined xs) (joined ys)))
 
-joined-more : {A : Type 0} (f : ℕ → List A) (k n : ℕ) → joined (from f k (suc n)) ≡ joined (from f k n) ++ f (k + n)
+pub joined-more : {A : Type 0} (f : ℕ → List A) (k n : ℕ) → joined (from f k (suc n)) ≡ joined (from f k n) ++ f (k + n)
 unfolding joined
 joined-more f k n =
     rw (from-snoc f k n) (joined-append (from f k n) (f (k + n) ∷ []) ∙ ap (λ (t : List _). joined (from f k n) ++ t) (append-nil (f (k + n))))
@@ -69,12 +69,22 @@ pub numbers-one : (b : ℕ) → numbers (b ∷ []) ≡ 32 ∷ decimal b
 unfolding numbers joined
 numbers-one b = append-nil (32 ∷ decimal b)
 
+-- texts of numbers one behind the other, one number more
+pub each-take : (f : ℕ → List ℕ) (bs : List ℕ) (i : ℕ) → i < length bs → joined (map f (take (suc i) bs)) ≡ joined (map f (take i bs)) ++ f (getD bs i 0)
+unfolding joined
+each-take f bs i h =
+    ap (λ (l : List ℕ). joined (map f l)) (take-suc bs i 0 h)
+    ∙ ap joined (map-append f (take i bs) (getD bs i 0 ∷ []))
+    ∙ joined-append (map f (take i bs)) (f (getD bs i 0) ∷ [])
+    ∙ ap (λ (t : List ℕ). joined (map f (take i bs)) ++ t) (append-nil (f (getD bs i 0)))
+
 pub numbers-take : (bs : List ℕ) (i : ℕ) → i < length bs → numbers (take (suc i) bs) ≡ numbers (take i bs) ++ numbers (getD bs i 0 ∷ [])
 unfolding numbers
-numbers-take bs i h =
-    ap (λ (l : List ℕ). joined (map (λ b. 32 ∷ decimal b) l)) (take-suc bs i 0 h)
-    ∙ ap joined (map-append (λ b. 32 ∷ decimal b) (take i bs) (getD bs i 0 ∷ []))
-    ∙ joined-append (map (λ b. 32 ∷ decimal b) (take i bs)) ((32 ∷ decimal (getD bs i 0)) ∷ [])
+numbers-take bs i h = each-take (λ b. 32 ∷ decimal b) bs i h ∙ ap (λ (t : List ℕ). numbers (take i bs) ++ t) (sym (numbers-one (getD bs i 0)))
+
+pub numbers-none : numbers [] ≡ []
+unfolding numbers joined
+numbers-none = refl
 
 -- The parts of the text.
 module _ {D : Type 0} (rs : List (Row D)) where

@@ -1,9 +1,14 @@
-// The text that the lister prints for a card, put into a lent buffer from a position on.
+// The text that the lister prints for a card, and the printed page of one, put into a lent buffer from a position on.
 mod block_lines;
+mod blocks;
 mod head_line;
 mod list_lines;
+pub mod page;
+mod page_line;
 mod state_lines;
 
+use crate::state_lines::LENGTH;
+use crate::state_lines::LOG;
 use crate::state_lines::put_refusal;
 use crate::state_lines::put_state;
 use log::layout::SEGMENT;
@@ -16,11 +21,6 @@ ghost use Rattle.listing.specs.Listing.{listable};
 
 // The most segments that are listed.
 const SEGMENTS: usize = 16;
-
-// What a refusal says of a wrong length, and of a log that is not acceptable.
-const LENGTH: u64 = 1;
-
-const LOG: u64 = 2;
 
 // The position after the text is returned; one past the buffer's end says that it did not fit.
 pub fn listing(card: &[u8], out: &mut [u8], at: usize) -> usize

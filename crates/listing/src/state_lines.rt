@@ -13,6 +13,11 @@ ghost use Rattle.text.specs.Written.{Puts};
 ghost use Rattle.listing.specs.Listing.{refusalLine, headLine, listLines, blockLines};
 ghost use Rattle.listing.specs.promises.Shown.{sumAt};
 
+// What a refusal says of a wrong length, and of a log that is not acceptable.
+pub const LENGTH: u64 = 1;
+
+pub const LOG: u64 = 2;
+
 pub fn put_refusal(out: &mut [u8], at: usize, number: u64) -> usize
     ensures { λ r. ⌜ Puts (now (out .entry)) at (refusalLine number) (now (out .exit)) r ⌝ }
 {

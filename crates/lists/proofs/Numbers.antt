@@ -1,19 +1,21 @@
--- The numbers of a state's lists: changes keep them within what they may take, and lists numbered 1 to n, each once, are at most n (`lists-few`).
-use mathlib.Core.Path.{_≡_, refl, subst}
-use mathlib.Core.Bool.{Bool, true, false, _&&_, cond}
+-- The numbers of a state's lists: changes keep them within what they may take, and lists numbered 1 to n, each once, are at most n (`lists-few`); so are
+-- blocks, on all lists together (`blocks-few`).
+use mathlib.Core.Path.{_≡_, refl, sym, subst, _∙_}
+use mathlib.Core.Bool.{Bool, true, false, _&&_, cond, false≢true}
 use mathlib.Core.Option.{Option, none, some, Option·some-injective}
 use mathlib.Core.List.{List, [], _∷_, map}
 use Prim.Native.Nat.{ℕ, zero, suc, _+_, _≤_, _<_}
 use native.Mathlib.Omega.{arith}
 use native.Mathlib.Decide.{ℕ-discrete}
 use lib.Dec.{leb, eqb}
-use lib.ListN.{length}
+use lib.ListN.{length, length-map}
 use Rattle.lists.specs.Basic.{all, keep, from, orElse}
 use Rattle.lists.specs.Change.{Change, takeList, putFirst, putAfter, write, delBlock, delList}
-use Rattle.lists.specs.State.{Row, State, block, row, isRow, insertAfter, onBlocks, at, put, otherBlock, otherRow, changed, apply, applyAll, overlay}
-use Rattle.lists.proofs.Basic.{and-true, eq-true, leb-true, bind-some, all-append, from-length}
+use Rattle.lists.specs.State.{Block, Row, State, block, row, isBlockNum, onBlocksOf, isRow, onRow, placed, insertAfter, onBlocks, at, put, otherBlock, otherRow, changed, apply, applyAll, overlay}
+use Rattle.lists.specs.Lookup.{blocksOf}
+use Rattle.lists.proofs.Basic.{and-true, or-both, eqb-same, eqb-false, eq-true, leb-true, bind-some, all-append, from-length}
 use Rattle.lists.proofs.Apply.{apply-some}
-use Rattle.lists.proofs.Count.{total, one, rowsOf, at-num}
+use Rattle.lists.proofs.Count.{total, one, rowsOf, timesOn, placesOf, at-num}
 use Rattle.lists.proofs.Distinct.{Distinct}
 
 module _ {D : Type 0} (p : ℕ → Bool) where
@@ -108,3 +110,78 @@ module _ {D : Type 0} (n : ℕ) where
 
   pub lists-few : (rs : List (Row D)) → Distinct rs → numbered (λ l. leb 1 l && leb l n) rs ≡ true → length rs ≤ n
   lists-few rs d h = omega (arith, lists-among rs h, total-most (λ l. rowsOf l rs) (from (λ l. l) 1 n) (d .lists), from-length (λ l. l) 1 n)
+
+-- Blocks counted by theirs, where none above n is on a list, nor is block 0.
+abbrev pub blocksIn : {D : Type 0} → List (Row D) → ℕ
+blocksIn rs = total (λ r. length (r .blocks)) rs
+
+abbrev upTo : ℕ → List ℕ
+upTo n = from (λ b. b) 1 n
+
+module _ {D : Type 0} (n : ℕ) where
+  row-among : (xs : List (Block D)) → ((b : ℕ) → leb 1 b && leb b n ≡ false → onBlocksOf b xs ≡ false) → length xs ≤ total (λ b. timesOn b xs) (upTo n)
+  row-among [] h = omega arith
+  row-among (x ∷ xs) h = go (leb 1 (x .num) && leb (x .num) n) refl (row-among xs (λ b o. or-both (isBlockNum b x) (onBlocksOf b xs) (h b o) .1))
+    where
+      go : (t : Bool) → leb 1 (x .num) && leb (x .num) n ≡ t → length xs ≤ total (λ b. timesOn b xs) (upTo n) → suc (length xs) ≤ total (λ b. one (isBlockNum b x) + timesOn b xs) (upTo n)
+      go true e ih =
+          let (u, v) = and-true (leb 1 (x .num)) (leb (x .num) n) e in
+          let lo = leb-true 1 (x .num) u in
+          let hi = leb-true (x .num) n v in
+          omega (arith, total-plus (λ b. one (isBlockNum b x)) (λ b. timesOn b xs) (upTo n), number-among (x .num) 1 n lo (omega arith))
+      go false e ih = absurd (false≢true (sym (or-both (isBlockNum (x .num) x) (onBlocksOf (x .num) xs) (h (x .num) e) .0) ∙ eqb-same (x .num)))
+
+  blocks-among : (rs : List (Row D)) → ((b : ℕ) → leb 1 b && leb b n ≡ false → placed b rs ≡ false) → blocksIn rs ≤ total (λ b. placesOf b rs) (upTo n)
+  unfolding placed
+  blocks-among [] h = omega arith
+  blocks-among (r ∷ rs) h =
+      omega (arith, total-plus (λ b. timesOn b (r .blocks)) (λ b. placesOf b rs) (upTo n), row-among (r .blocks) (λ b o. or-both (onRow b r) (placed b rs) (h b o) .0), blocks-among rs (λ b o. or-both (onRow b r) (placed b rs) (h b o) .1))
+
+  pub blocks-few : (rs : List (Row D)) → Distinct rs → ((b : ℕ) → leb 1 b && leb b n ≡ false → placed b rs ≡ false) → blocksIn rs ≤ n
+  blocks-few rs d h = omega (arith, blocks-among rs h, total-most (λ b. placesOf b rs) (upTo n) (d .blocks), from-length (λ b. b) 1 n)
+
+-- The blocks of the lists from k on, looked up list by list: no more than there are.
+weight-none : (c m k n : ℕ) → m < k → total (λ l. cond (eqb m l) c 0) (from (λ l. l) k n) ≡ 0
+unfolding from
+weight-none c m k zero h = refl
+weight-none c m k (suc n) h = rw (eqb-false m k (λ e. omega arith)) (omega (arith, weight-none c m (suc k) n (omega arith)))
+
+weight-once : (c m k n : ℕ) → total (λ l. cond (eqb m l) c 0) (from (λ l. l) k n) ≤ c
+unfolding from
+weight-once c m k zero = omega arith
+weight-once c m k (suc n) = go (ℕ-discrete m k) (weight-once c m (suc k) n)
+  where
+    go : Dec (m ≡ k) → total (λ l. cond (eqb m l) c 0) (from (λ l. l) (suc k) n) ≤ c
+        → cond (eqb m k) c 0 + total (λ l. cond (eqb m l) c 0) (from (λ l. l) (suc k) n) ≤ c
+    go (yes e) ih = rw (eq-true m k e) (omega (arith, weight-none c m (suc k) n (omega arith)))
+    go (no e) ih = rw (eqb-false m k e) (omega arith)
+
+total-le : {A : Type 0} (f g : A → ℕ) (xs : List A) → ((x : A) → f x ≤ g x) → total f xs ≤ total g xs
+total-le f g [] h = omega arith
+total-le f g (x ∷ xs) h = omega (arith, h x, total-le f g xs h)
+
+module _ {D : Type 0} where
+  row-looked : (r : Row D) (rs : List (Row D)) (l : ℕ) → length (blocksOf (r ∷ rs) l) ≤ cond (eqb (r .num) l) (length (r .blocks)) 0 + length (blocksOf rs l)
+  unfolding blocksOf
+  row-looked r rs l = go (eqb (r .num) l) refl
+    where
+      go : (t : Bool) → eqb (r .num) l ≡ t → length (blocksOf (r ∷ rs) l) ≤ cond t (length (r .blocks)) 0 + length (blocksOf rs l)
+      go true e = rw (e, blocksOf) (omega (arith, length-map (r .blocks) (λ (x : Block D). x .num)))
+      go false e = rw (e, blocksOf) (omega arith)
+
+  pub blocks-looked : (k n : ℕ) (rs : List (Row D)) → total (λ l. length (blocksOf rs l)) (from (λ l. l) k n) ≤ blocksIn rs
+  unfolding blocksOf
+  blocks-looked k n [] = none (from (λ l. l) k n)
+    where
+      none : (ls : List ℕ) → total (λ l. length (blocksOf {D = D} [] l)) ls ≤ 0
+      none [] = omega arith
+      none (l ∷ ls) = omega (arith, none ls)
+  blocks-looked k n (r ∷ rs) =
+      let ls = from (λ l. l) k n in
+      omega (
+        arith,
+        total-le (λ l. length (blocksOf (r ∷ rs) l)) (λ l. cond (eqb (r .num) l) (length (r .blocks)) 0 + length (blocksOf rs l)) ls (row-looked r rs),
+        total-plus (λ l. cond (eqb (r .num) l) (length (r .blocks)) 0) (λ l. length (blocksOf rs l)) ls,
+        weight-once (length (r .blocks)) (r .num) k n,
+        blocks-looked k n rs,
+      )

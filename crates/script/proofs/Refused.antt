@@ -3,7 +3,7 @@ use mathlib.Core.Path.{_≡_, refl}
 use mathlib.Core.Bool.{false}
 use lib.Dec.{eqb}
 use Rattle.disk.specs.declared.answer.Refusal.{Refusal}
-use Rattle.disk.specs.declared.answer.Refusal.the-variants.{WrongLength, LogFault, RecordUnsound, StreamClosed, OutOfRange, UnitOpen, ListNotTaken, BlockNotPlaced, PredecessorElsewhere, NoNumberFree, JournalFull, Conflict, QueueFull, Unwritten}
+use Rattle.disk.specs.declared.answer.Refusal.the-variants.{WrongLength, LogFault, RecordUnsound, StreamClosed, OutOfRange, UnitOpen, ListNotTaken, BlockNotPlaced, PredecessorElsewhere, NoNumberFree, JournalFull, Conflict, QueueFull, BufferTooShort, Unwritten}
 use Rattle.disk.specs.Answers.{number}
 
 pub refused-code : (x : Refusal) → eqb (number x) 0 ≡ false
@@ -21,4 +21,5 @@ refused-code NoNumberFree = refl
 refused-code JournalFull = refl
 refused-code Conflict = refl
 refused-code QueueFull = refl
+refused-code BufferTooShort = refl
 refused-code Unwritten = refl

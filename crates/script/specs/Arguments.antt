@@ -48,6 +48,10 @@ abbrev pub atMost : Number → ℕ → Number
 atMost (Value n) most = cond (leb n most) (Value n) Bad
 atMost Bad most = Bad
 
--- "with N (0 to 300)": that many bytes are lent, and without N the whole
-unfoldable pub partFrom : List ℕ → ℕ → ℕ → Number
-partFrom line from whole = cond (endedAt line from) (Value whole) (atMost (oneFrom line from) 300)
+-- with N, up to the most: that many bytes are lent, and without N the whole
+unfoldable pub partFrom : List ℕ → ℕ → ℕ → ℕ → Number
+partFrom line from whole most = cond (endedAt line from) (Value whole) (atMost (oneFrom line from) most)
+
+-- `V`, `V N`
+unfoldable pub lentFrom : List ℕ → ℕ → ℕ → ℕ → T.Two
+lentFrom line from whole most = let v = wordFrom line from in pair (numberAt line v) (partFrom line (v .end) whole most)

@@ -24,7 +24,7 @@ use Rattle.script.specs.declared.command.Tool.the-variants as S
 use Rattle.script.specs.declared.command.Cut.the-variants as X
 use Rattle.script.specs.declared.command.Lend.the-variants as L
 use Rattle.script.specs.declared.command.Print.the-variants as P
-use Rattle.script.specs.Arguments.{textOf, numberAt, endedAt, pair, triple, oneFrom, twoFrom, threeFrom, partFrom}
+use Rattle.script.specs.Arguments.{textOf, numberAt, endedAt, pair, triple, oneFrom, twoFrom, threeFrom, partFrom, lentFrom}
 use Rattle.script.specs.Spelling.{bytes}
 
 -- "Anything else that is not a command below, with its words, prints `?` and does nothing."
@@ -61,26 +61,20 @@ pokeOf n = ofTwo (λ a b. cond (leb b 255) (C.Tool (S.Poke a b)) C.Unknown) n
 unfoldable pub alone : List ℕ → ℕ → Command → Command
 alone line from c = cond (endedAt line from) c C.Unknown
 
--- `S B HEX`, `S B HEX N`
+-- `S B HEX`, `S B HEX N`: "with N (0 to 300)"
 unfoldable pub writeFrom : List ℕ → ℕ → Command
 writeFrom line from =
     let s = wordFrom line from in
     let b = wordFrom line (s .end) in
     let x = wordFrom line (b .end) in
-    cond (isHex (textOf line x)) (ofWrite x (triple (numberAt line s) (pair (numberAt line b) (partFrom line (x .end) 256)))) C.Unknown
+    cond (isHex (textOf line x)) (ofWrite x (triple (numberAt line s) (pair (numberAt line b) (partFrom line (x .end) 256 300)))) C.Unknown
 
--- `V B`, `V B N`
+-- `V B`, `V B N`: "with N (0 to 300)"
 unfoldable pub readFrom : List ℕ → ℕ → Command
 readFrom line from =
     let v = wordFrom line from in
     let b = wordFrom line (v .end) in
-    ofThree (λ v b k. inView v (K.Read b k)) (triple (numberAt line v) (pair (numberAt line b) (partFrom line (b .end) 256)))
-
--- `V`, `V N`
-unfoldable pub inventoryFrom : List ℕ → ℕ → Command
-inventoryFrom line from =
-    let v = wordFrom line from in
-    ofTwo (λ v k. inView v (K.Inventory k)) (pair (numberAt line v) (partFrom line (v .end) 16))
+    ofThree (λ v b k. inView v (K.Read b k)) (triple (numberAt line v) (pair (numberAt line b) (partFrom line (b .end) 256 300)))
 
 -- a row of the table: a name, and what the words behind it make
 pub record Row : Type 0 where
@@ -147,9 +141,11 @@ middleRows line at =
     ∷ "conflicts" ⇒ alone line at (C.Call Q.Conflicts)
     ∷ []
 
+-- an inventory: "with N (0 to 300) N bytes are lent"; a page: "the buffer lent has 820 bytes, or N (0 to 1,000)"
 unfoldable pub lastRows : List ℕ → ℕ → List Row
 lastRows line at =
-    "inventory" ⇒ inventoryFrom line at
+    "inventory" ⇒ ofTwo (λ v k. inView v (K.Inventory k)) (lentFrom line at 16 300)
+    ∷ "page" ⇒ ofTwo (λ v k. inView v (K.Page k)) (lentFrom line at 820 1000)
     ∷ "cut" ⇒ cutFrom line at
     ∷ "poke" ⇒ pokeOf (twoFrom line at)
     ∷ "lend" ⇒ lendFrom line at

@@ -1,4 +1,4 @@
--- The lines that the commands print. "Every output line ends in byte 10 and has no trailing blank."
+-- The lines that the commands print. "Every output line ends in byte 10 and has no trailing blank." Those of a page alone keep theirs.
 use mathlib.Core.Bool.{cond}
 use mathlib.Core.List.{List, [], _∷_, _++_}
 use Prim.Native.Nat.{ℕ}
@@ -59,6 +59,13 @@ countedLine n lists = bytes "0" ++ spaced n ++ numbers lists ++ 10 ∷ []
 
 unfoldable pub inventoryLine : Answer → List ℕ → List ℕ
 inventoryLine a lists = cond (eqb (a .code) 0) (countedLine (a .value) (slice 0 (a .value) lists)) (numberedLine a)
+
+-- `A LEN`, "then the page's lines"; "refused: `A 0` alone"; "the lines keep their blanks at the end"
+unfoldable pub lengthAndText : ℕ → List ℕ → List ℕ
+lengthAndText n text = pairLine 0 n ++ text
+
+unfoldable pub pageReply : Answer → List ℕ → List ℕ
+pageReply a buffer = cond (eqb (a .code) 0) (lengthAndText (a .value) (slice 0 (a .value) buffer)) (numberedLine a)
 
 -- `cut STORES`
 unfoldable pub cutLine : ℕ → List ℕ

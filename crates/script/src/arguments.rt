@@ -3,7 +3,7 @@ use text::decimal::number;
 use text::line::word;
 use text::number::Number;
 ghost use mathlib.Core.Path.{_≡_};
-ghost use Rattle.script.specs.Arguments.{endedAt, oneFrom, twoFrom, threeFrom, partFrom, atMost};
+ghost use Rattle.script.specs.Arguments.{endedAt, oneFrom, twoFrom, threeFrom, partFrom, lentFrom, atMost};
 ghost use Rattle.script.specs.Arguments.{pair as Arguments·pair, triple as Arguments·triple};
 
 pub enum Two {
@@ -15,9 +15,6 @@ pub enum Three {
     Values(u64, u64, u64),
     Bad,
 }
-
-// The most bytes that a line can have lent for data, a destination or an inventory.
-const PART: u64 = 300;
 
 // Does no word stand behind the position?
 pub fn is_end(line: &[u8], from: usize) -> bool
@@ -52,15 +49,24 @@ pub fn three_numbers(line: &[u8], from: usize) -> Three
     triple(number(line, w.start, w.end), two_numbers(line, w.end))
 }
 
-// How many bytes are lent: the number behind the position, or so many where no word stands there.
-pub fn part_lent(line: &[u8], from: usize, whole: u64) -> Number
-    ensures { λ r. ⌜ r ≡ partFrom (now (line .entry)) from whole ⌝ }
+// How many bytes are lent: the number behind the position, no greater than the most, or the whole where no word stands there.
+pub fn part_lent(line: &[u8], from: usize, whole: u64, most: u64) -> Number
+    ensures { λ r. ⌜ r ≡ partFrom (now (line .entry)) from whole most ⌝ }
 {
     if is_end(line, from) {
         Number::Value(whole)
     } else {
-        at_most(one_number(line, from), PART)
+        at_most(one_number(line, from), most)
     }
+}
+
+// A number, and how many bytes are lent.
+pub fn number_lent(line: &[u8], from: usize, whole: u64, most: u64) -> Two
+    ensures { λ r. ⌜ r ≡ lentFrom (now (line .entry)) from whole most ⌝ }
+{
+    let w = word(line, from);
+    let lent = part_lent(line, w.end, whole, most);
+    pair(number(line, w.start, w.end), lent)
 }
 
 pub fn at_most(n: Number, most: u64) -> Number

@@ -36,6 +36,7 @@ pub enum Look {
     Read { block: u64, lent: u64 },
     Next { list: u64, predecessor: u64 },
     Inventory { lent: u64 },
+    Page { lent: u64 },
 }
 
 // What the shell does itself.

@@ -161,6 +161,18 @@ pub fn inventory(n: Two) -> Command
     }
 }
 
+pub fn page(n: Two) -> Command
+    ensures { λ r. ⌜ r ≡ ofTwo (λ v k. inView v (Look.Page k)) n ⌝ }
+{
+    match n {
+        Two::Values(view, lent) => {
+            let look = Look::Page { lent };
+            Command::Call(Request::Look { view, look })
+        }
+        Two::Bad => Command::Unknown,
+    }
+}
+
 pub fn cut_flush(n: Two) -> Command
     ensures { λ r. ⌜ r ≡ ofTwo (λ a k. Command.Tool (Tool.Cut (Cut.Flush a k))) n ⌝ }
 {

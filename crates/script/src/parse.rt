@@ -1,5 +1,6 @@
 // A line of a script as a command: the rows of the language's table, in order.
 use crate::arguments::is_end;
+use crate::arguments::number_lent;
 use crate::arguments::one_number;
 use crate::arguments::pair;
 use crate::arguments::part_lent;
@@ -20,15 +21,23 @@ use text::line::is_word;
 use text::line::part;
 use text::line::word;
 ghost use mathlib.Core.Path.{_≡_};
-ghost use Rattle.script.specs.Commands.{commandOf, isQuiet, named, middleNamed, lastNamed, writeFrom, readFrom, inventoryFrom, cutFrom, cutNamed, lendFrom, lendNamed};
+ghost use Rattle.script.specs.Commands.{commandOf, isQuiet, named, middleNamed, lastNamed, writeFrom, readFrom, cutFrom, cutNamed, lendFrom, lendNamed};
 ghost use Rattle.script.specs.Commands.{alone as Commands·alone};
 
-// The bytes of a line, of a block and of an inventory.
+// The most bytes of a line.
 const LONGEST_LINE: usize = 1023;
 
+// The bytes lent for a block, an inventory and a page where a line does not say how many. The language fixes the page's; the longest page has more.
 const BLOCK: u64 = 256;
 
 const LISTS: u64 = limits::LISTS as u64;
+
+const PAGE_LENT: u64 = 820;
+
+// The most that a line can say, and for a page.
+const MOST: u64 = 300;
+
+const MOST_PAGE: u64 = 1000;
 
 pub fn command(line: &[u8]) -> Command
     ensures { λ r. ⌜ r ≡ commandOf (now (line .entry)) ⌝ }
@@ -114,7 +123,10 @@ fn last_rows(line: &[u8], start: usize, end: usize) -> Command
     ensures { λ r. ⌜ r ≡ lastNamed (now (line .entry)) start end ⌝ }
 {
     if is_word(line, start, end, b"inventory") {
-        return inventory(line, end);
+        return numbered::inventory(number_lent(line, end, LISTS, MOST));
+    }
+    if is_word(line, start, end, b"page") {
+        return numbered::page(number_lent(line, end, PAGE_LENT, MOST_PAGE));
     }
     if is_word(line, start, end, b"cut") {
         return cut(line, end);
@@ -159,7 +171,7 @@ fn write(line: &[u8], from: usize) -> Command
     }
     let stream = number(line, s.start, s.end);
     let block = number(line, b.start, b.end);
-    let lent = part_lent(line, digits.end, BLOCK);
+    let lent = part_lent(line, digits.end, BLOCK, MOST);
     numbered::write(triple(stream, pair(block, lent)), digits)
 }
 
@@ -170,17 +182,8 @@ fn read(line: &[u8], from: usize) -> Command
     let b = word(line, v.end);
     let view = number(line, v.start, v.end);
     let block = number(line, b.start, b.end);
-    let lent = part_lent(line, b.end, BLOCK);
+    let lent = part_lent(line, b.end, BLOCK, MOST);
     numbered::read(triple(view, pair(block, lent)))
-}
-
-fn inventory(line: &[u8], from: usize) -> Command
-    ensures { λ r. ⌜ r ≡ inventoryFrom (now (line .entry)) from ⌝ }
-{
-    let v = word(line, from);
-    let view = number(line, v.start, v.end);
-    let lent = part_lent(line, v.end, LISTS);
-    numbered::inventory(pair(view, lent))
 }
 
 fn cut(line: &[u8], from: usize) -> Command

@@ -17,7 +17,7 @@ use text::put::put_bytes;
 ghost use mathlib.Core.Path.{_≡_};
 ghost use Rattle.text.specs.Written.{Puts};
 ghost use Rattle.disk.specs.Answers.{number, replyAnswer, numberAnswer, mountAnswer, flushAnswer};
-ghost use Rattle.script.specs.Lines.{answerLine, numberedLine, mountLine, flushLine, endedLine, readLine, contentLine, inventoryLine, countedLine};
+ghost use Rattle.script.specs.Lines.{answerLine, numberedLine, mountLine, flushLine, endedLine, readLine, contentLine, inventoryLine, countedLine, lengthAndText, pageReply};
 
 // `A`
 pub fn put_answer(out: &mut [u8], at: usize, reply: Reply) -> usize
@@ -111,6 +111,23 @@ fn put_counted(out: &mut [u8], at: usize, n: u64, lists: &[u8]) -> usize
     put_byte(out, position, b'\n')
 }
 
+// `A LEN` and the page, which is so many bytes of the buffer.
+pub fn put_page(out: &mut [u8], at: usize, reply: NumberReply, buffer: &[u8]) -> usize
+    ensures { λ r. ⌜ Puts (now (out .entry)) at (pageReply (numberAnswer reply) (now (buffer .entry))) (now (out .exit)) r ⌝ }
+{
+    match reply {
+        NumberReply::Number(n) => put_text(out, at, n as u64, part(buffer, 0, n)),
+        NumberReply::Refused(x) => put_pair(out, at, number_of(x), 0),
+    }
+}
+
+fn put_text(out: &mut [u8], at: usize, n: u64, text: &[u8]) -> usize
+    ensures { λ r. ⌜ Puts (now (out .entry)) at (lengthAndText n (now (text .entry))) (now (out .exit)) r ⌝ }
+{
+    let position = put_pair(out, at, 0, n);
+    put_bytes(out, position, text)
+}
+
 // The question's number.
 pub fn number_of(x: Refusal) -> u64
     ensures { λ r. ⌜ r ≡ number x ⌝ }
@@ -129,6 +146,7 @@ pub fn number_of(x: Refusal) -> u64
         Refusal::JournalFull => 11,
         Refusal::Conflict => 12,
         Refusal::QueueFull => 13,
+        Refusal::BufferTooShort => 14,
         Refusal::Unwritten => 15,
     }
 }

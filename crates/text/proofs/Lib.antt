@@ -1,3 +1,4 @@
+pub mod Columns
 pub mod Digits
 pub mod Lines
 pub mod Nibbles

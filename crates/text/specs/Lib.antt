@@ -1,4 +1,5 @@
 pub mod Adler
+pub mod Columns
 pub mod Decimal
 pub mod Hex
 pub mod Line

@@ -1,4 +1,4 @@
-//! The calls: document 01, "The calls", "Flush" and "The questions, in order"; document 02, E4.
+//! The calls: document 01, "The calls", "Flush" and "The questions, in order"; document 02, E1, E4.
 //!
 //! Each call asks its questions in the order of their numbers and returns the first that is answered no; "a call
 //! passes over what it doesn't use". Numbers come as wide as a caller may write them and are never cut.
@@ -6,6 +6,7 @@
 use crate::entry::{Change, Entry};
 use crate::limits::{ALLOWANCE, BLOCKS, BLOCK_BYTES, JOURNAL, JOURNAL_BYTES, LISTS, QUEUE_BYTES, SEGMENT_BYTES, UNITS};
 use crate::log::{self, Fault, Log, Stores};
+use crate::page;
 use crate::record::{Record, Unit, Versions};
 use crate::state::{Content, State};
 
@@ -36,6 +37,8 @@ pub enum Refusal {
     Conflict = 12,
     /// The queue doesn't take what is added.
     QueueFull = 13,
+    /// The buffer is shorter than the page.
+    Page = 14,
     /// The block was not written since its present put.
     Unwritten = 15,
 }
@@ -346,6 +349,17 @@ impl Lent<'_> {
         let taken = view.lists();
         lists[..taken.len()].copy_from_slice(taken);
         Ok(taken.len())
+    }
+
+    /// A printed page of a view: "The text goes into a lent buffer, its length is returned, and bytes after it don't
+    /// change." Asks 1, 3, 4, 14.
+    pub fn page(&self, view: u64, buffer: &mut [u8]) -> Result<usize, Refusal> {
+        let versions = self.versions()?;
+        let view = self.view(&versions, view)?;
+        let length = page::length(&view);
+        let text = buffer.get_mut(..length).ok_or(Refusal::Page)?;
+        page::put(&view, text);
+        Ok(length)
     }
 
     // ---- Questions ---------------------------------------------------------------------------------------------

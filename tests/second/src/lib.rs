@@ -3,7 +3,8 @@
 //!
 //! It is plain: every call walks the log again, and every state is a handful of fixed tables. Reading order:
 //! [`entry`] (entries and their bytes), [`state`] (what they act on), [`log`] (how they stand on the card),
-//! [`record`] (queue, journals, question 3), [`disk`] (the calls), then the programs' parts, [`lister`] and [`shell`].
+//! [`record`] (queue, journals, question 3), [`disk`] (the calls), then the programs' parts, [`lister`], [`page`] and
+//! [`shell`].
 //! [`generator`] writes random scripts for both shells.
 
 pub mod disk;
@@ -12,6 +13,7 @@ pub mod generator;
 pub mod limits;
 pub mod lister;
 pub mod log;
+pub mod page;
 pub mod random;
 pub mod record;
 pub mod shell;

@@ -6,8 +6,9 @@ use crate::limits::{BLOCKS, BLOCK_BYTES, LISTER_SEGMENTS, LISTS};
 use crate::log::{segments, slot_at, Log};
 use crate::state::{Content, State};
 
-const LENGTH_REFUSED: &str = "refused 1\n";
-const LOG_REFUSED: &str = "refused 2\n";
+/// What is printed for a card of a wrong length, and for one whose log has a fault.
+pub(crate) const LENGTH_REFUSED: &str = "refused 1\n";
+pub(crate) const LOG_REFUSED: &str = "refused 2\n";
 
 /// What stands in place of a content where there is none: "The lister prints `block 4: unwritten` for such a block."
 pub const UNWRITTEN: &str = "unwritten";

@@ -15,6 +15,9 @@ pub const CARD_BYTES: usize = 65 * SEGMENT_BYTES;
 pub const LINE_BYTES: usize = 1_023;
 /// Most bytes that `write`, `read` and `inventory` lend if told how many.
 const PART_BYTES: usize = 300;
+/// Bytes that `page` lends if not told how many, and most that it lends if told.
+const PAGE_BYTES: usize = 820;
+const MOST_PAGE_BYTES: usize = 1_000;
 /// What a cut leaves in both data buffers.
 const CUT_BYTE: u8 = 165;
 /// Most words of a command.
@@ -156,6 +159,11 @@ impl Shell {
                 let length = number_to(length, PART_BYTES)?;
                 self.print_inventory(output, number(view)?, length);
             }
+            ["page", view] => self.print_page(output, number(view)?, PAGE_BYTES),
+            ["page", view, length] => {
+                let length = number_to(length, MOST_PAGE_BYTES)?;
+                self.print_page(output, number(view)?, length);
+            }
             ["cut"] => {
                 self.cut();
                 output.push_str("cut\n");
@@ -239,6 +247,17 @@ impl Shell {
                     let _ = write!(output, " {list}");
                 }
                 output.push('\n');
+            }
+            Err(refusal) => print(output, format_args!("{} 0", refusal.number())),
+        }
+    }
+
+    fn print_page(&mut self, output: &mut String, view: u64, length: usize) {
+        let mut buffer = [0; MOST_PAGE_BYTES];
+        match self.lent().page(view, &mut buffer[..length]) {
+            Ok(length) => {
+                print(output, format_args!("0 {length}"));
+                output.extend(buffer[..length].iter().map(|&byte| char::from(byte)));
             }
             Err(refusal) => print(output, format_args!("{} 0", refusal.number())),
         }

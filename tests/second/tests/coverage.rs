@@ -5,9 +5,10 @@ use std::collections::BTreeMap;
 
 use second::entry::Cause;
 use second::generator::{card, generate};
-use second::limits::{BLOCKS, BLOCK_BYTES, JOURNAL, LISTS, QUEUE, SEGMENT_BYTES, UNITS};
+use second::limits::{BLOCKS, BLOCK_BYTES, JOURNAL, LISTER_SEGMENTS, LISTS, QUEUE, SEGMENTS, SEGMENT_BYTES, UNITS};
 use second::lister;
 use second::log::{stores_of, Log};
+use second::page;
 use second::shell::Shell;
 use second::state::State;
 
@@ -29,6 +30,7 @@ const QUESTIONS: &[(&str, &[u64])] = &[
     ("next", &[1, 3, 4, 5, 7, 9]),
     ("conflicts", &[1, 3]),
     ("inventory", &[1, 3, 4, 5]),
+    ("page", &[1, 3, 4, 14]),
 ];
 
 /// How often something was reached.
@@ -73,6 +75,7 @@ impl Reached {
             "show" if printed.contains("unwritten") => self.add(format!("unwritten, shown in {}", view_of(&line))),
             "list" => self.add_if(printed.contains("unwritten"), "unwritten, listed"),
             "read" => self.add_if(printed == "0 -\n", "zeros, read"),
+            "page" => self.observe_page(&line, printed, shell),
             _ => {}
         }
         self.observe_record(shell);
@@ -106,6 +109,45 @@ impl Reached {
             record.head_place() > 0 && record.head_place() + record.queue_length() > QUEUE,
             "the ring closed",
         );
+    }
+
+    fn observe_page(&mut self, line: &str, printed: &str, shell: &mut Shell) {
+        let words: Vec<u64> = line
+            .split_ascii_whitespace()
+            .filter_map(|word| word.parse().ok())
+            .collect();
+        let (view, lent) = (words[0], words.get(1).map_or(820, |&lent| lent as usize));
+        let shell = shell.lent();
+        let Ok(versions) = shell.versions() else { return };
+        let Ok(state) = shell.view(&versions, view) else { return };
+        let (length, place) = (page::length(&state), view_of(line));
+        self.add_if(length > 0 && lent + 1 == length, "a buffer that is a byte too short");
+        self.add_if(length > 0 && lent + 41 == length, "a buffer that is a line too short");
+        if printed.starts_with("14 ") {
+            self.add(format!("a page refused 14 in {place}"));
+            self.add_if(words.len() == 1, "a page refused 14 in the shell's own buffer");
+            return;
+        }
+        self.add(if length == 0 { "an empty page in " } else { "a page in " }.to_string() + place);
+        self.add_if(length > 0 && lent == length, "a page that fills its buffer");
+        self.add_if(length > 0 && lent == length + 1, "a byte behind a page");
+        self.add_if(
+            length == 820 && words.len() == 1,
+            "a page that fills the shell's own buffer",
+        );
+        self.add_if(length == page::LONGEST, "the longest page");
+        self.add_if(
+            !state.lists().is_sorted(),
+            &format!("lists out of order on a page in {place}"),
+        );
+        for &list in state.lists() {
+            self.add(format!("a list of {} blocks on a page", state.blocks_on(list).count()));
+        }
+        let other = if view == 0 { 5 } else { 0 };
+        let other = shell
+            .view(&versions, other)
+            .map_or(length, |state| page::length(&state));
+        self.add_if(other != length, &format!("a page in {place} of another length"));
     }
 
     fn observe_record(&mut self, shell: &mut Shell) {
@@ -228,8 +270,25 @@ fn scripts_reach_every_refusal_ending_and_fault() {
         "written in view 5, put again in view 0",
         "written in view 0, unwritten in view 5",
         "written in a unit, unwritten in view 0",
+        "a buffer that is a byte too short",
+        "a buffer that is a line too short",
+        "a page refused 14 in the shell's own buffer",
+        "a page that fills its buffer",
+        "a byte behind a page",
+        "a page that fills the shell's own buffer",
+        "the longest page",
     ] {
         reached.assert(state);
+    }
+    for place in ["view 0", "a unit's view", "view 5"] {
+        reached.assert(&format!("a page in {place}"));
+        reached.assert(&format!("an empty page in {place}"));
+        reached.assert(&format!("a page refused 14 in {place}"));
+        reached.assert(&format!("a page in {place} of another length"));
+        reached.assert(&format!("lists out of order on a page in {place}"));
+    }
+    for blocks in [0, 1, 10, 11, 12, 22, 23, 33, 34, 55, 56, 64] {
+        reached.assert(&format!("a list of {blocks} blocks on a page"));
     }
 }
 
@@ -250,7 +309,7 @@ fn scripts_follow_from_their_seed_and_have_the_lines_asked_for() {
 fn cards_reach_every_answer_of_the_lister() {
     let mut reached = Reached::default();
     for seed in 0..SEEDS {
-        let card = card(seed);
+        let card = card(seed, LISTER_SEGMENTS);
         let lines = lister::lines(&card);
         let first = lines.lines().next().unwrap_or("");
         reached.add(if first.starts_with("refused") { first } else { "listed" });
@@ -273,6 +332,48 @@ fn cards_reach_every_answer_of_the_lister() {
         "an empty list",
         "17 segments",
         "16 segments",
+        "an odd length",
+    ] {
+        reached.assert(what);
+    }
+}
+
+#[test]
+fn cards_reach_every_answer_of_the_page_program() {
+    let mut reached = Reached::default();
+    for seed in 0..SEEDS {
+        let card = card(seed, SEGMENTS);
+        let text = String::from_utf8(page::of_card(&card)).unwrap_or_default();
+        let first = text.lines().next().unwrap_or("an empty page");
+        if first.starts_with("refused") || text.is_empty() {
+            reached.add(first);
+        }
+        let is_page = !first.starts_with("refused");
+        let blank = |line: &str, columns: std::ops::Range<usize>| line[columns].trim().is_empty();
+        reached.add_if(is_page && text.lines().count() > 1, "a page of several lines");
+        reached.add_if(is_page && text.lines().any(|line| blank(line, 0..4)), "a further line");
+        reached.add_if(is_page && text.lines().any(|line| blank(line, 4..40)), "an empty list");
+        reached.add_if(
+            is_page && card.len() > 16 * SEGMENT_BYTES,
+            "a page of more than 16 segments",
+        );
+        reached.add_if(is_page && card.len() == 64 * SEGMENT_BYTES, "a page of 64 segments");
+        reached.add_if(card.len() == 65 * SEGMENT_BYTES, "65 segments");
+        reached.add_if(!card.len().is_multiple_of(SEGMENT_BYTES), "an odd length");
+    }
+    for (what, times) in &reached.0 {
+        println!("{times:8} {what}");
+    }
+    for what in [
+        "refused 1",
+        "refused 2",
+        "an empty page",
+        "a page of several lines",
+        "a further line",
+        "an empty list",
+        "a page of more than 16 segments",
+        "a page of 64 segments",
+        "65 segments",
         "an odd length",
     ] {
         reached.assert(what);

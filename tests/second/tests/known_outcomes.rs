@@ -1,10 +1,11 @@
-//! The "Runs with known outcome" of document 01, in their order; those that it marks P are named so. Then what document 02,
-//! E4 says of blocks that nobody wrote.
+//! The "Runs with known outcome" of document 01, in their order; those that it marks P are named so. Then what document 02
+//! says of blocks that nobody wrote (E4) and of printed pages (E1).
 
 use second::disk::{Ending, Flushed, Lent, MountRefusal, Refusal};
 use second::entry::Cause;
 use second::limits::{BLOCK_BYTES, JOURNAL_BYTES, QUEUE_BYTES, SEGMENT_BYTES, SUMMARY_AT};
 use second::lister;
+use second::page;
 use second::record::Record;
 
 /// What a caller lends.
@@ -550,4 +551,207 @@ fn question_15_comes_last() {
         assert_eq!(refusal.map_err(Refusal::number), Err(number));
         assert!(destination.iter().all(|&byte| byte == 165));
     }
+}
+
+// ---- Document 02, E1 ------------------------------------------------------------------------------------------------
+
+/// A line of a page: a list's number, or none, and its blocks.
+fn line(list: Option<u8>, blocks: &[u8]) -> String {
+    let number = list.map_or(String::new(), |list| list.to_string());
+    let blocks: String = blocks.iter().map(|block| format!("{block:>3}")).collect();
+    let line = format!("{number:>4} {blocks}");
+    assert!(line.len() <= 38);
+    format!("{line:<40}\n")
+}
+
+impl Owner {
+    /// The page of a view, put into a buffer that is longer; the bytes after it don't change.
+    fn page(&mut self, view: u64) -> Result<String, Refusal> {
+        let mut buffer = [165; 1_000];
+        let length = self.lend().page(view, &mut buffer)?;
+        assert!(buffer[length..].iter().all(|&byte| byte == 165));
+        Ok(String::from_utf8_lossy(&buffer[..length]).into_owned())
+    }
+
+    /// Puts so many blocks on `list`, each behind the last; returns them.
+    fn put(&mut self, list: u64, blocks: usize) -> Vec<u8> {
+        let mut put = Vec::new();
+        for _ in 0..blocks {
+            if self.record.queue_room() == 0 {
+                assert!(self.flush(65_535).is_ok());
+            }
+            let predecessor = put.last().map_or(0, |&block| u64::from(block));
+            put.extend(self.lend().new_block(0, list, predecessor));
+        }
+        assert_eq!(put.len(), blocks);
+        put
+    }
+}
+
+/// "An empty list has one line." A view without lists has none.
+#[test]
+fn a_page_of_nothing_and_of_empty_lists() {
+    let mut owner = Owner::formatted(1);
+    assert_eq!(owner.page(0), Ok(String::new()));
+    assert_eq!(owner.lend().page(0, &mut []), Ok(0));
+    assert_eq!(owner.lend().new_list(0), Ok(1));
+    assert_eq!(owner.lend().new_list(0), Ok(2));
+    assert_eq!(owner.page(0), Ok(line(Some(1), &[]) + &line(Some(2), &[])));
+    assert_eq!(owner.page(5), Ok(String::new()));
+    assert_eq!(owner.page(1), Err(Refusal::Stream));
+    assert_eq!(owner.page(6), Err(Refusal::Stream));
+}
+
+/// "Right-aligned in columns 1 to 4", "right-aligned in 3 columns": one digit and two of each.
+#[test]
+fn columns_of_a_page() {
+    let mut owner = Owner::formatted(4);
+    for list in 1..=16 {
+        assert_eq!(owner.lend().new_list(0), Ok(list));
+    }
+    assert_eq!(owner.put(1, 9), (1..=9).collect::<Vec<u8>>());
+    assert_eq!(owner.put(16, 2), [10, 11]);
+    let page = owner.page(0).unwrap_or_default();
+    let lines: Vec<&str> = page.lines().collect();
+    assert_eq!(lines[0], "   1   1  2  3  4  5  6  7  8  9        ");
+    assert_eq!(lines[1], "   2                                    ");
+    assert_eq!(lines[15], "  16  10 11                             ");
+}
+
+/// "Eleven to a line": a twelfth block, and a twenty-third, begin another.
+#[test]
+fn eleven_blocks_to_a_line() {
+    for blocks in 0..=64 {
+        let mut owner = Owner::formatted(2);
+        assert_eq!(owner.lend().new_list(0), Ok(1));
+        let put = owner.put(1, blocks);
+        let mut text = String::new();
+        for (number, part) in put.chunks(11).enumerate() {
+            text += &line((number == 0).then_some(1), part);
+        }
+        if blocks == 0 {
+            text = line(Some(1), &[]);
+        }
+        assert_eq!(owner.page(0), Ok(text));
+    }
+}
+
+/// "Its blocks follow in order": the list's, not the numbers'.
+#[test]
+fn blocks_of_a_page_in_their_order() {
+    let mut owner = Owner::formatted(1);
+    assert_eq!(owner.lend().new_list(0), Ok(1));
+    for block in 1..=12 {
+        assert_eq!(owner.lend().new_block(0, 1, 0), Ok(block));
+    }
+    let text = line(Some(1), &[12, 11, 10, 9, 8, 7, 6, 5, 4, 3, 2]) + &line(None, &[1]);
+    assert_eq!(owner.page(0), Ok(text));
+}
+
+/// "Lists ascend", whatever the order of their taking.
+#[test]
+fn lists_of_a_page_ascend() {
+    let mut owner = Owner::formatted(1);
+    for list in 1..=3 {
+        assert_eq!(owner.lend().new_list(0), Ok(list));
+    }
+    assert_eq!(owner.lend().delete_list(0, 1), Ok(()));
+    assert!(owner.flush(65_535).is_ok());
+    owner.remount();
+    assert_eq!(owner.lend().new_list(0), Ok(1));
+    assert_eq!(owner.put(1, 1), [1]);
+    let mut lists = [0; 16];
+    assert_eq!(owner.lend().inventory(0, &mut lists), Ok(3));
+    assert_eq!(lists[..3], [2, 3, 1]);
+    assert_eq!(
+        owner.page(0),
+        Ok(line(Some(1), &[1]) + &line(Some(2), &[]) + &line(Some(3), &[]))
+    );
+    assert_eq!(owner.page(5), Ok(line(Some(2), &[]) + &line(Some(3), &[])));
+}
+
+/// A page is a view's: a unit's has its own puts and deletions, the others' none of them before its End.
+#[test]
+fn pages_of_views() {
+    let mut owner = Owner::formatted(1);
+    assert_eq!(owner.lend().new_list(0), Ok(1));
+    let mut blocks = owner.put(1, 11);
+    assert!(owner.flush(65_535).is_ok());
+    assert_eq!(owner.lend().begin(1), Ok(()));
+    assert_eq!(owner.lend().begin(2), Ok(()));
+    assert_eq!(owner.lend().new_block(1, 1, 0), Ok(12));
+    assert_eq!(owner.lend().delete_list(2, 1), Ok(()));
+    let before = line(Some(1), &blocks);
+    blocks.insert(0, 12);
+    let behind = line(Some(1), &blocks[..11]) + &line(None, &blocks[11..]);
+    assert_eq!(owner.page(1), Ok(behind.clone()));
+    assert_eq!(owner.page(2), Ok(String::new()));
+    assert_eq!((owner.page(0), owner.page(5)), (Ok(before.clone()), Ok(before.clone())));
+    assert_eq!(owner.lend().end(1), Ok(()));
+    assert_eq!((owner.page(0), owner.page(5)), (Ok(behind.clone()), Ok(before)));
+    assert_eq!(owner.flush(65_535), flushed(7, Ending::Drained));
+    assert_eq!(owner.page(5), Ok(behind));
+}
+
+/// "A buffer shorter than the text is refused 14, after question 9", and nothing of it changes.
+#[test]
+fn a_buffer_shorter_than_the_text() {
+    let mut owner = Owner::formatted(1);
+    assert_eq!(owner.lend().new_list(0), Ok(1));
+    owner.put(1, 12);
+    for length in [0, 1, 40, 41, 42, 81] {
+        let mut buffer = vec![165; length];
+        let answer = owner.lend().page(0, &mut buffer);
+        assert_eq!(answer.map_err(Refusal::number), Err(14));
+        assert!(buffer.iter().all(|&byte| byte == 165));
+        assert_eq!(owner.lend().page(1, &mut buffer), Err(Refusal::Stream));
+        assert_eq!(owner.lend().page(5, &mut buffer), Ok(0));
+    }
+    for length in [82, 83, 1_000] {
+        let mut buffer = vec![165; length];
+        assert_eq!(owner.lend().page(0, &mut buffer), Ok(82));
+        assert!(buffer[82..].iter().all(|&byte| byte == 165));
+    }
+}
+
+/// The longest page: 16 lists, one of them with so many blocks that it has six lines.
+#[test]
+fn the_longest_page() {
+    let mut owner = Owner::formatted(4);
+    for list in 1..=16 {
+        assert_eq!(owner.lend().new_list(0), Ok(list));
+    }
+    let blocks = owner.put(16, 55);
+    assert_eq!(owner.page(0).unwrap_or_default().len(), 820);
+    let last = u64::from(blocks[54]);
+    assert_eq!(owner.lend().new_block(0, 16, last), Ok(56));
+    let page = owner.page(0).unwrap_or_default();
+    assert_eq!((page.len(), page::LONGEST), (861, 861));
+    assert!(page.ends_with(&line(None, &[56])));
+    owner.put(1, 8);
+    assert_eq!(owner.page(0).unwrap_or_default().len(), 861);
+    assert_eq!(owner.lend().new_block(0, 1, 0), Err(Refusal::NoneFree));
+    assert_eq!(owner.lend().page(0, &mut [0; 860]), Err(Refusal::Page));
+}
+
+/// What the page program prints: the page of the persistent state, of a card of up to 64 segments.
+#[test]
+fn pages_of_cards() {
+    for segments in [1, 16, 17, 64] {
+        let mut owner = Owner::formatted(segments);
+        assert_eq!(page::of_card(&owner.card), b"");
+        assert_eq!(owner.lend().new_list(0), Ok(1));
+        owner.put(1, 12);
+        assert_eq!(page::of_card(&owner.card), b"");
+        assert!(owner.flush(65_535).is_ok());
+        assert_eq!(page::of_card(&owner.card), owner.page(5).unwrap_or_default().as_bytes());
+        owner.card.push(0);
+        assert_eq!(page::of_card(&owner.card), b"refused 1\n");
+        owner.card[SUMMARY_AT + 1] = 0;
+        assert_eq!(page::of_card(&owner.card), b"refused 1\n");
+        owner.card.pop();
+        assert_eq!(page::of_card(&owner.card), b"refused 2\n");
+    }
+    assert_eq!(page::of_card(&[]), b"refused 1\n");
+    assert_eq!(page::of_card(&vec![0; 65 * SEGMENT_BYTES]), b"refused 1\n");
 }

@@ -81,6 +81,43 @@ fn parts_are_lent() {
     ]);
 }
 
+/// The lines of a page keep the blanks at their end.
+#[test]
+fn pages_are_printed() {
+    check(&[
+        ("page 0", "1 0\n"),
+        ("card 4096 0", "ok\n"),
+        ("page 0", "3 0\n"),
+        ("format", "0\n"),
+        ("page 0", "0 0\n"),
+        ("page 0 0", "0 0\n"),
+        ("page 1", "4 0\n"),
+        ("page 6 0", "4 0\n"),
+        ("newlist 0", "0 1\n"),
+        ("newblock 0 1 0", "0 1\n"),
+        ("newlist 0", "0 2\n"),
+        (
+            "page 0",
+            "0 82\n   1   1                                \n   2                                    \n",
+        ),
+        ("page 0 81", "14 0\n"),
+        (
+            "page 0 82",
+            "0 82\n   1   1                                \n   2                                    \n",
+        ),
+        ("page 5 81", "0 0\n"),
+        ("page 18446744073709551615", "4 0\n"),
+        ("page 0 1001", "?\n"),
+        ("page 0 82 0", "?\n"),
+        ("page", "?\n"),
+        ("page -", "?\n"),
+        ("begin 1", "0\n"),
+        ("dellist 1 1", "0\n"),
+        ("page 1 1000", "0 41\n   2                                    \n"),
+        ("page 1 0", "14 0\n"),
+    ]);
+}
+
 #[test]
 fn what_is_not_a_command() {
     check(&[

@@ -75,7 +75,7 @@ impl Generator<'_> {
     pub(super) fn look_up(&mut self) {
         let view = self.view();
         let state = self.state(view);
-        match self.random.below(10) {
+        match self.random.below(11) {
             0..=3 => {
                 let block = self.block_to_read(state.as_ref());
                 let part = self.part(BLOCK_BYTES as u64);
@@ -97,6 +97,7 @@ impl Generator<'_> {
                 let part = self.part(u64::from(LISTS));
                 self.run(format_args!("inventory {view}{part}"));
             }
+            9 => self.page_in(view),
             _ => self.run(format_args!("conflicts")).ignore(),
         }
     }
@@ -164,7 +165,7 @@ impl Generator<'_> {
     }
 
     /// Drains the queue if it has refused an entry.
-    fn make_room(&mut self, answer: Option<u64>) {
+    pub(super) fn make_room(&mut self, answer: Option<u64>) {
         if answer == QUEUE_FULL {
             self.run(format_args!("flush 65535"));
         }
@@ -210,7 +211,7 @@ impl Generator<'_> {
     }
 
     /// The number of a unit that is open, opened if none is.
-    fn opened_unit(&mut self) -> u64 {
+    pub(super) fn opened_unit(&mut self) -> u64 {
         let open = self.units(true);
         let closed = self.units(false);
         if closed.is_empty() || (!open.is_empty() && self.random.chance(50)) {

@@ -1,14 +1,15 @@
-//! Random cards for the lister.
+//! Random cards for the lister and the page program.
 
 use super::generate;
 use super::logs::{random_faulty_log, random_log};
-use crate::limits::{LISTER_SEGMENTS, SEGMENT_BYTES};
+use crate::limits::SEGMENT_BYTES;
 use crate::random::Random;
 
-/// The card of a seed: left by a script, or stored byte by byte; whole, damaged, or of a wrong length.
-pub fn card(seed: u64) -> Vec<u8> {
+/// The card of a seed for a program that takes `segments`: left by a script, or stored byte by byte; whole, damaged, or of
+/// a wrong length.
+pub fn card(seed: u64, segments: usize) -> Vec<u8> {
     let mut random = Random::new(!seed);
-    let most = LISTER_SEGMENTS as u64;
+    let most = segments as u64;
     let segments = random.pick(&[1, 1, 2, 3, random.clone().between(1, most), most, most + 1]) as usize;
     let mut card = match random.below(10) {
         0..=3 => card_of_script(seed),

@@ -257,7 +257,7 @@ impl Generator<'_> {
     /// A line that is no command, or only just one.
     pub(super) fn nonsense(&mut self) {
         let number = self.strange_number();
-        match self.random.below(24) {
+        match self.random.below(26) {
             0 => self.run(format_args!("")),
             1 => self.run(format_args!("   ")),
             2 => self.run(format_args!("# newlist 0")),
@@ -281,6 +281,8 @@ impl Generator<'_> {
             20 => self.run_bytes(b"write 0 1 \xff\x00\x80"),
             21 => self.run(format_args!("poke {number} 256")),
             22 => self.run(format_args!("card 266241 0")),
+            23 => self.run(format_args!("page 0 {number}")),
+            24 => self.run(format_args!("page 0 1001")),
             _ => self.words(),
         }
         .ignore();
@@ -325,6 +327,7 @@ impl Generator<'_> {
             "sum",
             "list",
             "show",
+            "page",
             "all",
             "card",
             "queue",
@@ -336,6 +339,7 @@ impl Generator<'_> {
             "16",
             "-",
             "07",
+            "820",
             "4096",
             "x",
         ];

@@ -9,6 +9,7 @@ mod calls;
 mod cards;
 mod damage;
 mod logs;
+mod pages;
 mod power;
 
 pub use cards::card;
@@ -46,6 +47,10 @@ enum Action {
     MadeAgain,
     /// A block that is read before it is written.
     Unwritten,
+    /// Lists of many lengths, taken in any order, and their pages.
+    Pages,
+    /// The longest page that there is.
+    LongestPage,
     /// Stores, cuts, and what comes after them.
     Flush,
     CutFlush,
@@ -83,6 +88,7 @@ const COMMON: &[(Action, u64)] = &[
     (Action::End, 6),
     (Action::Flush, 8),
     (Action::Unwritten, 2),
+    (Action::Pages, 1),
     (Action::CutFlush, 1),
     (Action::Cut, 1),
     (Action::Mount, 1),
@@ -237,6 +243,21 @@ const PROFILES: &[Profile] = &[
         segments: (15, 64),
         lines: (800, 2_500),
     },
+    // Pages.
+    Profile {
+        actions: &[
+            (Action::Pages, 25),
+            (Action::LongestPage, 1),
+            (Action::FillLists, 2),
+            (Action::FillBlocks, 1),
+            (Action::End, 8),
+            (Action::Flush, 15),
+            (Action::CutFlush, 4),
+            (Action::Mount, 4),
+        ],
+        segments: (1, 9),
+        lines: (400, 1_200),
+    },
     // Formattings and remounts.
     Profile {
         actions: &[
@@ -362,6 +383,8 @@ impl Generator<'_> {
             Action::Conflict => self.conflict(),
             Action::MadeAgain => self.made_again(),
             Action::Unwritten => self.unwritten(),
+            Action::Pages => self.pages(),
+            Action::LongestPage => self.longest_page(),
             Action::Flush => self.flush(),
             Action::CutFlush => self.cut_flush(),
             Action::Cut => self.cut(),
@@ -381,7 +404,7 @@ impl Generator<'_> {
     /// Any single call, for times at which it is likely to be refused.
     fn any_call(&mut self) {
         let stream = self.stream();
-        match self.random.below(16) {
+        match self.random.below(17) {
             0 => self.new_list(stream),
             1..=2 => self.new_block(stream),
             3..=4 => self.write(stream),
@@ -392,6 +415,7 @@ impl Generator<'_> {
             12 => self.end(),
             13 => self.flush(),
             14 => self.cut_flush(),
+            15 => self.page(),
             _ => self.show(),
         }
     }

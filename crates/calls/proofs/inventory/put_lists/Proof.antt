@@ -5,12 +5,12 @@ use native.Mathlib.Omega.{arith}
 use lib.ListN.{length, length-set}
 use Rattle.lists.proofs.Lookup.{list-said}
 use Rattle.lists.specs.promises.Tables.{OfShown, tablesIn}
-use Rattle.calls.proofs.Taken.{Storing, storing-none, storing-more, storing-end, storing-full}
+use Rattle.calls.proofs.Taken.{Taking, taking-none, taking-more, taking-end, taking-full}
 use Rattle.calls.proofs.inventory.put_lists.Statement.{statement}
 use Rattle.calls.proofs.inventory.put_lists.Tie as tie
 
 abbrev Inv-loop : tie.InvT-loop
-Inv-loop nodes dest₀ list₀ i₀ dest list i = (i ≤ 16) × (length dest ≡ length dest₀) × OfShown (tablesIn nodes) (λ rs. Storing dest₀ rs i dest list)
+Inv-loop nodes dest₀ list₀ i₀ dest list i = (i ≤ 16) × (length dest ≡ length dest₀) × OfShown (tablesIn nodes) (λ rs. Taking dest₀ rs i dest list)
 
 abbrev μ-loop : tie.MeasureT-loop
 μ-loop nodes dest₀ list₀ i₀ dest list i = 16 - i
@@ -21,7 +21,7 @@ list-after-requires c κs = tt
 loop-holds : tie.Need-loop-holds Inv-loop μ-loop
 loop-holds c =
     let a = c .before .before .args in
-    (omega arith, refl, λ rs w. storing-none (a .dest .now) rs (c .list-after .result) (list-said (c .list-after .ensures) rs w refl))
+    (omega arith, refl, λ rs w. taking-none (a .dest .now) rs (c .list-after .result) (list-said (c .list-after .ensures) rs w refl))
 
 same-length : tie.Need-same-length Inv-loop μ-loop
 same-length c = c .before .before .loop .inv .1
@@ -30,7 +30,7 @@ returns : tie.Need-returns Inv-loop μ-loop
 returns c =
     let s = c .before .before .loop in
     let a = c .before .before .before .before .before .args in
-    λ rs w. storing-end (tablesIn (a .nodes .now)) rs w (s .inv .2 rs w) (c .if1 .taken)
+    λ rs w. taking-end (tablesIn (a .nodes .now)) rs w (s .inv .2 rs w) (c .if1 .taken)
 
 slice-write-dest : tie.Need-slice-write-dest Inv-loop μ-loop
 slice-write-dest c = omega (arith, c .before .before .loop .inv .1)
@@ -50,7 +50,7 @@ loop-again c =
     let a = c .before .before .before .before .before .before .args in (
       omega arith,
       length-set (s .dest) (s .i) (s .list) ∙ s .inv .1,
-      λ rs w. storing-more (tablesIn (a .nodes .now)) rs w (s .inv .2 rs w) (omega arith) (c .before .if1 .left) (list-said (c .list-after2 .ensures) rs w),
+      λ rs w. taking-more (tablesIn (a .nodes .now)) rs w (s .inv .2 rs w) (omega arith) (c .before .if1 .left) (list-said (c .list-after2 .ensures) rs w),
     )
 
 same-length-2 : tie.Need-same-length-2 Inv-loop μ-loop
@@ -60,7 +60,7 @@ returns-2 : tie.Need-returns-2 Inv-loop μ-loop
 returns-2 c =
     let s = c .before .loop in
     let a = c .before .before .before .before .args in
-    λ rs w. storing-full (tablesIn (a .nodes .now)) rs w (s .inv .2 rs w) (omega arith)
+    λ rs w. taking-full (tablesIn (a .nodes .now)) rs w (s .inv .2 rs w) (omega arith)
 
 pub put-lists-spec : {M : Type 1} → statement M
 put-lists-spec =

@@ -27,6 +27,12 @@ enum-known-l-3 c = search needs
 inventory-requires : tie.Need-inventory-requires
 inventory-requires c κs = search needs
 
+enum-known-l-4 : tie.Need-enum-known-l-4
+enum-known-l-4 c = search needs
+
+page-requires : tie.Need-page-requires
+page-requires c κs = search needs
+
 same-length : tie.Need-same-length
 same-length c = search needs
 
@@ -49,6 +55,13 @@ returns-3 : tie.Need-returns-3
 unfolding lookOf
 returns-3 c = rw (c .before .before .before .before .before .l3 .given .1) (c .before .before .inventory .ensures)
 
+same-length-4 : tie.Need-same-length-4
+same-length-4 c = search needs
+
+returns-4 : tie.Need-returns-4
+unfolding lookOf
+returns-4 c = rw (c .before .before .before .before .before .l4 .given .1) (c .before .before .page .ensures)
+
 pub look-spec : {M : Type 1} → statement M
 look-spec =
     tie.close
@@ -60,9 +73,13 @@ look-spec =
     put-numbered-requires
     enum-known-l-3
     inventory-requires
+    enum-known-l-4
+    page-requires
     same-length
     returns
     same-length-2
     returns-2
     same-length-3
-    returns-3)
+    returns-3
+    same-length-4
+    returns-4)
