@@ -4,12 +4,14 @@ use mathlib.Core.Logic.{_⊎_}
 use mathlib.Core.Bool.{Bool, true, false, not}
 use mathlib.Core.List.{List, [], _∷_, _++_}
 use Prim.Native.Nat.{ℕ, _≤_, _<_}
+use lib.Dec.{leb}
 use Rattle.lists.specs.promises.Tables.{Tables}
-use Rattle.disk.specs.Record.{isOpen}
+use Rattle.lists.proofs.Basic.{and-true, leb-true}
+use Rattle.disk.specs.Record.{isOpen, countOf}
 use Rattle.disk.specs.declared.answer.Refusal.{Refusal}
-use Rattle.disk.specs.declared.answer.Refusal.the-variants.{StreamClosed, UnitOpen}
+use Rattle.disk.specs.declared.answer.Refusal.the-variants.{StreamClosed, OutOfRange, UnitOpen}
 use Rattle.disk.specs.Disk.{Disk, unitOf}
-use Rattle.disk.specs.Questions.{streamOpen, questions, ask, firstNo, refusal}
+use Rattle.disk.specs.Questions.{streamOpen, isWindow, questions, ask, firstNo, refusal}
 use Rattle.disk.specs.Call.{conflictCount, begin, destination}
 use Rattle.disk.specs.Perform.{accepted, opening}
 use Rattle.disk.specs.Answers.{number, refusedAnswer, acceptedAnswer}
@@ -34,33 +36,52 @@ looks-checks d Seen t h = record { lengths = h .lengths; sound = h .sound }
 checked-yes : {d : Disk} (qs : List (ℕ × Bool)) → Checked d → firstNo (checked d ++ qs) ≡ firstNo qs
 checked-yes {d} qs s = sound-yes d qs (s .lengths) (s .sound)
 
--- The conflict count.
-pub conflicts-given : (d : Disk) → Checked d → Performs conflictCount d d (acceptedAnswer (d .rec .tally .conflicts) 0) []
-unfolding refusal questions accepted firstNo
-conflicts-given d s = performs-accepted conflictCount d _ (checked-yes [] s) refl
+pub window-range : (w : ℕ) → isWindow w ≡ true → (1 ≤ w) × (w ≤ 16)
+window-range w h = let (a, b) = and-true (leb 1 w) (leb w 16) h in (leb-true 1 w a, leb-true w 16 b)
+
+-- A window's conflict count.
+module _ (d : Disk) (w : ℕ) (s : Checked d) where
+  pub conflicts-outside : isWindow w ≡ false → Performs (conflictCount w) d d (refusedAnswer OutOfRange) []
+  unfolding refusal questions destination number
+  conflicts-outside h = usual-performs-refused (conflictCount w) d OutOfRange tt (checked-yes _ s ∙ ask-no 5 (isWindow w) [] h)
+
+  pub conflicts-given : isWindow w ≡ true → Performs (conflictCount w) d d (acceptedAnswer (countOf (d .rec) w) 0) []
+  unfolding refusal questions accepted firstNo
+  conflicts-given h = performs-accepted (conflictCount w) d _ (checked-yes ((5, isWindow w) ∷ []) s ∙ ask-yes 5 (isWindow w) [] h) refl
 
 -- Begin.
-module _ (d : Disk) (u : ℕ) (s : Checked d) where
+module _ (d : Disk) (u w : ℕ) (s : Checked d) where
   abbrev last : List (ℕ × Bool)
   last = (6, not (isOpen (unitOf d u))) ∷ []
 
-  pub begin-outside : (u < 1) ⊎ (4 < u) → Performs (begin u) d d (refusedAnswer StreamClosed) []
+  abbrev behind : List (ℕ × Bool)
+  behind = (5, isWindow w) ∷ last
+
+  pub begin-outside : (u < 1) ⊎ (4 < u) → Performs (begin u w) d d (refusedAnswer StreamClosed) []
   unfolding refusal questions destination number
-  begin-outside r = usual-performs-refused (begin u) d StreamClosed tt (checked-yes _ s ∙ ask-no 4 _ last (outside 4 u r))
+  begin-outside r = usual-performs-refused (begin u w) d StreamClosed tt (checked-yes _ s ∙ ask-no 4 _ behind (outside 4 u r))
 
-  module _ (l : 1 ≤ u) (m : u ≤ 4) (o : Bool) (e : o ≡ openUnit (d .rec) u) where
-    opened-is : isOpen (unitOf d u) ≡ o
-    unfolding openUnit unitOf
-    opened-is = sym (e ∙ rw (in-range 4 u l m))
-
-    asked : refusal (begin u) d ≡ firstNo last
+  module _ (l : 1 ≤ u) (m : u ≤ 4) where
+    asked : refusal (begin u w) d ≡ firstNo behind
     unfolding refusal questions
-    asked = checked-yes _ s ∙ ask-yes 4 _ last (in-range 4 u l m)
+    asked = checked-yes _ s ∙ ask-yes 4 _ behind (in-range 4 u l m)
 
-    pub begin-twice : o ≡ true → Performs (begin u) d d (refusedAnswer UnitOpen) []
+    pub begin-nowhere : isWindow w ≡ false → Performs (begin u w) d d (refusedAnswer OutOfRange) []
     unfolding destination number
-    begin-twice t = usual-performs-refused (begin u) d UnitOpen tt (asked ∙ ask-no 6 (not (isOpen (unitOf d u))) [] (rw (opened-is, t)))
+    begin-nowhere h = usual-performs-refused (begin u w) d OutOfRange tt (asked ∙ ask-no 5 (isWindow w) last h)
 
-    pub begin-opens : o ≡ false → Performs (begin u) d (opening u d) (acceptedAnswer 0 0) []
-    unfolding accepted firstNo
-    begin-opens t = performs-accepted (begin u) d _ (asked ∙ ask-yes 6 (not (isOpen (unitOf d u))) [] (rw (opened-is, t))) refl
+    module _ (h : isWindow w ≡ true) (o : Bool) (e : o ≡ openUnit (d .rec) u) where
+      opened-is : isOpen (unitOf d u) ≡ o
+      unfolding openUnit unitOf
+      opened-is = sym (e ∙ rw (in-range 4 u l m))
+
+      pub begin-twice : o ≡ true → Performs (begin u w) d d (refusedAnswer UnitOpen) []
+      unfolding destination number
+      begin-twice t =
+          usual-performs-refused (begin u w) d UnitOpen tt
+          (asked ∙ ask-yes 5 (isWindow w) last h ∙ ask-no 6 (not (isOpen (unitOf d u))) [] (rw (opened-is, t)))
+
+      pub begin-opens : o ≡ false → Performs (begin u w) d (opening u w d) (acceptedAnswer 0 0) []
+      unfolding accepted firstNo
+      begin-opens t =
+          performs-accepted (begin u w) d _ (asked ∙ ask-yes 5 (isWindow w) last h ∙ ask-yes 6 (not (isOpen (unitOf d u))) [] (rw (opened-is, t))) refl

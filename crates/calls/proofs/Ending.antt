@@ -33,7 +33,7 @@ use Rattle.disk.specs.Perform.{spliceSome, enqueue, enqueueAll, unitEntries, cl
 use Rattle.disk.specs.Answers.{number, refusedAnswer, replyAnswer}
 use Rattle.disk.proofs.Journal.{journal-size}
 use Rattle.disk.proofs.Questions.{unit-range}
-use Rattle.disk.proofs.Clauses.{right}
+use Rattle.disk.proofs.Clauses.{right, open-window}
 use Rattle.disk.proofs.Soundness.{refused-same}
 use Rattle.calls.specs.Performs.{Performs}
 use Rattle.inspect.specs.promises.Located.{journalHere}
@@ -152,7 +152,7 @@ module _ (q₀ j : List ℕ) (u : ℕ) (r₀ : Record) (q : List ℕ) (r : Recor
 
 -- The answers of End.
 module _ (q j : List ℕ) (r : Record) (u : ℕ) (a : Bool) where
-  pub ends-conflict : (r′ : Record) → a ≡ false → r′ ≡ conflictCounted (closed u r) → EndsAs a q j r u (Refused Conflict) q r′
+  pub ends-conflict : (r′ : Record) → a ≡ false → r′ ≡ conflictCounted (unitAt r u .window) (closed u r) → EndsAs a q j r u (Refused Conflict) q r′
   unfolding number refused ends conflicted closing unitOf
   ends-conflict r′ h e = (ask-no 12 a _ h, λ c. rw e)
 
@@ -169,6 +169,7 @@ module _ (q j : List ℕ) (r : Record) (u : ℕ) (a : Bool) where
 -- What the code needs of a disk whose unit u is open.
 module _ (u : ℕ) (d : Disk) (t : Tables) (k : Admitted false d u t) where
   pub stands-ready : Ready (d .queueData) (d .journalData) (d .rec) u
+  unfolding unitOf
   stands-ready =
       let g = right d (k .lengths) (k .sound) in
       let (p, q, o) = unit-range d u (k .opened) in
@@ -181,6 +182,8 @@ module _ (u : ℕ) (d : Disk) (t : Tables) (k : Admitted false d u t) where
         first = p;
         last = q;
         room = w .room;
+        opened = open-window (unitOf d u .window) o;
+        window = g .units .units u p q .window;
         lawful = w .lawful;
       }
 

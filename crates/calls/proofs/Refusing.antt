@@ -116,10 +116,10 @@ performs-refused c d d′ x z r h =
 abbrev pub Usual : Call → Type 0
 Usual format = Unit {0}
 Usual mount = ⊥
-Usual conflictCount = Unit {0}
+Usual (conflictCount w) = Unit {0}
 Usual (onStream s e) = Unit {0}
 Usual (inView v k) = Unit {0}
-Usual (begin u) = Unit {0}
+Usual (begin u w) = Unit {0}
 Usual (end u) = ⊥
 Usual (flush a) = Unit {0}
 
@@ -132,10 +132,10 @@ usual : (c : Call) (d : Disk) → Usual c → (ends c ≡ none) × (asks 2 (ques
 unfolding ends questions
 usual format d u = (refl, refl)
 usual mount d u = absurd u
-usual conflictCount d u = (refl, refl)
+usual (conflictCount w) d u = (refl, refl)
 usual (onStream s e) d u = (refl, behind-two (edit-behind s e d))
 usual (inView v k) d u = (refl, behind-two (look-behind k (view d v .lists)))
-usual (begin w) d u = (refl, refl)
+usual (begin v w) d u = (refl, refl)
 usual (end w) d u = absurd u
 usual (flush a) d u = (refl, refl)
 

@@ -1,5 +1,6 @@
-// Begin: a unit opened, its journal empty.
+// Begin: a unit opened for a window, its journal empty.
 use crate::check::check;
+use crate::ranges::is_window;
 use disk::answer::Refusal;
 use disk::answer::Reply;
 use disk::change::empty;
@@ -11,15 +12,16 @@ ghost use Rattle.disk.specs.Call.{begin as beginOf};
 ghost use Rattle.disk.specs.Answers.{replyAnswer};
 ghost use Rattle.calls.specs.Performs.{ChangesRecord};
 
-// Questions: 1 lengths, 3 record, 4 unit, 6 closed.
+// Questions: 1 lengths, 3 record, 4 unit, 5 window, 6 closed.
 pub fn begin(
     card: &[u8],
     queue_data: &[u8],
     journal_data: &[u8],
     rec: &mut [u8; RECORD],
     unit: usize,
+    window: usize,
 ) -> Reply
-    ensures { λ r. ⌜ ChangesRecord (beginOf unit) (now (card .entry)) (now (queue_data .entry)) (now (journal_data .entry)) (now (rec .entry)) (now (rec .exit)) (replyAnswer r) ⌝ }
+    ensures { λ r. ⌜ ChangesRecord (beginOf unit window) (now (card .entry)) (now (queue_data .entry)) (now (journal_data .entry)) (now (rec .entry)) (now (rec .exit)) (replyAnswer r) ⌝ }
 {
     match check(card, queue_data, journal_data, rec) {
         Looked::Refused(x) => {
@@ -30,9 +32,12 @@ pub fn begin(
     if unit < 1 || Record::UNITS < unit {
         return Reply::Refused(Refusal::StreamClosed);
     }
+    if !is_window(window) {
+        return Reply::Refused(Refusal::OutOfRange);
+    }
     if is_open(rec, unit) {
         return Reply::Refused(Refusal::UnitOpen);
     }
-    empty(rec, unit, true);
+    empty(rec, unit, window as u8);
     Reply::Accepted
 }

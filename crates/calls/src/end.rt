@@ -13,6 +13,7 @@ use disk::record::head;
 use disk::record::journal_entry;
 use disk::record::journal_len;
 use disk::record::len;
+use disk::record::window;
 use inspect::journal::enter_journal;
 use inspect::look::Looked;
 use log::copy::copy_in;
@@ -32,12 +33,15 @@ ghost use Rattle.disk.specs.Answers.{replyAnswer};
 ghost use Rattle.calls.specs.promises.Ending.{closed, QueuesMember, Ready, QueuesUnit, Ends};
 ghost use Rattle.calls.specs.Performs.{Performs};
 
+// The window of a closed unit.
+const CLOSED: u8 = 0;
+
 // Unit u closed, its journal gone, its numbers released.
 fn close(rec: &mut [u8; RECORD], u: usize)
     requires { ⌜ (1 ≤ u) × (u ≤ 4) ⌝ }
     ensures { λ r. ⌜ recordIn (now (rec .exit)) ≡ closed u (recordIn (now (rec .entry))) ⌝ }
 {
-    empty(rec, u, false);
+    empty(rec, u, CLOSED);
     release(rec, u as u8);
 }
 
@@ -95,8 +99,9 @@ fn end_unit(
     ensures { λ r. ⌜ Ends (tablesIn (now (nodes .entry))) (now (queue_data .entry)) (now (journal_data .entry)) (recordIn (now (rec .entry))) u r (now (queue_data .exit)) (recordIn (now (rec .exit))) ⌝ }
 {
     if !enter_journal(nodes, rec, u) {
+        let w = window(rec, u);
         close(rec, u);
-        count_conflict(rec);
+        count_conflict(rec, w as usize);
         return Reply::Refused(Refusal::Conflict);
     }
     if Record::QUEUE <= len(rec) + journal_len(rec, u) {

@@ -1,4 +1,5 @@
 // Question 5 of the numbers that callers give, and question 9 of a predecessor.
+use disk::record::Record;
 use lists::tables::is_on;
 use log::entry::LogEntry;
 use log::legal::both;
@@ -9,6 +10,7 @@ ghost use lib.Dec.{leb, eqb};
 ghost use Rattle.lists.specs.State.{onList};
 ghost use Rattle.lists.specs.promises.Tables.{tablesIn, OfShown, IsList};
 ghost use Rattle.log.specs.Entry.{isBlock, isList};
+ghost use Rattle.disk.specs.Questions.{isWindow};
 
 const BLOCKS: usize = LogEntry::BLOCKS as usize;
 
@@ -24,6 +26,12 @@ pub fn is_list(l: usize) -> bool
     ensures { λ r. ⌜ r ≡ isList l ⌝ }
 {
     both(1 <= l, l <= LISTS)
+}
+
+pub fn is_window(w: usize) -> bool
+    ensures { λ r. ⌜ r ≡ isWindow w ⌝ }
+{
+    both(1 <= w, w <= Record::WINDOWS)
 }
 
 // A list, and a block on it or 0, which stands for none.

@@ -40,10 +40,10 @@ lookOf (K.the-variants.Page n) = page (bytesLent n)
 unfoldable pub callOf : List ℕ → Q.Request → Call
 callOf line Q.the-variants.Format = format
 callOf line Q.the-variants.Mount = mount
-callOf line (Q.the-variants.Begin u) = begin u
+callOf line (Q.the-variants.Begin u w) = begin u w
 callOf line (Q.the-variants.End u) = end u
 callOf line (Q.the-variants.Flush a) = flush a
-callOf line Q.the-variants.Conflicts = conflictCount
+callOf line (Q.the-variants.Conflicts w) = conflictCount w
 callOf line (Q.the-variants.Edit s e) = onStream s (editOf line e)
 callOf line (Q.the-variants.Look v k) = inView v (lookOf k)
 

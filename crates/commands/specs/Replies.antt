@@ -22,9 +22,9 @@ lookLine (page x) r = pageReply (r .answer) (r .lent)
 unfoldable pub lineOf : Call → Result → List ℕ
 lineOf format r = answerLine (r .answer)
 lineOf mount r = mountLine (r .answer)
-lineOf conflictCount r = numberedLine (r .answer)
+lineOf (conflictCount w) r = numberedLine (r .answer)
 lineOf (onStream s e) r = editLine e (r .answer)
 lineOf (inView v k) r = lookLine k r
-lineOf (begin u) r = answerLine (r .answer)
+lineOf (begin u w) r = answerLine (r .answer)
 lineOf (end u) r = answerLine (r .answer)
 lineOf (flush a) r = flushLine (r .answer)

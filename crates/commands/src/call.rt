@@ -43,8 +43,15 @@ pub fn call(
             let reply = calls::mount::mount(card, queue, journal, rec);
             put_mounted(out, at, reply)
         }
-        Request::Begin { unit } => {
-            let reply = calls::begin::begin(card, queue, journal, rec, unit as usize);
+        Request::Begin { unit, window } => {
+            let reply = calls::begin::begin(
+                card,
+                queue,
+                journal,
+                rec,
+                unit as usize,
+                window as usize,
+            );
             put_answer(out, at, reply)
         }
         Request::End { unit } => {
@@ -55,8 +62,8 @@ pub fn call(
             let reply = calls::flush::flush(card, queue, journal, rec, allowance as usize);
             put_flushed(out, at, reply)
         }
-        Request::Conflicts => {
-            let reply = calls::conflicts::conflicts(card, queue, journal, rec);
+        Request::Conflicts { window } => {
+            let reply = calls::conflicts::conflicts(card, queue, journal, rec, window as usize);
             put_numbered(out, at, reply)
         }
         Request::Edit { stream, edit: e } => {

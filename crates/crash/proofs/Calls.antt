@@ -85,14 +85,14 @@ accepted-edit s e d b h i =
     noted-inv s c (change t c d) (join t c b) (change-inv t c d b i (record { sound = right d (y 0) (y 1); isOpen = stream-open s c d (y 2); journal = m .journal; queue = m .queue }) (m .good) (m .applying))
 
 -- a unit that opens was closed, so its journal is empty already
-pub accepted-begin : (u : ℕ) (d : Disk) (b : Book) → refusal (begin u) d ≡ 0 → Live d b → Live (accepted (begin u) d .disk) b
+pub accepted-begin : (u w : ℕ) (d : Disk) (b : Book) → refusal (begin u w) d ≡ 0 → Live d b → Live (accepted (begin u w) d .disk) b
 unfolding questions accepted opening
-accepted-begin u d b h i =
-    let y = yes-all (begin u) d h in
+accepted-begin u w d b h i =
+    let y = yes-all (begin u w) d h in
     let (p, q) = and-true (leb 1 u) (leb u 4) (y 2) in
     let k = right d (y 0) (y 1) .units .units u (leb-true 1 u p) (leb-true u 4 q) in
-    let n : unitOf d u .len ≡ 0 = k .closed (not-false (isOpen (unitOf d u)) (y 3)) in
-    same-inv d (opening u d) b refl (queued-opening u d) refl (λ v. journal-opening u v d n) i
+    let n : unitOf d u .len ≡ 0 = k .closed (not-false (isOpen (unitOf d u)) (y 4)) in
+    same-inv d (opening u w d) b refl (queued-opening u w d) refl (λ v. journal-opening u v w d n) i
 
 pub accepted-end : (u : ℕ) (d : Disk) (b : Book) → refusal (end u) d ≡ 0 → Live d b → Live (accepted (end u) d .disk) (joinUnit u b)
 unfolding questions accepted endApplies

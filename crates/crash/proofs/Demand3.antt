@@ -41,10 +41,10 @@ accepted-inv : (c : Call) (d : Disk) (b : Book) (dn : Bool) → refusal c d ≡ 
 unfolding accepted bookAccepted resets
 accepted-inv format d b dn h w i = accepted-format (record { disk = d; down = dn }) b i
 accepted-inv mount d b dn h w i = accepted-mount (record { disk = d; down = dn }) b i
-accepted-inv conflictCount d b dn h w i = awake d b dn w i
+accepted-inv (conflictCount v) d b dn h w i = awake d b dn w i
 accepted-inv (onStream s e) d b dn h w i = accepted-edit s e d b h (awake d b dn w i)
 accepted-inv (inView v k) d b dn h w i = awake d b dn w i
-accepted-inv (begin u) d b dn h w i = accepted-begin u d b h (awake d b dn w i)
+accepted-inv (begin u v) d b dn h w i = accepted-begin u v d b h (awake d b dn w i)
 accepted-inv (end u) d b dn h w i = accepted-end u d b h (awake d b dn w i)
 accepted-inv (flush a) d b dn h w i = accepted-flush a d b (awake d b dn w i)
 

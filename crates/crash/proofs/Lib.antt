@@ -17,3 +17,4 @@ pub mod Scenario
 pub mod Covered
 pub mod Unwritten
 pub mod Inventory
+pub mod Conflicts

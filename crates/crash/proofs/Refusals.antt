@@ -32,31 +32,31 @@ unfolding lend
 unchanged p w b i = rw (back-record p (w .disk) (w .disk .rec)) i
 
 -- Refusal 12.
-closed-tied : (d : Disk) (b : Book) (u : ℕ) → 1 ≤ u → Tied d b → Tied (conflicted (closing u d)) (withBatch b u [])
+closed-tied : (v : ℕ) (d : Disk) (b : Book) (u : ℕ) → 1 ≤ u → Tied d b → Tied (conflicted v (closing u d)) (withBatch b u [])
 unfolding conflicted closing withBatch
-closed-tied d b u p t =
+closed-tied v d b u p t =
     record {
-      queue = queued-conflicted (closing u d) ∙ queued-closing u d ∙ t .queue;
+      queue = queued-conflicted v (closing u d) ∙ queued-closing u d ∙ t .queue;
       done = t .done;
-      journals = λ v x y. journal-conflicted (closing u d) v ∙ journals v x y (ℕ-discrete u v);
+      journals = λ w x y. journal-conflicted v (closing u d) w ∙ journals w x y (ℕ-discrete u w);
     }
   where
-    journals : (v : ℕ) → 1 ≤ v → v ≤ 4 → Dec (u ≡ v) → journalOf (closing u d) v ≡ batchOf (withBatch b u []) v
-    journals v x y (yes e) = rw (← e) (journal-closing u d ∙ sym (batch-dropped b u u refl))
-    journals v x y (no e) = journal-closing-other u v d p x e ∙ t .journals v x y ∙ sym (batch-other b u v [] (omega arith))
+    journals : (w : ℕ) → 1 ≤ w → w ≤ 4 → Dec (u ≡ w) → journalOf (closing u d) w ≡ batchOf (withBatch b u []) w
+    journals w x y (yes e) = rw (← e) (journal-closing u d ∙ sym (batch-dropped b u u refl))
+    journals w x y (no e) = journal-closing-other u w d p x e ∙ t .journals w x y ∙ sym (batch-other b u w [] (omega arith))
 
-back-closed : (p : Parts) (d : Disk) (u : ℕ) → giveBack p d (conflicted (closing u (lend p d))) ≡ conflicted (closing u d)
+back-closed : (p : Parts) (d : Disk) (v u : ℕ) → giveBack p d (conflicted v (closing u (lend p d))) ≡ conflicted v (closing u d)
 unfolding lend conflicted closing unitOf
-back-closed p d u = back-record p d (conflicted (closing u d) .rec)
+back-closed p d v u = back-record p d (conflicted v (closing u d) .rec)
 
-closed-inv : (p : Parts) (w : World) (b : Book) (u : ℕ) → 1 ≤ u → Inv w b → Inv (after p w (conflicted (closing u (lend p (w .disk))))) (withBatch b u [])
+closed-inv : (p : Parts) (w : World) (b : Book) (v u : ℕ) → 1 ≤ u → Inv w b → Inv (after p w (conflicted v (closing u (lend p (w .disk))))) (withBatch b u [])
 unfolding conflicted closing withBatch placedEntries
-closed-inv p w b u l i =
-    rw (back-closed p (w .disk) u)
+closed-inv p w b v u l i =
+    rw (back-closed p (w .disk) v u)
     (record {
       sim = i .sim;
       told = withBatch-told b u [] (i .told);
-      tied = λ e. closed-tied (w .disk) b u l (i .tied e);
+      tied = λ e. closed-tied v (w .disk) b u l (i .tied e);
       four = length-set (b .batches) (u - 1) [] ∙ i .four;
       few = i .few;
     })
@@ -78,5 +78,5 @@ refused-inv c m p w b h i = go (ends c) refl (eqb (suc m) 12) refl
   where
     go : (o : Option ℕ) → ends c ≡ o → (f : Bool) → eqb (suc m) 12 ≡ f → Inv (after p w (refused c (suc m) (lend p (w .disk)))) (bookRefused c (suc m) b)
     go none o f e = rw (o, refused, bookRefused) (unchanged p w b i)
-    go (some u) o true e = rw (o, refused, bookRefused) (rw (e, refused, bookRefused) (closed-inv p w b u (end-range c u (lend p (w .disk)) o (h ∙ eqb-true (suc m) 12 e)) i))
+    go (some u) o true e = rw (o, refused, bookRefused) (rw (e, refused, bookRefused) (closed-inv p w b _ u (end-range c u (lend p (w .disk)) o (h ∙ eqb-true (suc m) 12 e)) i))
     go (some u) o false e = rw (o, refused, bookRefused) (rw (e, refused, bookRefused) (unchanged p w b i))

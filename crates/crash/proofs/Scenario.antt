@@ -45,14 +45,14 @@ events =
     wholly (onStream 0 newList)
     ∷ wholly (onStream 0 (newBlock 1 0))
     -- a unit, its flush cut: the two plain entries' 7 stores are done, its member's 5, and 1 of its commit's 3
-    ∷ wholly (begin 1)
+    ∷ wholly (begin 1 1)
     ∷ wholly (onStream 1 (newBlock 1 1))
     ∷ wholly (end 1)
     ∷ cutFlush 100 13 other
     -- a mount that is lent too little is refused; after the next, unit 1's member stands dead before unit 2's
     ∷ partly mount
     ∷ wholly mount
-    ∷ wholly (begin 2)
+    ∷ wholly (begin 2 1)
     ∷ wholly (onStream 2 (newBlock 1 0))
     ∷ wholly (end 2)
     ∷ wholly (flush 7)
@@ -93,7 +93,7 @@ retaken =
     ∷ wholly (flush 100)
     ∷ wholly mount
     ∷ wholly (onStream 0 newList)
-    ∷ wholly (begin 1)
+    ∷ wholly (begin 1 1)
     ∷ wholly (onStream 1 (deleteList 2))
     ∷ []
 

@@ -153,10 +153,10 @@ settle b = record { history = onCard b; line = []; done = 0; batches = replicate
 unfoldable pub bookAccepted : Call → ℕ → Book → Book
 bookAccepted format n b = settle (bookFormat (length (b .segs)) b)
 bookAccepted mount n b = settle b
-bookAccepted conflictCount n b = b
+bookAccepted (conflictCount w) n b = b
 bookAccepted (onStream s e) n b = let c = changeFor e n in join (streamFor s c) c b
 bookAccepted (inView v k) n b = b
-bookAccepted (begin u) n b = b
+bookAccepted (begin u w) n b = b
 bookAccepted (end u) n b = joinUnit u b
 bookAccepted (flush a) n b = bookFlush a b
 

@@ -4,3 +4,4 @@ pub mod Demand3
 pub mod Covered
 pub mod Unwritten
 pub mod Inventory
+pub mod Conflicts

@@ -13,7 +13,7 @@ use lib.Seq.{ext-getD, getD-set-same, getD-set-other}
 use Rattle.lists.specs.Basic.{from}
 use Rattle.lists.proofs.Basic.{from-length, from-get, from-ext, getD-same}
 use Rattle.log.specs.Cell.{Cell, cell}
-use Rattle.disk.specs.Record.{Unit, unit, Record, cellsIn, bytesIn, pairIn, unitIn, recordIn, noCell, noUnit, unitAt, holderOf, shaped, freshUnit, freshRecord, Ring, Held, Tally, withRing, withFlow, withHeld, withLastBlock, withLastList, withConflicts, emptied, journaled, holding, unitTurned, journalGrown, releasing, released}
+use Rattle.disk.specs.Record.{Unit, unit, Record, cellsIn, bytesIn, pairIn, pairsIn, unitIn, recordIn, noCell, noUnit, unitAt, holderOf, shaped, freshUnit, freshRecord, Ring, Held, Tally, withRing, withFlow, withHeld, withTally, withLastBlock, withLastList, emptied, journaled, holding, unitTurned, journalGrown, releasing, released}
 use Rattle.disk.specs.promises.Bytes.{cellSet}
 
 -- A list by its elements' numbers, with one element changed.
@@ -41,6 +41,10 @@ byte-read bs a n k l = from-get (λ j. getD bs (a + j) 0) 0 n k 0 l ∙ ap (λ (
 pub bytes-length : (bs : List ℕ) (a n : ℕ) → length (bytesIn bs a n) ≡ n
 unfolding bytesIn
 bytes-length bs a n = from-length (λ k. getD bs (a + k) 0) 0 n
+
+pub pair-read : (bs : List ℕ) (a n k : ℕ) → k < n → getD (pairsIn bs a n) k 0 ≡ pairIn bs (a + 2 * k)
+unfolding pairsIn
+pair-read bs a n k l = from-get (λ j. pairIn bs (a + 2 * j)) 0 n k 0 l ∙ ap (λ (j : ℕ). pairIn bs (a + 2 * j)) (zero-add k)
 
 pub unit-read : (bs : List ℕ) (u : ℕ) → 1 ≤ u → u ≤ 4 → unitAt (recordIn bs) u ≡ unitIn bs (u - 1)
 unfolding recordIn
@@ -76,6 +80,10 @@ module _ (bs cs : List ℕ) where
   same-pair : (a : ℕ) → Agree bs cs a (a + 2) → pairIn cs a ≡ pairIn bs a
   same-pair a h i = h a (omega arith) (omega arith) i + 256 * h (a + 1) (omega arith) (omega arith) i
 
+  same-pairs : (a n : ℕ) → Agree bs cs a (a + 2 * n) → pairsIn cs a n ≡ pairsIn bs a n
+  unfolding pairsIn
+  same-pairs a n h = from-ext (λ k. pairIn cs (a + 2 * k)) (λ k. pairIn bs (a + 2 * k)) n (λ k l. same-pair (a + 2 * k) (λ j p q. h j (omega arith) (omega arith)))
+
   same-units : Agree bs cs 128 376 → from (unitIn cs) 0 4 ≡ from (unitIn bs) 0 4
   same-units h =
       from-ext (unitIn cs) (unitIn bs) 4
@@ -97,9 +105,9 @@ module _ (bs cs : List ℕ) where
   unfolding recordIn
   same-held h i = record { units = same-units (λ j p q. h j p (omega arith)) i; holder = same-holder (λ j p q. h j (omega arith) q) i }
 
-  same-tally : Agree bs cs 444 448 → recordIn cs .tally ≡ recordIn bs .tally
+  same-tally : Agree bs cs 444 478 → recordIn cs .tally ≡ recordIn bs .tally
   unfolding recordIn
-  same-tally h i = record { lastBlock = h 444 (omega arith) (omega arith) i; lastList = h 445 (omega arith) (omega arith) i; conflicts = same-pair 446 (λ j p q. h j (omega arith) q) i }
+  same-tally h i = record { lastBlock = h 444 (omega arith) (omega arith) i; lastList = h 445 (omega arith) (omega arith) i; conflicts = same-pairs 446 16 (λ j p q. h j (omega arith) q) i }
 
   -- a unit more or less than it was
   units-set : (x : Unit) (i : ℕ) → i < 4 → unitIn cs i ≡ x → ((j : ℕ) → j < 4 → j ≢ i → unitIn cs j ≡ unitIn bs j) → from (unitIn cs) 0 4 ≡ set (from (unitIn bs) 0 4) i x
@@ -173,7 +181,7 @@ cells-at : (bs : List ℕ) (a n p i : ℕ) (c : Cell) → i ≡ a + 4 * p → p 
 cells-at bs a n p i c e l m = ap (λ (j : ℕ). cellsIn (cellSet bs j c) a n) e ∙ cells-set bs a n p c l m
 
 -- The parts changed, one by one: bytes cs, which agree with bs elsewhere.
-module _ (bs : List ℕ) (l : length bs ≡ 448) where
+module _ (bs : List ℕ) (l : length bs ≡ 478) where
   -- a byte elsewhere
   away : (i v j : ℕ) → j ≢ i → getD (set bs i v) j 0 ≡ getD bs j 0
   away i v j n = getD-set-other bs i j v 0 n
@@ -184,7 +192,7 @@ module _ (bs : List ℕ) (l : length bs ≡ 448) where
       let cs = set bs 444 v in
       let other = away 444 v in
       parts cs (same-ring bs cs (λ j p q. other j (λ z. omega arith)) (λ j p q. other j (λ z. omega arith))) (same-held bs cs (λ j p q. other j (λ z. omega arith)))
-      (λ i. record { lastBlock = getD-set-same bs 444 v 0 (omega arith) i; lastList = other 445 (λ z. omega arith) i; conflicts = same-pair bs cs 446 (λ j p q. other j (λ z. omega arith)) i })
+      (λ i. record { lastBlock = getD-set-same bs 444 v 0 (omega arith) i; lastList = other 445 (λ z. omega arith) i; conflicts = same-pairs bs cs 446 16 (λ j p q. other j (λ z. omega arith)) i })
 
   pub list-in : (v : ℕ) → recordIn (set bs 445 v) ≡ withLastList (recordIn bs) v
   unfolding recordIn
@@ -192,7 +200,7 @@ module _ (bs : List ℕ) (l : length bs ≡ 448) where
       let cs = set bs 445 v in
       let other = away 445 v in
       parts cs (same-ring bs cs (λ j p q. other j (λ z. omega arith)) (λ j p q. other j (λ z. omega arith))) (same-held bs cs (λ j p q. other j (λ z. omega arith)))
-      (λ i. record { lastBlock = other 444 (λ z. omega arith) i; lastList = getD-set-same bs 445 v 0 (omega arith) i; conflicts = same-pair bs cs 446 (λ j p q. other j (λ z. omega arith)) i })
+      (λ i. record { lastBlock = other 444 (λ z. omega arith) i; lastList = getD-set-same bs 445 v 0 (omega arith) i; conflicts = same-pairs bs cs 446 16 (λ j p q. other j (λ z. omega arith)) i })
 
   pub holder-in : (x v : ℕ) → x < 64 → recordIn (set bs (376 + x) v) ≡ withHeld (recordIn bs) (recordIn bs .held .units) (set (recordIn bs .held .holder) x v)
   unfolding recordIn
@@ -207,16 +215,24 @@ module _ (bs : List ℕ) (l : length bs ≡ 448) where
   twice : (i v k w j : ℕ) → j ≢ i → j ≢ k → getD (set (set bs i v) k w) j 0 ≡ getD bs j 0
   twice i v k w j n m = getD-set-other (set bs i v) k j w 0 m ∙ away i v j n
 
-  pub conflicts-in : (a b : ℕ) → recordIn (set (set bs 446 a) 447 b) ≡ withConflicts (recordIn bs) (a + 256 * b)
-  unfolding recordIn
-  conflicts-in a b =
-      let cs = set (set bs 446 a) 447 b in
-      let other = twice 446 a 447 b in
-      let low : getD cs 446 0 ≡ a = getD-set-other (set bs 446 a) 447 446 b 0 (λ z. omega arith) ∙ getD-set-same bs 446 a 0 (omega arith) in
-      let high : getD cs 447 0 ≡ b = getD-set-same (set bs 446 a) 447 b 0 (omega (arith, length-set bs 446 a)) in
+  pub count-in : (x a b : ℕ) → x < 16
+      → recordIn (set (set bs (446 + 2 * x) a) (446 + 2 * x + 1) b) ≡ withTally (recordIn bs) (recordIn bs .tally .lastBlock) (recordIn bs .tally .lastList) (set (recordIn bs .tally .conflicts) x (a + 256 * b))
+  unfolding recordIn pairsIn
+  count-in x a b h =
+      let y = 446 + 2 * x in
+      let cs = set (set bs y a) (y + 1) b in
+      let other = twice y a (y + 1) b in
+      let low : getD cs y 0 ≡ a = getD-set-other (set bs y a) (y + 1) y b 0 (λ z. omega arith) ∙ getD-set-same bs y a 0 (omega arith) in
+      let high : getD cs (y + 1) 0 ≡ b = getD-set-same (set bs y a) (y + 1) b 0 (omega (arith, length-set bs y a)) in
       parts cs (same-ring bs cs (λ j p q. other j (λ z. omega arith) (λ z. omega arith)) (λ j p q. other j (λ z. omega arith) (λ z. omega arith)))
       (same-held bs cs (λ j p q. other j (λ z. omega arith) (λ z. omega arith)))
-      (λ i. record { lastBlock = other 444 (λ z. omega arith) (λ z. omega arith) i; lastList = other 445 (λ z. omega arith) (λ z. omega arith) i; conflicts = low i + 256 * high i })
+      (λ i. record {
+        lastBlock = other 444 (λ z. omega arith) (λ z. omega arith) i;
+        lastList = other 445 (λ z. omega arith) (λ z. omega arith) i;
+        conflicts =
+            from-set 0 (λ k. pairIn bs (446 + 2 * k)) (λ k. pairIn cs (446 + 2 * k)) 16 x (a + 256 * b) h (λ j. low j + 256 * high j)
+            (λ k l n. same-pair bs cs (446 + 2 * k) (λ j p q. other j (λ z. n (omega arith)) (λ z. n (omega arith)))) i;
+      })
 
   pub turn-in : (i o : ℕ) → i < 4 → recordIn (set (set bs (368 + i) o) (372 + i) 0) ≡ withHeld (recordIn bs) (set (recordIn bs .held .units) i (emptied o (unitIn bs i))) (recordIn bs .held .holder)
   unfolding recordIn unitIn
@@ -248,7 +264,7 @@ module _ (bs : List ℕ) (l : length bs ≡ 448) where
   append-in p v c h =
       let ds = cellSet bs (4 * p) c in
       let cs = set ds 441 v in
-      let m : length ds ≡ 448 = cellSet-length bs (4 * p) c (omega arith) ∙ l in
+      let m : length ds ≡ 478 = cellSet-length bs (4 * p) c (omega arith) ∙ l in
       let other : (j : ℕ) → 128 ≤ j → j ≢ 441 → getD cs j 0 ≡ getD bs j 0 = λ j a n. celled (4 * p) 441 v j c (omega arith) (omega arith) (inr (omega arith)) n in
       parts cs
       (λ i. record {
@@ -261,13 +277,13 @@ module _ (bs : List ℕ) (l : length bs ≡ 448) where
 
   pub journal-in : (i n v : ℕ) (c : Cell) → i < 4 → n < 15
       → recordIn (set (cellSet bs (128 + 4 * (15 * i + n)) c) (372 + i) v)
-      ≡ withHeld (recordIn bs) (set (recordIn bs .held .units) i (unit (unitIn bs i .opened) v (set (unitIn bs i .journal) n c))) (recordIn bs .held .holder)
+      ≡ withHeld (recordIn bs) (set (recordIn bs .held .units) i (unit (unitIn bs i .window) v (set (unitIn bs i .journal) n c))) (recordIn bs .held .holder)
   unfolding recordIn unitIn
   journal-in i n v c h g =
       let a = 128 + 4 * (15 * i + n) in
       let ds = cellSet bs a c in
       let cs = set ds (372 + i) v in
-      let m : length ds ≡ 448 = cellSet-length bs a c (omega arith) ∙ l in
+      let m : length ds ≡ 478 = cellSet-length bs a c (omega arith) ∙ l in
       let other : (j : ℕ) → j < a ⊎ a + 4 ≤ j → j ≢ 372 + i → getD cs j 0 ≡ getD bs j 0 = λ j s o. celled a (372 + i) v j c (omega arith) (omega arith) s o in
       let cells : cellsIn cs (128 + 60 * i) 15 ≡ set (cellsIn bs (128 + 60 * i) 15) n c =
       cells-agree ds cs (128 + 60 * i) 15 (λ j x y. getD-set-other ds (372 + i) j v 0 (λ z. omega arith)) ∙ cells-at bs (128 + 60 * i) 15 n a c (omega arith) g (omega arith) in
@@ -302,9 +318,9 @@ module _ (bs : List ℕ) (l : length bs ≡ 448) where
       let w = set y 442 a in
       let cs = set w 443 b in
       let other = flowed h n a b in
-      let lx : length x ≡ 448 = length-set bs 440 h ∙ l in
-      let ly : length y ≡ 448 = length-set x 441 n ∙ lx in
-      let lw : length w ≡ 448 = length-set y 442 a ∙ ly in
+      let lx : length x ≡ 478 = length-set bs 440 h ∙ l in
+      let ly : length y ≡ 478 = length-set x 441 n ∙ lx in
+      let lw : length w ≡ 478 = length-set y 442 a ∙ ly in
       let head : getD cs 440 0 ≡ h = getD-set-other w 443 440 b 0 (λ z. omega arith) ∙ getD-set-other y 442 440 a 0 (λ z. omega arith) ∙ getD-set-other x 441 440 n 0 (λ z. omega arith) ∙ getD-set-same bs 440 h 0 (omega arith) in
       let len : getD cs 441 0 ≡ n = getD-set-other w 443 441 b 0 (λ z. omega arith) ∙ getD-set-other y 442 441 a 0 (λ z. omega arith) ∙ getD-set-same x 441 n 0 (omega arith) in
       let low : getD cs 442 0 ≡ a = getD-set-other w 443 442 b 0 (λ z. omega arith) ∙ getD-set-same y 442 a 0 (omega arith) in
@@ -314,11 +330,11 @@ module _ (bs : List ℕ) (l : length bs ≡ 448) where
 
 -- What unit u holds, given up block by block: bytes cs when those before block i + 1 are done.
 pub record Freed (u : ℕ) (bs cs : List ℕ) (i : ℕ) : Type 0 where
-  pub size : length cs ≡ 448
+  pub size : length cs ≡ 478
   pub done : (k : ℕ) → k < i → getD cs (376 + k) 0 ≡ cond (eqb (getD bs (376 + k) 0) u) 0 (getD bs (376 + k) 0)
   pub others : (j : ℕ) → j < 376 ⊎ 376 + i ≤ j → getD cs j 0 ≡ getD bs j 0
 
-pub freed-none : (u : ℕ) (bs : List ℕ) → length bs ≡ 448 → Freed u bs bs 0
+pub freed-none : (u : ℕ) (bs : List ℕ) → length bs ≡ 478 → Freed u bs bs 0
 freed-none u bs l = record { size = l; done = λ k h. absurd (omega arith); others = λ j h. refl }
 
 pub freed-more : (u : ℕ) (bs cs : List ℕ) (i v : ℕ) → i < 64 → Freed u bs cs i → v ≡ cond (eqb (getD cs (376 + i) 0) u) 0 (getD cs (376 + i) 0)
@@ -361,5 +377,5 @@ freed-all u bs cs i n h f =
 
 -- Every record that bytes mean has its shape.
 pub in-shaped : (bs : List ℕ) → shaped (recordIn bs) ≡ true
-unfolding shaped recordIn unitIn cellsIn bytesIn from
+unfolding shaped recordIn unitIn cellsIn bytesIn pairsIn from
 in-shaped bs = refl

@@ -1,7 +1,7 @@
 -- Questions 1 and 3 taken apart into facts, and put together again.
 use mathlib.Core.Path.{_≡_, refl, ap}
 use mathlib.Core.Logic.{_⊎_, inl, inr}
-use mathlib.Core.Bool.{Bool, true, false, _&&_, _||_, not, or-true, true≢false}
+use mathlib.Core.Bool.{Bool, true, false, _&&_, _||_, not, or-true, true≢false, false≢true}
 use mathlib.Core.Option.{some}
 use Prim.Native.Nat.{ℕ, zero, suc, _≤_, _<_}
 use native.Mathlib.Omega.{arith}
@@ -33,6 +33,7 @@ pub record LogRight (d : Disk) (z : Reader Content) : Type 0 where
 pub record UnitRight (d : Disk) (u : ℕ) : Type 0 where
   pub places : length (unitOf d u .journal) ≡ 15
   pub room : unitOf d u .len ≤ 15
+  pub window : unitOf d u .window ≤ 16
   pub closed : isOpen (unitOf d u) ≡ false → unitOf d u .len ≡ 0
   pub sound : all (journalSound (d .rec) u) (journalOf d u) ≡ true
 
@@ -54,7 +55,7 @@ pub record Right (d : Disk) : Type 0 where
   pub journalData : length (d .journalData) ≡ 15360
   pub lastBlock : isBlock (d .rec .tally .lastBlock) ≡ true
   pub lastList : isList (d .rec .tally .lastList) ≡ true
-  pub conflicts : d .rec .tally .conflicts ≤ 65535
+  pub conflicts : length (d .rec .tally .conflicts) ≡ 16
 
 pub committed-is : (d : Disk) (z : Reader Content) → committedReader d ≡ some z → committed d ≡ z .state
 unfolding committed stateOf
@@ -65,6 +66,7 @@ record Shape (r : Record) : Type 0 where
   queue : length (r .ring .queue) ≡ 32
   units : length (r .held .units) ≡ 4
   holder : length (r .held .holder) ≡ 64
+  counts : length (r .tally .conflicts) ≡ 16
   journals : (u : ℕ) → 1 ≤ u → u ≤ 4 → length (unitAt r u .journal) ≡ 15
 
 for-four : (P : ℕ → Type 0) → P 1 → P 2 → P 3 → P 4 → (u : ℕ) → 1 ≤ u → u ≤ 4 → P u
@@ -82,21 +84,27 @@ shape r h =
     let (h3, j3) = and-true _ (eqb (length (unitAt r 3 .journal)) 15) h4 in
     let (h2, j2) = and-true _ (eqb (length (unitAt r 2 .journal)) 15) h3 in
     let (h1, j1) = and-true _ (eqb (length (unitAt r 1 .journal)) 15) h2 in
-    let (h0, k) = and-true _ (eqb (length (r .held .holder)) 64) h1 in
+    let (i0, n) = and-true _ (eqb (length (r .tally .conflicts)) 16) h1 in
+    let (h0, k) = and-true _ (eqb (length (r .held .holder)) 64) i0 in
     let (q, u) = and-true (eqb (length (r .ring .queue)) 32) (eqb (length (r .held .units)) 4) h0 in
     record {
       queue = eqb-true _ 32 q;
       units = eqb-true _ 4 u;
       holder = eqb-true _ 64 k;
+      counts = eqb-true _ 16 n;
       journals = for-four (λ n. length (unitAt r n .journal) ≡ 15) (eqb-true _ 15 j1) (eqb-true _ 15 j2) (eqb-true _ 15 j3) (eqb-true _ 15 j4);
     }
 
 shape-shaped : (r : Record) → Shape r → shaped r ≡ true
 unfolding shaped
 shape-shaped r s =
-    rw (s .queue, s .units, s .holder, s .journals 1 (omega arith) (omega arith), s .journals 2 (omega arith) (omega arith), s .journals 3 (omega arith) (omega arith), s .journals 4 (omega arith) (omega arith))
+    rw (s .queue, s .units, s .holder, s .counts, s .journals 1 (omega arith) (omega arith), s .journals 2 (omega arith) (omega arith), s .journals 3 (omega arith) (omega arith), s .journals 4 (omega arith) (omega arith))
 
 -- Clauses of a unit.
+pub open-window : (n : ℕ) → not (eqb n 0) ≡ true → 1 ≤ n
+open-window zero h = absurd (false≢true h)
+open-window (suc n) h = omega arith
+
 unit-closed : (o : Bool) (n : ℕ) → o || eqb n 0 ≡ true → o ≡ false → n ≡ 0
 unit-closed true n h e = absurd (true≢false e)
 unit-closed false n h e = eqb-true n 0 h
@@ -111,13 +119,14 @@ unit-right d u l h =
     record {
       places = l;
       room = leb-true (unitOf d u .len) 15 (each-at _ h 0);
-      closed = unit-closed (isOpen (unitOf d u)) (unitOf d u .len) (each-at _ h 1);
-      sound = each-at _ h 2;
+      window = leb-true (unitOf d u .window) 16 (each-at _ h 1);
+      closed = unit-closed (isOpen (unitOf d u)) (unitOf d u .len) (each-at _ h 2);
+      sound = each-at _ h 3;
     }
 
 right-unit : (d : Disk) (u : ℕ) → UnitRight d u → unitSound d u ≡ true
 unfolding unitSound each
-right-unit d u r = rw (le-true (unitOf d u .len) 15 (r .room), closed-unit (isOpen (unitOf d u)) (unitOf d u .len) (r .closed), r .sound)
+right-unit d u r = rw (le-true (unitOf d u .len) 15 (r .room), le-true (unitOf d u .window) 16 (r .window), closed-unit (isOpen (unitOf d u)) (unitOf d u .len) (r .closed), r .sound)
 
 -- Clauses of a block's holder.
 holder-right : (d : Disk) (s : State Content) (b : ℕ) → committed d ≡ s → holderSound d b ≡ true → HolderRight d s b
@@ -148,9 +157,9 @@ units-right d s e h us hs =
       holders = λ b p q. holder-right d s b e (all-from (holderSound d) (λ b. b) 1 64 hs b p (omega arith));
     }
 
-right-shaped : (d : Disk) (s : State Content) → length (d .rec .ring .queue) ≡ 32 → UnitsRight d s → shaped (d .rec) ≡ true
+right-shaped : (d : Disk) (s : State Content) → length (d .rec .ring .queue) ≡ 32 → UnitsRight d s → length (d .rec .tally .conflicts) ≡ 16 → shaped (d .rec) ≡ true
 unfolding unitOf
-right-shaped d s q k = shape-shaped (d .rec) (record { queue = q; units = k .four; holder = k .table; journals = λ u a b. k .units u a b .places })
+right-shaped d s q k n = shape-shaped (d .rec) (record { queue = q; units = k .four; holder = k .table; counts = n; journals = λ u a b. k .units u a b .places })
 
 right-units : (d : Disk) (s : State Content) → UnitsRight d s → all (unitSound d) (from (λ u. u) 1 4) ≡ true
 right-units d s k = from-all (unitSound d) (λ u. u) 1 4 (λ u p q. right-unit d u (k .units u p (omega arith)))
@@ -163,7 +172,7 @@ pub right : (d : Disk) → lengthsRight d ≡ true → recordSound d ≡ true �
 unfolding recordSound
 right d l h =
     let r = d .rec in
-    let (z, e) = some-of (committedReader d) (each-at _ h 8) in
+    let (z, e) = some-of (committedReader d) (each-at _ h 7) in
     record {
       reader = z;
       log = record {
@@ -172,15 +181,15 @@ right d l h =
         places = shape r (each-at _ h 0) .queue;
         room = leb-true (r .ring .len) 32 (each-at _ h 1);
         head = ltb-true (r .ring .head) 32 (each-at _ h 2);
-        lawful = each-at _ h 6;
+        lawful = each-at _ h 5;
         replays = e;
-        stands = each-at _ h 9;
+        stands = each-at _ h 8;
       };
-      units = units-right d (z .state) (committed-is d z e) (each-at _ h 0) (each-at _ h 7) (each-at _ h 10);
+      units = units-right d (z .state) (committed-is d z e) (each-at _ h 0) (each-at _ h 6) (each-at _ h 9);
       journalData = journal-data d l;
       lastBlock = each-at _ h 3;
       lastList = each-at _ h 4;
-      conflicts = leb-true (r .tally .conflicts) 65535 (each-at _ h 5);
+      conflicts = shape r (each-at _ h 0) .counts;
     }
 
 pub right-sound : (d : Disk) → Right d → recordSound d ≡ true
@@ -189,8 +198,8 @@ right-sound d k =
     let r = d .rec in
     let l = k .log in
     let z = k .reader in
-    rw (right-shaped d (z .state) (l .places) (k .units), le-true (r .ring .len) 32 (l .room), lt-true (r .ring .head) 32 (l .head))
-    (rw (k .lastBlock, k .lastList, le-true (r .tally .conflicts) 65535 (k .conflicts))
+    rw (right-shaped d (z .state) (l .places) (k .units) (k .conflicts), le-true (r .ring .len) 32 (l .room), lt-true (r .ring .head) 32 (l .head))
+    (rw (k .lastBlock, k .lastList)
     (rw (l .lawful, right-units d (z .state) (k .units), is-some (committedReader d) z (l .replays), l .stands)
     (rw (right-holders d (z .state) (committed-is d z (l .replays)) (k .units)))))
 

@@ -8,9 +8,9 @@ use lib.ListN.{length, getD}
 use lib.Seq.{ext-getD}
 use Rattle.lists.specs.Basic.{from}
 use Rattle.log.specs.Cell.{Cell, cell}
-use Rattle.disk.specs.Record.{Unit, Record, cellsIn, bytesIn, pairIn, unitIn, recordIn, noCell, unitAt}
+use Rattle.disk.specs.Record.{Unit, Record, cellsIn, bytesIn, pairIn, pairsIn, unitIn, recordIn, noCell, unitAt}
 use Rattle.disk.specs.Statements.{IsBytes, RecordFixed}
-use Rattle.disk.proofs.Bytes.{cell-read, byte-read, unit-read}
+use Rattle.disk.proofs.Bytes.{cell-read, byte-read, pair-read, unit-read}
 
 module _ (bs cs : List ℕ) where
   -- of cells, from byte a on
@@ -40,6 +40,26 @@ module _ (bs cs : List ℕ) where
       let m : i ≡ a + (i - a) = omega arith in
       rw m (sym (byte-read bs a n (i - a) (omega arith)) ∙ ap (λ (x : List ℕ). getD x (i - a) 0) e ∙ byte-read cs a n (i - a) (omega arith))
 
+  -- of numbers in two bytes
+  pairs-fixed : IsBytes bs → IsBytes cs → (a n : ℕ) → pairsIn bs a n ≡ pairsIn cs a n → (i : ℕ) → a ≤ i → i < a + 2 * n → getD bs i 0 ≡ getD cs i 0
+  pairs-fixed x y a n e i p q = go (ℕ-discrete ((i - a) % 2) 0)
+    where
+      same : (k : ℕ) → k < n → pairIn bs (a + 2 * k) ≡ pairIn cs (a + 2 * k)
+      same k l = sym (pair-read bs a n k l) ∙ ap (λ (z : List ℕ). getD z k 0) e ∙ pair-read cs a n k l
+
+      at : (j : ℕ) → i ≡ j → getD bs j 0 ≡ getD cs j 0 → getD bs i 0 ≡ getD cs i 0
+      at j m h = rw m h
+
+      low : (k : ℕ) → k < n → getD bs (a + 2 * k) 0 ≡ getD cs (a + 2 * k) 0
+      low k l = omega (arith, same k l, x (a + 2 * k), y (a + 2 * k))
+
+      high : (k : ℕ) → k < n → getD bs (a + 2 * k + 1) 0 ≡ getD cs (a + 2 * k + 1) 0
+      high k l = omega (arith, same k l, x (a + 2 * k), y (a + 2 * k))
+
+      go : Dec ((i - a) % 2 ≡ 0) → getD bs i 0 ≡ getD cs i 0
+      go (yes m) = at (a + 2 * ((i - a) / 2)) (omega arith) (low ((i - a) / 2) (omega arith))
+      go (no m) = at (a + 2 * ((i - a) / 2) + 1) (omega arith) (high ((i - a) / 2) (omega arith))
+
   module _ (e : recordIn bs ≡ recordIn cs) where
     unit-fixed : (i : ℕ) → i < 4 → unitIn bs i ≡ unitIn cs i
     unit-fixed i l =
@@ -51,50 +71,50 @@ module _ (bs cs : List ℕ) where
     unfolding unitIn
     journals-fixed i p q = cells-fixed (128 + 60 * ((i - 128) / 60)) 15 (ap (λ (u : Unit). u .journal) (unit-fixed ((i - 128) / 60) (omega arith))) i (omega arith) (omega arith)
 
-    opened-fixed : (i : ℕ) → i < 4 → getD bs (368 + i) 0 ≡ getD cs (368 + i) 0
+    window-fixed : (i : ℕ) → i < 4 → getD bs (368 + i) 0 ≡ getD cs (368 + i) 0
     unfolding unitIn
-    opened-fixed i l = ap (λ (u : Unit). u .opened) (unit-fixed i l)
+    window-fixed i l = ap (λ (u : Unit). u .window) (unit-fixed i l)
 
     len-fixed : (i : ℕ) → i < 4 → getD bs (372 + i) 0 ≡ getD cs (372 + i) 0
     unfolding unitIn
     len-fixed i l = ap (λ (u : Unit). u .len) (unit-fixed i l)
 
     -- the numbers behind the holders
-    numbers-fixed : IsBytes bs → IsBytes cs → (k : ℕ) → k < 8 → getD bs (440 + k) 0 ≡ getD cs (440 + k) 0
+    numbers-fixed : IsBytes bs → IsBytes cs → (k : ℕ) → k < 6 → getD bs (440 + k) 0 ≡ getD cs (440 + k) 0
     unfolding recordIn
     numbers-fixed x y k l = go k l
       where
         done : pairIn bs 442 ≡ pairIn cs 442
         done = ap (λ (r : Record). r .ring .done) e
 
-        conflicts : pairIn bs 446 ≡ pairIn cs 446
-        conflicts = ap (λ (r : Record). r .tally .conflicts) e
-
-        go : (k : ℕ) → k < 8 → getD bs (440 + k) 0 ≡ getD cs (440 + k) 0
+        go : (k : ℕ) → k < 6 → getD bs (440 + k) 0 ≡ getD cs (440 + k) 0
         go zero h = ap (λ (r : Record). r .ring .head) e
         go (suc zero) h = ap (λ (r : Record). r .ring .len) e
         go (suc (suc zero)) h = omega (arith, done, x 442, y 442)
         go (suc (suc (suc zero))) h = omega (arith, done, x 442, y 442)
         go (suc (suc (suc (suc zero)))) h = ap (λ (r : Record). r .tally .lastBlock) e
         go (suc (suc (suc (suc (suc zero))))) h = ap (λ (r : Record). r .tally .lastList) e
-        go (suc (suc (suc (suc (suc (suc zero)))))) h = omega (arith, conflicts, x 446, y 446)
-        go (suc (suc (suc (suc (suc (suc (suc zero))))))) h = omega (arith, conflicts, x 446, y 446)
-        go (suc (suc (suc (suc (suc (suc (suc (suc k)))))))) h = absurd (omega arith)
+        go (suc (suc (suc (suc (suc (suc k)))))) h = absurd (omega arith)
 
-    byte-fixed : IsBytes bs → IsBytes cs → (i : ℕ) → i < 448 → getD bs i 0 ≡ getD cs i 0
+    counts-fixed : IsBytes bs → IsBytes cs → (i : ℕ) → 446 ≤ i → i < 478 → getD bs i 0 ≡ getD cs i 0
     unfolding recordIn
-    byte-fixed x y i l = go (decLt i 128) (decLt i 368) (decLt i 372) (decLt i 376) (decLt i 440)
+    counts-fixed x y i p q = pairs-fixed x y 446 16 (ap (λ (r : Record). r .tally .conflicts) e) i p (omega arith)
+
+    byte-fixed : IsBytes bs → IsBytes cs → (i : ℕ) → i < 478 → getD bs i 0 ≡ getD cs i 0
+    unfolding recordIn
+    byte-fixed x y i l = go (decLt i 128) (decLt i 368) (decLt i 372) (decLt i 376) (decLt i 440) (decLt i 446)
       where
         at : (j : ℕ) → i ≡ j → getD bs j 0 ≡ getD cs j 0 → getD bs i 0 ≡ getD cs i 0
         at j m h = rw m h
 
-        go : Dec (i < 128) → Dec (i < 368) → Dec (i < 372) → Dec (i < 376) → Dec (i < 440) → getD bs i 0 ≡ getD cs i 0
-        go (yes p) q r s t = cells-fixed 0 32 (ap (λ (r : Record). r .ring .queue) e) i (omega arith) (omega arith)
-        go (no p) (yes q) r s t = journals-fixed i (omega arith) q
-        go (no p) (no q) (yes r) s t = at (368 + (i - 368)) (omega arith) (opened-fixed (i - 368) (omega arith))
-        go (no p) (no q) (no r) (yes s) t = at (372 + (i - 372)) (omega arith) (len-fixed (i - 372) (omega arith))
-        go (no p) (no q) (no r) (no s) (yes t) = bytes-fixed 376 64 (ap (λ (r : Record). r .held .holder) e) i (omega arith) (omega arith)
-        go (no p) (no q) (no r) (no s) (no t) = at (440 + (i - 440)) (omega arith) (numbers-fixed x y (i - 440) (omega arith))
+        go : Dec (i < 128) → Dec (i < 368) → Dec (i < 372) → Dec (i < 376) → Dec (i < 440) → Dec (i < 446) → getD bs i 0 ≡ getD cs i 0
+        go (yes p) q r s t u = cells-fixed 0 32 (ap (λ (r : Record). r .ring .queue) e) i (omega arith) (omega arith)
+        go (no p) (yes q) r s t u = journals-fixed i (omega arith) q
+        go (no p) (no q) (yes r) s t u = at (368 + (i - 368)) (omega arith) (window-fixed (i - 368) (omega arith))
+        go (no p) (no q) (no r) (yes s) t u = at (372 + (i - 372)) (omega arith) (len-fixed (i - 372) (omega arith))
+        go (no p) (no q) (no r) (no s) (yes t) u = bytes-fixed 376 64 (ap (λ (r : Record). r .held .holder) e) i (omega arith) (omega arith)
+        go (no p) (no q) (no r) (no s) (no t) (yes u) = at (440 + (i - 440)) (omega arith) (numbers-fixed x y (i - 440) (omega arith))
+        go (no p) (no q) (no r) (no s) (no t) (no u) = counts-fixed x y i (omega arith) l
 
 pub record-fixed : RecordFixed
 record-fixed bs cs l m x y e = ext-getD 0 bs cs (l ∙ sym m) (λ i h. byte-fixed bs cs e x y i (rw l at h))

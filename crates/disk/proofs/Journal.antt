@@ -35,9 +35,9 @@ pub unit-added : (u : ℕ) (c : Change Content) (d : Disk) → 1 ≤ u → u ≤
 unfolding unitOf journalAdd
 unit-added u c d p q n = getD-set-same (d .rec .held .units) (u - 1) _ noUnit (omega arith)
 
-pub unit-opening : (u : ℕ) (d : Disk) → 1 ≤ u → u ≤ 4 → length (d .rec .held .units) ≡ 4 → unitOf (opening u d) u ≡ emptied 1 (unitOf d u)
+pub unit-opening : (u w : ℕ) (d : Disk) → 1 ≤ u → u ≤ 4 → length (d .rec .held .units) ≡ 4 → unitOf (opening u w d) u ≡ emptied w (unitOf d u)
 unfolding unitOf opening
-unit-opening u d p q n = getD-set-same (d .rec .held .units) (u - 1) _ noUnit (omega arith)
+unit-opening u w d p q n = getD-set-same (d .rec .held .units) (u - 1) _ noUnit (omega arith)
 
 pub unit-closing : (u : ℕ) (d : Disk) → 1 ≤ u → u ≤ 4 → length (d .rec .held .units) ≡ 4 → unitOf (closing u d) u ≡ emptied 0 (unitOf d u)
 unfolding unitOf closing
@@ -51,9 +51,9 @@ module _ (u v : ℕ) (p : 1 ≤ u) (q : 1 ≤ v) (n : u ≢ v) where
   unfolding unitOf journalAdd
   unit-added-other c d = unit-other (d .rec .held .units) _
 
-  pub unit-opening-other : (d : Disk) → unitOf (opening u d) v ≡ unitOf d v
+  pub unit-opening-other : (w : ℕ) (d : Disk) → unitOf (opening u w d) v ≡ unitOf d v
   unfolding unitOf opening
-  unit-opening-other d = unit-other (d .rec .held .units) _
+  unit-opening-other w d = unit-other (d .rec .held .units) _
 
   pub unit-closing-other : (d : Disk) → unitOf (closing u d) v ≡ unitOf d v
   unfolding unitOf closing
@@ -139,17 +139,17 @@ pub journal-closing-other : (u v : ℕ) (d : Disk) → 1 ≤ u → 1 ≤ v → u
 unfolding closing
 journal-closing-other u v d p q n = journal-same d (closing u d) v refl (unit-closing-other u v p q n d)
 
-opening-len : (u v : ℕ) (d : Disk) → v - 1 ≡ u - 1 → unitOf (opening u d) v .len ≡ 0
+opening-len : (u v w : ℕ) (d : Disk) → v - 1 ≡ u - 1 → unitOf (opening u w d) v .len ≡ 0
 unfolding unitOf opening
-opening-len u v d e = rw e (empty-set (d .rec .held .units) (u - 1) _ refl)
+opening-len u v w d e = rw e (empty-set (d .rec .held .units) (u - 1) _ refl)
 
-pub journal-opening : (u v : ℕ) (d : Disk) → unitOf d u .len ≡ 0 → journalOf (opening u d) v ≡ journalOf d v
+pub journal-opening : (u v w : ℕ) (d : Disk) → unitOf d u .len ≡ 0 → journalOf (opening u w d) v ≡ journalOf d v
 unfolding unitOf opening
-journal-opening u v d h = go (ℕ-discrete (v - 1) (u - 1))
+journal-opening u v w d h = go (ℕ-discrete (v - 1) (u - 1))
   where
-    go : Dec (v - 1 ≡ u - 1) → journalOf (opening u d) v ≡ journalOf d v
-    go (yes e) = journal-none (opening u d) v (opening-len u v d e) ∙ sym (journal-none d v (rw e h))
-    go (no e) = journal-same d (opening u d) v refl (getD-set-other (d .rec .held .units) (u - 1) (v - 1) _ noUnit e)
+    go : Dec (v - 1 ≡ u - 1) → journalOf (opening u w d) v ≡ journalOf d v
+    go (yes e) = journal-none (opening u w d) v (opening-len u v w d e) ∙ sym (journal-none d v (rw e h))
+    go (no e) = journal-same d (opening u w d) v refl (getD-set-other (d .rec .held .units) (u - 1) (v - 1) _ noUnit e)
 
 -- The entries that a unit's end queues, and their data.
 pub unit-entries : (cs : List (Change Content)) → length (unitEntries cs) ≡ suc (length cs)
@@ -189,9 +189,9 @@ pub journal-gaveList : (l : ℕ) (d : Disk) (u : ℕ) → journalOf (gaveList l 
 unfolding gaveList
 journal-gaveList l d u = journal-same d (gaveList l d) u refl (unit-same d (gaveList l d) u refl)
 
-pub journal-conflicted : (d : Disk) (u : ℕ) → journalOf (conflicted d) u ≡ journalOf d u
+pub journal-conflicted : (w : ℕ) (d : Disk) (u : ℕ) → journalOf (conflicted w d) u ≡ journalOf d u
 unfolding conflicted
-journal-conflicted d u = journal-same d (conflicted d) u refl (unit-same d (conflicted d) u refl)
+journal-conflicted w d u = journal-same d (conflicted w d) u refl (unit-same d (conflicted w d) u refl)
 
 pub journal-flushed : (d : Disk) (f : Flow) (u : ℕ) → journalOf (afterFlush d f) u ≡ journalOf d u
 unfolding afterFlush

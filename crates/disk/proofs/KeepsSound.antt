@@ -8,7 +8,7 @@ use mathlib.Core.List.{List, [], _∷_}
 use Prim.Native.Nat.{ℕ, zero, suc, _+_, _-_, _*_, _≤_, _<_}
 use native.Mathlib.Omega.{arith}
 use lib.Dec.{leb, eqb, eqb·suc-zero}
-use lib.ListN.{length, length-replicate, getD-replicate}
+use lib.ListN.{length, length-set, length-replicate, getD-replicate}
 use lib.Seq.{take-all}
 use Rattle.lists.specs.Basic.{all, joined}
 use Rattle.lists.specs.Change.{Change, takeList, putFirst, putAfter, write, delBlock, delList, mapChange, carriedBy}
@@ -66,24 +66,24 @@ gave-list l d h k = record {
   conflicts = k .conflicts;
 }
 
-conflicted-right : (d : Disk) → Right d → Right (conflicted d)
+conflicted-right : (w : ℕ) (d : Disk) → Right d → Right (conflicted w d)
 unfolding conflicted
-conflicted-right d k = record {
+conflicted-right w d k = record {
   reader = k .reader;
-  log = log-same d (conflicted d) (k .reader) refl refl refl refl refl refl (k .log);
-  units = units-same d (conflicted d) (k .reader .state) refl refl refl (k .units);
+  log = log-same d (conflicted w d) (k .reader) refl refl refl refl refl refl (k .log);
+  units = units-same d (conflicted w d) (k .reader .state) refl refl refl (k .units);
   journalData = k .journalData;
   lastBlock = k .lastBlock;
   lastList = k .lastList;
-  conflicts = omega arith;
+  conflicts = length-set (d .rec .tally .conflicts) (w - 1) _ ∙ k .conflicts;
 }
 
-opening-right : (u : ℕ) (d : Disk) → 1 ≤ u → u ≤ 4 → isOpen (unitOf d u) ≡ false → Right d → Right (opening u d)
+opening-right : (u w : ℕ) (d : Disk) → 1 ≤ u → u ≤ 4 → 1 ≤ w → w ≤ 16 → isOpen (unitOf d u) ≡ false → Right d → Right (opening u w d)
 unfolding opening
-opening-right u d p q c k = record {
+opening-right u w d p q x y c k = record {
   reader = k .reader;
-  log = log-same d (opening u d) (k .reader) refl refl refl refl refl refl (k .log);
-  units = opening-units u d (k .reader .state) p q (k .units) c;
+  log = log-same d (opening u w d) (k .reader) refl refl refl refl refl refl (k .log);
+  units = opening-units u w d (k .reader .state) p q x y (k .units) c;
   journalData = k .journalData;
   lastBlock = k .lastBlock;
   lastList = k .lastList;
@@ -274,12 +274,13 @@ edit-right s e d h =
     let y = yes-all (onStream s e) d h in
     made-right s (changeFor e (numberGiven e d)) d (y 2) (edit-makes s e d h) (right d (y 0) (y 1))
 
-pub begin-right : (u : ℕ) (d : Disk) → refusal (begin u) d ≡ 0 → Right (accepted (begin u) d .disk)
+pub begin-right : (u w : ℕ) (d : Disk) → refusal (begin u w) d ≡ 0 → Right (accepted (begin u w) d .disk)
 unfolding questions accepted
-begin-right u d h =
-    let y = yes-all (begin u) d h in
+begin-right u w d h =
+    let y = yes-all (begin u w) d h in
     let (a, b) = and-true (leb 1 u) (leb u 4) (y 2) in
-    opening-right u d (leb-true 1 u a) (leb-true u 4 b) (not-false (isOpen (unitOf d u)) (y 3)) (right d (y 0) (y 1))
+    let (m, n) = and-true (leb 1 w) (leb w 16) (y 3) in
+    opening-right u w d (leb-true 1 u a) (leb-true u 4 b) (leb-true 1 w m) (leb-true w 16 n) (not-false (isOpen (unitOf d u)) (y 4)) (right d (y 0) (y 1))
 
 -- Refusal 12.
 pub conflict-right : (u : ℕ) (d : Disk) → refusal (end u) d ≡ 12 → Right (refused (end u) 12 d)
@@ -287,7 +288,7 @@ unfolding refusal questions refused ends
 conflict-right u d h =
     let y = past 3 (questions (end u) d) 12 (omega arith) h in
     let (p, q, _) = unit-range d u (y 2 (omega arith)) in
-    conflicted-right (closing u d) (closing-right u d p q (right d (y 0 (omega arith)) (y 1 (omega arith))))
+    conflicted-right (unitOf d u .window) (closing u d) (closing-right u d p q (right d (y 0 (omega arith)) (y 1 (omega arith))))
 
 -- End: the unit closes first, and then its journal and the commit join the queue.
 closing-enqueue : (u : ℕ) (e : Entry Content) (d : Disk) → closing u (enqueue e d) ≡ enqueue e (closing u d)
@@ -340,7 +341,7 @@ module _ (d : Disk) (r : d .rec ≡ freshRecord) where
   fresh-units s = record {
     four = rw r;
     table = rw r;
-    units = λ u p q. let e = fresh-unit u p q in record { places = rw e; room = rw e (omega arith); closed = λ h. rw e; sound = rw (fresh-journal d r u) };
+    units = λ u p q. let e = fresh-unit u p q in record { places = rw e; room = rw e (omega arith); window = rw e (omega arith); closed = λ h. rw e; sound = rw (fresh-journal d r u) };
     holders = λ b p q. inl (rw r (getD-same 64 (b - 1) 0));
   }
 
@@ -363,7 +364,7 @@ module _ (d : Disk) (r : d .rec ≡ freshRecord) where
     journalData = j;
     lastBlock = rw r;
     lastList = rw r;
-    conflicts = rw r (omega arith);
+    conflicts = rw r;
   }
 
 pub mount-right : (d : Disk) → refusal mount d ≡ 0 → Right (accepted mount d .disk)

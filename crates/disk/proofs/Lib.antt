@@ -29,3 +29,5 @@ pub mod Contents
 pub mod Kept
 pub mod Ranges
 pub mod Page
+pub mod Counting
+pub mod Windows

@@ -46,10 +46,10 @@ pub questions-rise : (c : Call) (d : Disk) → rising 0 (questions c d) ≡ true
 unfolding rising questions
 questions-rise format d = refl
 questions-rise mount d = refl
-questions-rise conflictCount d = refl
+questions-rise (conflictCount w) d = refl
 questions-rise (onStream s e) d = edit-behind s e d .rises
 questions-rise (inView v k) d = look-behind k (view d v .lists) .rises
-questions-rise (begin u) d = refl
+questions-rise (begin u w) d = refl
 questions-rise (end u) d = refl
 questions-rise (flush a) d = refl
 

@@ -24,10 +24,10 @@ pub accepted-code : (c : Call) (d : Disk) → accepted c d .answer .code ≡ 0
 unfolding accepted
 accepted-code format d = refl
 accepted-code mount d = refl
-accepted-code conflictCount d = refl
+accepted-code (conflictCount w) d = refl
 accepted-code (onStream s e) d = refl
 accepted-code (inView v k) d = refl
-accepted-code (begin u) d = refl
+accepted-code (begin u w) d = refl
 accepted-code (end u) d = refl
 accepted-code (flush a) d = refl
 

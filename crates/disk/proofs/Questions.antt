@@ -77,10 +77,10 @@ asks-twelve : (c : Call) (d : Disk) → asks 12 (questions c d) ≡ true → (u 
 unfolding questions
 asks-twelve format d k = absurd (false≢true k)
 asks-twelve mount d k = absurd (false≢true k)
-asks-twelve conflictCount d k = absurd (false≢true k)
+asks-twelve (conflictCount w) d k = absurd (false≢true k)
 asks-twelve (onStream s e) d k = absurd (false≢true (sym (edit-behind s e d .ends-none) ∙ k))
 asks-twelve (inView v l) d k = absurd (false≢true (sym (look-behind l (view d v .lists) .ends-none) ∙ k))
-asks-twelve (begin u) d k = absurd (false≢true k)
+asks-twelve (begin u w) d k = absurd (false≢true k)
 asks-twelve (end u) d k = (u, refl)
 asks-twelve (flush a) d k = absurd (false≢true k)
 

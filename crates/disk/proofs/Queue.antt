@@ -274,17 +274,17 @@ pub queued-gaveList : (l : ℕ) (d : Disk) → queued (gaveList l d) ≡ queued 
 unfolding gaveList
 queued-gaveList l d = queued-same d (gaveList l d) refl refl refl refl
 
-pub queued-opening : (u : ℕ) (d : Disk) → queued (opening u d) ≡ queued d
+pub queued-opening : (u w : ℕ) (d : Disk) → queued (opening u w d) ≡ queued d
 unfolding opening
-queued-opening u d = queued-same d (opening u d) refl refl refl refl
+queued-opening u w d = queued-same d (opening u w d) refl refl refl refl
 
 pub queued-closing : (u : ℕ) (d : Disk) → queued (closing u d) ≡ queued d
 unfolding closing
 queued-closing u d = queued-same d (closing u d) refl refl refl refl
 
-pub queued-conflicted : (d : Disk) → queued (conflicted d) ≡ queued d
+pub queued-conflicted : (w : ℕ) (d : Disk) → queued (conflicted w d) ≡ queued d
 unfolding conflicted
-queued-conflicted d = queued-same d (conflicted d) refl refl refl refl
+queued-conflicted w d = queued-same d (conflicted w d) refl refl refl refl
 
 -- The log followed by the queue, of two disks with the same of both.
 pub reader-same : (d e : Disk) → e .card ≡ d .card → queued e ≡ queued d → committedReader e ≡ committedReader d

@@ -34,10 +34,10 @@ accepted-right : (c : Call) (d : Disk) → refusal c d ≡ 0 → Right (accepted
 unfolding questions accepted
 accepted-right format d h = format-right d h
 accepted-right mount d h = mount-right d h
-accepted-right conflictCount d h = looked conflictCount d h refl refl
+accepted-right (conflictCount w) d h = looked (conflictCount w) d h refl refl
 accepted-right (onStream s e) d h = edit-right s e d h
 accepted-right (inView v k) d h = looked (inView v k) d h refl refl
-accepted-right (begin u) d h = begin-right u d h
+accepted-right (begin u w) d h = begin-right u w d h
 accepted-right (end u) d h = end-right u d h
 accepted-right (flush a) d h = flush-right a d h
 
@@ -96,10 +96,10 @@ questions-late : (c : Call) (d : Disk) → lengthsRight d ≡ true → recordSou
 unfolding questions all late
 questions-late format d l s m = rw l
 questions-late mount d l s m = rw (l, m)
-questions-late conflictCount d l s m = rw (l, s)
+questions-late (conflictCount w) d l s m = rw (l, s)
 questions-late (onStream t e) d l s m = rw (l, s) (behind-late (edit-behind t e d))
 questions-late (inView v k) d l s m = rw (l, s) (behind-late (look-behind k (view d v .lists)))
-questions-late (begin u) d l s m = rw (l, s)
+questions-late (begin u w) d l s m = rw (l, s)
 questions-late (end u) d l s m = rw (l, s)
 questions-late (flush a) d l s m = rw (l, s)
 

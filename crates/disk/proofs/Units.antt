@@ -2,7 +2,7 @@
 -- that places no held block.
 use mathlib.Core.Path.{_≡_, refl, sym, ap, _∙_, subst}
 use mathlib.Core.Logic.{inl, inr}
-use mathlib.Core.Bool.{true, false, true≢false}
+use mathlib.Core.Bool.{true, false, not, true≢false}
 use mathlib.Core.List.{List, [], _∷_}
 use Prim.Native.Nat.{ℕ, suc, _-_, _≤_, _<_}
 use native.Mathlib.Omega.{arith}
@@ -13,7 +13,7 @@ use lib.Seq.{getD-set-other}
 use Rattle.lists.specs.Basic.{all}
 use Rattle.lists.specs.Change.{Change, carriedBy}
 use Rattle.lists.specs.State.{State, placed}
-use Rattle.lists.proofs.Basic.{le-true, eq-true, all-append}
+use Rattle.lists.proofs.Basic.{le-true, eq-true, all-append, eqb-false}
 use Rattle.lists.proofs.Count.{puts}
 use Rattle.log.specs.Entry.{plain, member, raw, legal}
 use Rattle.log.specs.Cell.{cellOf}
@@ -42,6 +42,7 @@ unit-kept : (d e : Disk) (u : ℕ) → unitOf e u ≡ unitOf d u → journalOf e
 unit-kept d e u x j f k = record {
   places = rw x (k .places);
   room = rw x (k .room);
+  window = rw x (k .window);
   closed = rw x (k .closed);
   sound = rw j (journals-more (d .rec) (e .rec) u (journalOf d u) f (k .sound));
 }
@@ -149,6 +150,7 @@ module _ (u : ℕ) (c : Change Content) (d : Disk) (s : State Content) (o : isOp
           record {
             places = rw e (length-set (unitOf d u .journal) (unitOf d u .len) _ ∙ x .places);
             room = rw e (omega arith);
+            window = rw e (x .window);
             closed = λ h. absurd (true≢false (sym (unit-range d u o .2) ∙ sym (ap (λ (y : Unit). isOpen y) e) ∙ h));
             sound = rw (journal-add u c d p q l m z (k .four) (x .places))
                 (all-append (journalSound (added .rec) u) (journalOf d u) (c ∷ []) (journals-more (d .rec) (added .rec) u (journalOf d u) (λ b h. holder b ∙ h) (x .sound)) (rw added-sound));
@@ -159,10 +161,10 @@ module _ (u : ℕ) (c : Change Content) (d : Disk) (s : State Content) (o : isOp
       unit v a b (no n) =
           unit-kept d added v (unit-added-other u v p a n c d) (journal-other u c d p q l m z v a b n (k .units v a b .room)) (λ x h. holder x ∙ h) (k .units v a b)
 
--- A closed unit opens.
-module _ (u : ℕ) (d : Disk) (s : State Content) (p : 1 ≤ u) (q : u ≤ 4) (k : UnitsRight d s) where
+-- A closed unit opens, for a window.
+module _ (u w : ℕ) (d : Disk) (s : State Content) (p : 1 ≤ u) (q : u ≤ 4) (m : 1 ≤ w) (n : w ≤ 16) (k : UnitsRight d s) where
   abbrev begun : Disk
-  begun = opening u d
+  begun = opening u w d
 
   begun-four : length (begun .rec .held .units) ≡ 4
   unfolding opening
@@ -172,13 +174,13 @@ module _ (u : ℕ) (d : Disk) (s : State Content) (p : 1 ≤ u) (q : u ≤ 4) (k
   unfolding opening
   begun-holder = refl
 
-  begun-unit : unitOf begun u ≡ emptied 1 (unitOf d u)
-  begun-unit = unit-opening u d p q (k .four)
+  begun-unit : unitOf begun u ≡ emptied w (unitOf d u)
+  begun-unit = unit-opening u w d p q (k .four)
 
   begun-open : isOpen (unitOf begun u) ≡ true
-  begun-open = ap (λ (x : Unit). isOpen x) begun-unit
+  begun-open = ap (λ (x : Unit). isOpen x) begun-unit ∙ ap not (eqb-false w 0 (λ z. omega arith))
 
-  pub opening-units : isOpen (unitOf d u) ≡ false → UnitsRight (opening u d) s
+  pub opening-units : isOpen (unitOf d u) ≡ false → UnitsRight (opening u w d) s
   opening-units c = record {
     four = begun-four;
     table = rw begun-holder (k .table);
@@ -191,7 +193,7 @@ module _ (u : ℕ) (d : Disk) (s : State Content) (p : 1 ≤ u) (q : u ≤ 4) (k
 
       still : (v : ℕ) → 1 ≤ v → isOpen (unitOf d v) ≡ true → Dec (u ≡ v) → isOpen (unitOf begun v) ≡ true
       still v a h (yes n) = rw (← n) begun-open
-      still v a h (no n) = ap (λ (x : Unit). isOpen x) (unit-opening-other u v p a n d) ∙ h
+      still v a h (no n) = ap (λ (x : Unit). isOpen x) (unit-opening-other u v p a n w d) ∙ h
 
       own : UnitRight begun u
       own =
@@ -199,16 +201,18 @@ module _ (u : ℕ) (d : Disk) (s : State Content) (p : 1 ≤ u) (q : u ≤ 4) (k
           record {
             places = rw begun-unit (x .places);
             room = rw begun-unit (omega arith);
+            window = rw begun-unit n;
             closed = λ h. absurd (true≢false (sym begun-open ∙ h));
-            sound = rw (journal-opening u u d (x .closed c)) (journals-more (d .rec) (begun .rec) u (journalOf d u) (λ b h. holder b ∙ h) (x .sound));
+            sound = rw (journal-opening u u w d (x .closed c)) (journals-more (d .rec) (begun .rec) u (journalOf d u) (λ b h. holder b ∙ h) (x .sound));
           }
 
       unit : (v : ℕ) → 1 ≤ v → v ≤ 4 → Dec (u ≡ v) → UnitRight begun v
       unit v a b (yes n) = subst (UnitRight begun) n own
       unit v a b (no n) =
-          unit-kept d begun v (unit-opening-other u v p a n d) (journal-opening u v d (k .units u p q .closed c)) (λ x h. holder x ∙ h) (k .units v a b)
+          unit-kept d begun v (unit-opening-other u v p a n w d) (journal-opening u v w d (k .units u p q .closed c)) (λ x h. holder x ∙ h) (k .units v a b)
 
-  -- A unit closes, and gives up what it holds.
+-- A unit closes, and gives up what it holds.
+module _ (u : ℕ) (d : Disk) (s : State Content) (p : 1 ≤ u) (q : u ≤ 4) (k : UnitsRight d s) where
   abbrev ended : Disk
   ended = closing u d
 
@@ -236,6 +240,7 @@ module _ (u : ℕ) (d : Disk) (s : State Content) (p : 1 ≤ u) (q : u ≤ 4) (k
       own = record {
         places = rw ended-unit (k .units u p q .places);
         room = rw ended-unit (omega arith);
+        window = rw ended-unit (omega arith);
         closed = λ h. ap (λ (x : Unit). x .len) ended-unit;
         sound = rw (journal-closing u d);
       }

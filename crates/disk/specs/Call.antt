@@ -1,5 +1,5 @@
 -- The calls and the look-ups, with their arguments: what changes comes on a stream, what is looked up in a view. S is a stream, V a view, B a block,
--- L a list, P a predecessor, U a unit.
+-- L a list, P a predecessor, U a unit, W a window.
 use mathlib.Core.Bool.{Bool, true, false}
 use mathlib.Core.Option.{Option, none, some}
 use mathlib.Core.List.{List, []}
@@ -22,10 +22,11 @@ pub data Look : Type 0 where
 
 -- "formatting, mounting, the nine calls [..], three look-ups", and the printed page
 pub data Call : Type 0 where
-  format mount conflictCount : Call
+  format mount : Call
+  conflictCount : ℕ → Call  -- W
   onStream : ℕ → Edit → Call  -- S
   inView : ℕ → Look → Call  -- V
-  begin : ℕ → Call  -- U
+  begin : ℕ → ℕ → Call  -- U W
   end : ℕ → Call  -- U
   flush : ℕ → Call  -- the allowance
 
@@ -33,10 +34,10 @@ pub data Call : Type 0 where
 unfoldable pub ends : Call → Option ℕ
 ends format = none
 ends mount = none
-ends conflictCount = none
+ends (conflictCount w) = none
 ends (onStream s e) = none
 ends (inView v k) = none
-ends (begin u) = none
+ends (begin u w) = none
 ends (end u) = some u
 ends (flush a) = none
 
@@ -50,10 +51,10 @@ lentTo (page x) = x
 unfoldable pub destination : Call → List ℕ
 destination format = []
 destination mount = []
-destination conflictCount = []
+destination (conflictCount w) = []
 destination (onStream s e) = []
 destination (inView v k) = lentTo k
-destination (begin u) = []
+destination (begin u w) = []
 destination (end u) = []
 destination (flush a) = []
 
@@ -61,9 +62,9 @@ destination (flush a) = []
 unfoldable pub resets : Call → Bool
 resets format = true
 resets mount = true
-resets conflictCount = false
+resets (conflictCount w) = false
 resets (onStream s e) = false
 resets (inView v k) = false
-resets (begin u) = false
+resets (begin u w) = false
 resets (end u) = false
 resets (flush a) = false

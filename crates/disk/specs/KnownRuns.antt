@@ -93,14 +93,14 @@ unfoldable pub stored : Disk
 stored = perform (flush 267) written .disk
 
 unfoldable pub unitOpen : Disk
-unitOpen = performAll (begin 1 ∷ onStream 1 (newBlock 1 1) ∷ onStream 1 (writeBlock 2 ascending) ∷ []) stored
+unitOpen = performAll (begin 1 1 ∷ onStream 1 (newBlock 1 1) ∷ onStream 1 (writeBlock 2 ascending) ∷ []) stored
 
 unfoldable pub unitEnded : Disk
 unitEnded = perform (end 1) unitOpen .disk
 
 -- "then unit 1: NewBlock after 1 gives 2, Write to 2, End"
 abbrev unit : List Step
-unit = accepts (begin 1) ∷ gives (onStream 1 (newBlock 1 1)) 2 ∷ accepts (onStream 1 (writeBlock 2 ascending)) ∷ accepts (end 1) ∷ []
+unit = accepts (begin 1 1) ∷ gives (onStream 1 (newBlock 1 1)) 2 ∷ accepts (onStream 1 (writeBlock 2 ascending)) ∷ accepts (end 1) ∷ []
 
 unfoldable pub runs : List Run
 runs =
@@ -122,10 +122,14 @@ runs =
     ∷ run unitOpen (gives (inView 0 (blockAfter 1 1)) 0 ∷ [])
     -- P "view 1 has 2"
     ∷ run unitOpen (gives (inView 1 (blockAfter 1 1)) 2 ∷ [])
-    -- P "unit 2 writes block 1, stream 0 deletes it, End 2: refused 12"; the unit is then closed, and the conflict counted
-    ∷ run stored (accepts (begin 2) ∷ accepts (onStream 2 (writeBlock 1 ascending)) ∷ accepts (onStream 0 (deleteBlock 1)) ∷ refuses (end 2) 12 ∷ refuses (end 2) 4 ∷ gives conflictCount 1 ∷ [])
+    -- P "unit 2 writes block 1, stream 0 deletes it, End 2: refused 12"; the unit is then closed, and the conflict counted for its window
+    ∷ run stored (
+    accepts (begin 2 7) ∷ accepts (onStream 2 (writeBlock 1 ascending)) ∷ accepts (begin 3 8) ∷ accepts (onStream 0 (deleteBlock 1))
+    ∷ refuses (end 2) 12 ∷ refuses (end 2) 4 ∷ gives (conflictCount 7) 1 ∷ gives (conflictCount 8) 0 ∷ accepts mount ∷ gives (conflictCount 7) 0 ∷ [])
+    -- "A window outside 1 to 16 is refused 5.": before question 6, behind question 4
+    ∷ run stored (refuses (conflictCount 17) 5 ∷ refuses (begin 5 0) 4 ∷ accepts (begin 1 16) ∷ refuses (begin 1 0) 5 ∷ refuses (begin 1 1) 6 ∷ [])
     -- P "an empty unit's End queues 16 0"
-    ∷ run stored (accepts (begin 1) ∷ accepts (end 1) ∷ queue (16 ∷ 0 ∷ []) ∷ [])
+    ∷ run stored (accepts (begin 1 1) ∷ accepts (end 1) ∷ queue (16 ∷ 0 ∷ []) ∷ [])
     ∷ []
 
 -- each step of each run comes out as it must

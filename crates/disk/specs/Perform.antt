@@ -15,7 +15,7 @@ use Rattle.log.specs.Card.{Content, slotBytes, segmentsIn, Outcome, sound, faul
 use Rattle.log.specs.Store.{doStores, formatStores, tail}
 use Rattle.log.specs.Flush.{Flow, Flushed, Ending, drained, full, spent, flushFrom}
 use Rattle.listing.specs.Page.{pageText}
-use Rattle.disk.specs.Record.{ringPlace, withFlow, withLastBlock, withLastList, appended, journalGrown, unitTurned, holding, releasing, conflictCounted, freshRecord, queuePlaces}
+use Rattle.disk.specs.Record.{ringPlace, withFlow, withLastBlock, withLastList, appended, journalGrown, unitTurned, holding, releasing, conflictCounted, countOf, freshRecord, queuePlaces}
 use Rattle.disk.specs.Disk.{Disk, withRecord, unitOf, journalPlace, journalOf, queued, view}
 use Rattle.disk.specs.Call.{Edit, newList, newBlock, writeBlock, deleteBlock, deleteList, Look, readBlock, blockAfter, inventory, page, Call, format, mount, conflictCount, onStream, inView, begin, end, flush, ends, destination}
 use Rattle.disk.specs.Questions.{freeBlock, freeList, refusal}
@@ -123,16 +123,16 @@ found (inventory x) s = let ls = listNums (s .lists) in (length ls, ls ++ drop (
 -- "The text goes into a lent buffer, its length is returned, and bytes after it don't change."
 found (page x) s = let text = pageText (s .lists) in (length text, text ++ drop (length text) x)
 
-unfoldable pub opening : ℕ → Disk → Disk
-opening u d = withRecord d (unitTurned 1 u (d .rec))
+unfoldable pub opening : ℕ → ℕ → Disk → Disk
+opening u w d = withRecord d (unitTurned w u (d .rec))
 
 -- "the unit closes, its journal goes, its held numbers are released"
 unfoldable pub closing : ℕ → Disk → Disk
 closing u d = withRecord d (releasing u (unitTurned 0 u (d .rec)))
 
--- "the conflict count (one for all, stops at 65,535 [..]) rises"
-unfoldable pub conflicted : Disk → Disk
-conflicted d = withRecord d (conflictCounted (d .rec))
+-- "An End refused 12 raises the count of the window its unit's Begin named and no other"
+unfoldable pub conflicted : ℕ → Disk → Disk
+conflicted w d = withRecord d (conflictCounted w (d .rec))
 
 -- "End queues the journal as members, then a commit"
 unfoldable pub unitEntries : List (Change Content) → List (Entry Content)
@@ -173,16 +173,16 @@ reply d n m x = record { disk = d; answer = record { code = 0; value = n; second
 unfoldable pub accepted : Call → Disk → Result
 accepted format d = reply (record { card = formatted (segmentsIn (d .card)) (d .card); queueData = d .queueData; journalData = d .journalData; rec = freshRecord }) 0 0 []
 accepted mount d = reply (withRecord d freshRecord) 0 0 []
-accepted conflictCount d = reply d (d .rec .tally .conflicts) 0 []
+accepted (conflictCount w) d = reply d (countOf (d .rec) w) 0 []
 accepted (onStream s e) d = let n = numberGiven e d in reply (made s (changeFor e n) d) n 0 []
 accepted (inView v k) d = let f = found k (view d v) in reply d (f .0) 0 (f .1)
-accepted (begin u) d = reply (opening u d) 0 0 []
+accepted (begin u w) d = reply (opening u w d) 0 0 []
 accepted (end u) d = reply (closing u (enqueueAll (unitEntries (journalOf d u)) d)) 0 0 []
 accepted (flush a) d = let f = flushed a d in reply (afterFlush d (f .flow)) (f .stores) (endingNumber (f .ending)) []
 
 -- "Beyond refusal 12's closing, a refusal changes nothing."
 unfoldable pub refused : Call → ℕ → Disk → Disk
-refused c n d = elim (ends c) [ none ↦ d | some u ↦ elim (eqb n 12) [ true ↦ conflicted (closing u d) | false ↦ d ] ]
+refused c n d = elim (ends c) [ none ↦ d | some u ↦ elim (eqb n 12) [ true ↦ conflicted (unitOf d u .window) (closing u d) | false ↦ d ] ]
 
 -- "2, with segment and entry (from 0) of the first fault"; "other returned numbers are 0"
 unfoldable pub faultAt : Outcome Content → ℕ → Answer

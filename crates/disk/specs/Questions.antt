@@ -11,7 +11,7 @@ use Rattle.lists.specs.Lookup.{written}
 use Rattle.log.specs.Entry.{isBlock, isList}
 use Rattle.log.specs.Card.{Content, slotBytes, mounted}
 use Rattle.listing.specs.Page.{pageText}
-use Rattle.disk.specs.Record.{isOpen, holderOf, queuePlaces, journalPlaces, unitCount}
+use Rattle.disk.specs.Record.{isOpen, holderOf, queuePlaces, journalPlaces, unitCount, windowCount}
 use Rattle.disk.specs.Disk.{Disk, unitOf, journalOf, readerOf, committed, view}
 use Rattle.disk.specs.Sound.{lengthsRight, recordSound, isOpenUnit}
 use Rattle.disk.specs.Call.{Edit, newList, newBlock, writeBlock, deleteBlock, deleteList, Look, readBlock, blockAfter, inventory, page, Call, format, mount, conflictCount, onStream, inView, begin, end, flush}
@@ -84,14 +84,18 @@ lookQuestions (inventory x) rs = (5, eqb (length x) 16) ∷ []
 -- "A buffer shorter than the text is refused 14, after question 9."
 lookQuestions (page x) rs = (14, leb (length (pageText rs)) (length x)) ∷ []
 
+-- "A window outside 1 to 16 is refused 5."
+abbrev pub isWindow : ℕ → Bool
+isWindow w = leb 1 w && leb w windowCount
+
 -- the questions of a call in order, each with its number; "A call passes over what it doesn't use."
 unfoldable pub questions : Call → Disk → List (ℕ × Bool)
 questions format d = (1, lengthsRight d) ∷ []
 questions mount d = (1, lengthsRight d) ∷ (2, mountable d) ∷ []
-questions conflictCount d = (1, lengthsRight d) ∷ (3, recordSound d) ∷ []
+questions (conflictCount w) d = (1, lengthsRight d) ∷ (3, recordSound d) ∷ (5, isWindow w) ∷ []
 questions (onStream s e) d = (1, lengthsRight d) ∷ (3, recordSound d) ∷ (4, streamOpen d s) ∷ editQuestions s e d
 questions (inView v k) d = (1, lengthsRight d) ∷ (3, recordSound d) ∷ (4, viewOpen d v) ∷ lookQuestions k (view d v .lists)
-questions (begin u) d = (1, lengthsRight d) ∷ (3, recordSound d) ∷ (4, leb 1 u && leb u unitCount) ∷ (6, not (isOpen (unitOf d u))) ∷ []
+questions (begin u w) d = (1, lengthsRight d) ∷ (3, recordSound d) ∷ (4, leb 1 u && leb u unitCount) ∷ (5, isWindow w) ∷ (6, not (isOpen (unitOf d u))) ∷ []
 questions (end u) d =
     (1, lengthsRight d) ∷ (3, recordSound d)
     ∷ (4, isOpenUnit d u) ∷ (12, endApplies d u) ∷ (13, queueRoom d (unitOf d u .len + 1)) ∷ []

@@ -17,9 +17,13 @@ journalPlaces = 15
 abbrev pub unitCount : ℕ
 unitCount = 4
 
--- A unit: it is open where `opened` is not 0; its journal are the first `len` of the entries.
+-- "Begin now names a window from 1 to 16 as well. Each window has its own count"
+abbrev pub windowCount : ℕ
+windowCount = 16
+
+-- A unit: the window that its Begin named, 0 where it is closed; its journal are the first `len` of the entries.
 pub record Unit : Type 0 where
-  pub opened : ℕ
+  pub window : ℕ
   pub len : ℕ
   pub journal : List Cell
 
@@ -35,11 +39,11 @@ pub record Held : Type 0 where
   pub units : List Unit
   pub holder : List ℕ
 
--- block and list given last, and the conflict count
+-- block and list given last, and the conflict count of each window
 pub record Tally : Type 0 where
   pub lastBlock : ℕ
   pub lastList : ℕ
-  pub conflicts : ℕ
+  pub conflicts : List ℕ
 
 pub record Record : Type 0 where
   pub ring : Ring
@@ -47,18 +51,21 @@ pub record Record : Type 0 where
   pub tally : Tally
 
 abbrev pub unit : ℕ → ℕ → List Cell → Unit
-unit o n j = record { opened = o; len = n; journal = j }
+unit w n j = record { window = w; len = n; journal = j }
 
--- "Every call is lent card, queue data, journal data and record.": the record in 448 bytes. Cells of four bytes, and bytes, from byte a on, n of them:
+-- "Every call is lent card, queue data, journal data and record.": the record in 478 bytes. Cells of four bytes, and bytes, from byte a on, n of them:
 unfoldable pub cellsIn : List ℕ → ℕ → ℕ → List Cell
 cellsIn bs a n = from (λ k. cell (getD bs (a + 4 * k) 0) (getD bs (a + 4 * k + 1) 0) (getD bs (a + 4 * k + 2) 0) (getD bs (a + 4 * k + 3) 0)) 0 n
 
 unfoldable pub bytesIn : List ℕ → ℕ → ℕ → List ℕ
 bytesIn bs a n = from (λ k. getD bs (a + k) 0) 0 n
 
--- a number in two bytes, the low one first
+-- a number in two bytes, the low one first, and n of them
 abbrev pub pairIn : List ℕ → ℕ → ℕ
 pairIn bs a = getD bs a 0 + 256 * getD bs (a + 1) 0
+
+unfoldable pub pairsIn : List ℕ → ℕ → ℕ → List ℕ
+pairsIn bs a n = from (λ k. pairIn bs (a + 2 * k)) 0 n
 
 -- unit i + 1
 unfoldable pub unitIn : List ℕ → ℕ → Unit
@@ -69,7 +76,7 @@ unfoldable pub recordIn : List ℕ → Record
 recordIn bs = record {
   ring = record { queue = cellsIn bs 0 queuePlaces; head = getD bs 440 0; len = getD bs 441 0; done = pairIn bs 442 };
   held = record { units = from (unitIn bs) 0 unitCount; holder = bytesIn bs 376 64 };
-  tally = record { lastBlock = getD bs 444 0; lastList = getD bs 445 0; conflicts = pairIn bs 446 };
+  tally = record { lastBlock = getD bs 444 0; lastList = getD bs 445 0; conflicts = pairsIn bs 446 windowCount };
 }
 
 -- what stands in a place that holds nothing, and past the end of the units
@@ -80,7 +87,7 @@ abbrev pub noUnit : Unit
 noUnit = unit 0 0 []
 
 -- "Only formatting and mounting don't look at the lent record but set it anew: queue empty, units closed, nothing held." "the head place [..] is
--- 0 after mounting"; "mounting counts as 64 given last", "likewise with 16"; the conflict count is "0 after mounting".
+-- 0 after mounting"; "mounting counts as 64 given last", "likewise with 16"; each window's count "is 0 after mounting".
 unfoldable pub freshUnit : Unit
 freshUnit = unit 0 0 (replicate journalPlaces noCell)
 
@@ -89,7 +96,7 @@ unfolding freshUnit
 freshRecord = record {
   ring = record { queue = replicate queuePlaces noCell; head = 0; len = 0; done = 0 };
   held = record { units = replicate unitCount freshUnit; holder = replicate 64 0 };
-  tally = record { lastBlock = 64; lastList = 16; conflicts = 0 };
+  tally = record { lastBlock = 64; lastList = 16; conflicts = replicate windowCount 0 };
 }
 
 -- the place of the queue's entry k: "32 places used in a ring"
@@ -100,16 +107,21 @@ abbrev pub unitAt : Record → ℕ → Unit
 unitAt r u = getD (r .held .units) (u - 1) noUnit
 
 abbrev pub isOpen : Unit → Bool
-isOpen x = not (eqb (x .opened) 0)
+isOpen x = not (eqb (x .window) 0)
 
 -- the unit that holds block b, or 0
 abbrev pub holderOf : Record → ℕ → ℕ
 holderOf r b = getD (r .held .holder) (b - 1) 0
 
+-- window w's conflict count
+abbrev pub countOf : Record → ℕ → ℕ
+countOf r w = getD (r .tally .conflicts) (w - 1) 0
+
 -- the lists are as long as those of every record that bytes mean
 unfoldable pub shaped : Record → Bool
 shaped r =
     eqb (length (r .ring .queue)) queuePlaces && eqb (length (r .held .units)) unitCount && eqb (length (r .held .holder)) 64
+    && eqb (length (r .tally .conflicts)) windowCount
     && eqb (length (unitAt r 1 .journal)) journalPlaces && eqb (length (unitAt r 2 .journal)) journalPlaces
     && eqb (length (unitAt r 3 .journal)) journalPlaces && eqb (length (unitAt r 4 .journal)) journalPlaces
 
@@ -120,16 +132,16 @@ withRing r q h n k = record { ring = record { queue = q; head = h; len = n; done
 abbrev pub withHeld : Record → List Unit → List ℕ → Record
 withHeld r us hs = record { ring = r .ring; held = record { units = us; holder = hs }; tally = r .tally }
 
-abbrev pub withTally : Record → ℕ → ℕ → ℕ → Record
-withTally r b l n = record { ring = r .ring; held = r .held; tally = record { lastBlock = b; lastList = l; conflicts = n } }
+abbrev pub withTally : Record → ℕ → ℕ → List ℕ → Record
+withTally r b l ns = record { ring = r .ring; held = r .held; tally = record { lastBlock = b; lastList = l; conflicts = ns } }
 
 -- a unit with its journal emptied; the elements stay as they are
 abbrev pub emptied : ℕ → Unit → Unit
-emptied o x = unit o 0 (x .journal)
+emptied w x = unit w 0 (x .journal)
 
 -- a unit with an entry more in its journal
 abbrev pub journaled : Unit → Cell → Unit
-journaled x e = unit (x .opened) (x .len + 1) (set (x .journal) (x .len) e)
+journaled x e = unit (x .window) (x .len + 1) (set (x .journal) (x .len) e)
 
 -- the holders when unit u gives up what it holds
 unfoldable pub released : ℕ → List ℕ → List ℕ
@@ -147,9 +159,9 @@ withFlow r h n k = withRing r (r .ring .queue) h n k
 abbrev pub journalGrown : ℕ → Cell → Record → Record
 journalGrown u e r = withHeld r (set (r .held .units) (u - 1) (journaled (unitAt r u) e)) (r .held .holder)
 
--- unit u open (1) or closed (0) with its journal emptied
+-- unit u open for window w, or closed (0), with its journal emptied
 abbrev pub unitTurned : ℕ → ℕ → Record → Record
-unitTurned o u r = withHeld r (set (r .held .units) (u - 1) (emptied o (unitAt r u))) (r .held .holder)
+unitTurned w u r = withHeld r (set (r .held .units) (u - 1) (emptied w (unitAt r u))) (r .held .holder)
 
 -- block b held by unit u; what unit u holds released
 abbrev pub holding : ℕ → ℕ → Record → Record
@@ -165,9 +177,9 @@ withLastBlock r b = withTally r b (r .tally .lastList) (r .tally .conflicts)
 abbrev pub withLastList : Record → ℕ → Record
 withLastList r l = withTally r (r .tally .lastBlock) l (r .tally .conflicts)
 
-abbrev pub withConflicts : Record → ℕ → Record
-withConflicts r n = withTally r (r .tally .lastBlock) (r .tally .lastList) n
+-- one conflict more of window w: "its own count, which stops at 65,535"
+abbrev pub withCount : Record → ℕ → ℕ → Record
+withCount r w n = withTally r (r .tally .lastBlock) (r .tally .lastList) (set (r .tally .conflicts) (w - 1) n)
 
--- a conflict more: "stops at 65,535"
-abbrev pub conflictCounted : Record → Record
-conflictCounted r = withConflicts r (min 65535 (r .tally .conflicts + 1))
+abbrev pub conflictCounted : ℕ → Record → Record
+conflictCounted w r = withCount r w (min 65535 (countOf r w + 1))

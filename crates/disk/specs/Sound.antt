@@ -10,7 +10,7 @@ use Rattle.lists.specs.State.{placed}
 use Rattle.log.specs.Entry.{Entry, member, raw, legal, isBlock, isList}
 use Rattle.log.specs.Card.{Content, cardLength, segmentsIn}
 use Rattle.log.specs.Store.{home, tail, headAt}
-use Rattle.disk.specs.Record.{Record, shaped, isOpen, holderOf, queuePlaces, journalPlaces, unitCount}
+use Rattle.disk.specs.Record.{Record, shaped, isOpen, holderOf, queuePlaces, journalPlaces, unitCount, windowCount}
 use Rattle.disk.specs.Disk.{Disk, unitOf, queued, journalOf, committed, committedReader}
 
 -- "1. Are the lent lengths of card, queue data and journal data right?"
@@ -33,11 +33,11 @@ putBy (delList l) = []
 unfoldable pub journalSound : Record → ℕ → Change Content → Bool
 journalSound r u c = legal (raw 0 (member c)) && all (λ b. eqb (holderOf r b) u) (putBy c)
 
--- "counts [..] in range, closed units with empty journals"
+-- "counts [..] in range, closed units with empty journals"; the window of an open unit is one of 1 to 16
 unfoldable pub unitSound : Disk → ℕ → Bool
 unitSound d u =
     each
-    (leb (unitOf d u .len) journalPlaces
+    (leb (unitOf d u .len) journalPlaces ∷ leb (unitOf d u .window) windowCount
     ∷ (isOpen (unitOf d u) || eqb (unitOf d u .len) 0)
     ∷ all (journalSound (d .rec) u) (journalOf d u)
     ∷ [])
@@ -58,7 +58,7 @@ recordSound d =
     each
     (shaped r
     ∷ leb (r .ring .len) queuePlaces ∷ ltb (r .ring .head) queuePlaces
-    ∷ isBlock (r .tally .lastBlock) ∷ isList (r .tally .lastList) ∷ leb (r .tally .conflicts) 65535
+    ∷ isBlock (r .tally .lastBlock) ∷ isList (r .tally .lastList)
     ∷ all (λ e. legal (raw 0 e)) (queued d)
     ∷ all (unitSound d) (from (λ u. u) 1 unitCount)
     ∷ isSome (committedReader d)

@@ -1,9 +1,11 @@
 -- What document 01 says of records, flushes and formattings beside the calls' promises: statements, each proved under its own name in proofs.
 use mathlib.Core.Path.{_≡_}
 use mathlib.Core.Logic.{_⊎_, _≢_}
-use mathlib.Core.Bool.{true}
+use mathlib.Core.Bool.{true, _&&_, cond}
+use mathlib.Core.Option.{none, some}
 use mathlib.Core.List.{List}
-use Prim.Native.Nat.{ℕ, _+_, _-_, _≤_, _<_}
+use Prim.Native.Nat.{ℕ, _+_, _-_, _≤_, _<_, min}
+use lib.Dec.{eqb}
 use lib.ListN.{length, getD, take, drop}
 use Rattle.lists.specs.Lookup.{listNums}
 use Rattle.log.specs.Card.{cardLength, segmentsIn, count}
@@ -11,11 +13,11 @@ use Rattle.log.specs.Store.{Store, doStores}
 use Rattle.log.specs.Flush.{rest}
 use Rattle.log.specs.Turns.{Steps, Clears}
 use Rattle.listing.specs.Page.{pageText, pageMost}
-use Rattle.disk.specs.Record.{recordIn}
-use Rattle.disk.specs.Disk.{Disk, queued, view}
+use Rattle.disk.specs.Record.{recordIn, countOf}
+use Rattle.disk.specs.Disk.{Disk, unitOf, queued, view}
 use Rattle.disk.specs.Sound.{lengthsRight, recordSound}
-use Rattle.disk.specs.Call.{inventory, page, Call, inView, flush}
-use Rattle.disk.specs.Questions.{viewOpen, refusal}
+use Rattle.disk.specs.Call.{inventory, page, Call, inView, flush, ends, resets}
+use Rattle.disk.specs.Questions.{viewOpen, isWindow, refusal}
 use Rattle.disk.specs.Perform.{flowOf, flushed, formatted, perform}
 
 -- "Every accepted call, and refusal 12, leaves a record that is sound by question 3; this is proved." On any disk; the lengths stay right.
@@ -29,7 +31,7 @@ abbrev pub IsBytes : List ℕ → Type 0
 IsBytes bs = (i : ℕ) → getD bs i 0 < 256
 
 abbrev pub RecordFixed : Type 0
-RecordFixed = (bs cs : List ℕ) → length bs ≡ 448 → length cs ≡ 448 → IsBytes bs → IsBytes cs → recordIn bs ≡ recordIn cs → bs ≡ cs
+RecordFixed = (bs cs : List ℕ) → length bs ≡ 478 → length cs ≡ 478 → IsBytes bs → IsBytes cs → recordIn bs ≡ recordIn cs → bs ≡ cs
 
 -- "the inventory, which fills 16 lent bytes with the lists taken in a view, [..] other bytes unchanged, and returns how many": n of them, ls in their
 -- order, in the destination y, which held x
@@ -103,3 +105,15 @@ pub record StepsOfFormat (c : List ℕ) : Type 0 where
 
 abbrev pub FormatInOrder : Type 0
 FormatInOrder = (c : List ℕ) → cardLength c ≡ true → StepsOfFormat c
+
+-- "Each window has its own count, which stops at 65,535 and is 0 after mounting"; "An End refused 12 raises the count of the window its unit's Begin
+-- named and no other; other refusals raise none.": window w's count after a call that answers n
+unfoldable pub countAfter : Call → ℕ → Disk → ℕ → ℕ
+countAfter c n d w =
+    let k = countOf (d .rec) w in
+    cond (resets c && eqb n 0) 0
+    (elim (ends c) [ none ↦ k | some u ↦ cond (eqb n 12 && eqb (unitOf d u .window) w) (min 65535 (k + 1)) k ])
+
+-- whatever the call and the disk
+abbrev pub CountsMove : Type 0
+CountsMove = (c : Call) (d : Disk) (w : ℕ) → isWindow w ≡ true → let r = perform c d in countOf (r .disk .rec) w ≡ countAfter c (r .answer .code) d w

@@ -1,6 +1,6 @@
-// One part of the record changed: the queue, a unit, the holders, the numbers given last, the conflict count.
+// One part of the record changed: the queue, a unit, the holders, the numbers given last, the conflict counts.
 use crate::record::CELL;
-use crate::record::CONFLICTS_AT;
+use crate::record::COUNTS;
 use crate::record::DONE;
 use crate::record::HEAD;
 use crate::record::HOLDERS;
@@ -9,9 +9,9 @@ use crate::record::LAST_BLOCK;
 use crate::record::LAST_LIST;
 use crate::record::LEN;
 use crate::record::LENGTHS;
-use crate::record::OPENED;
 use crate::record::RECORD;
 use crate::record::Record;
+use crate::record::UNIT_WINDOWS;
 use crate::record::Unit;
 use crate::record::conflicts;
 use crate::record::head;
@@ -21,19 +21,19 @@ use log::encode::entry_byte;
 use log::entry::LogEntry;
 ghost use mathlib.Core.Path.{_≡_};
 ghost use mathlib.Core.Bool.{true, false, cond};
-ghost use Prim.Native.Nat.{ℕ, _+_, _-_, _*_, _<_, _≤_};
+ghost use Prim.Native.Nat.{ℕ, _+_, _-_, _*_, _<_, _≤_, min};
 ghost use lib.Dec.{eqb};
 ghost use lib.ListN.{length, set};
 ghost use Rattle.log.specs.Entry.{asEntry};
 ghost use Rattle.log.specs.Cell.{cellOf};
 ghost use Rattle.disk.specs.Record.{recordIn, unitAt, withFlow, withLastBlock, withLastList, appended, journalGrown, unitTurned, holding, releasing, conflictCounted, freshRecord};
-ghost use Rattle.disk.specs.promises.Bytes.{cellSet, flag};
+ghost use Rattle.disk.specs.promises.Bytes.{cellSet};
 
 const BLOCKS: usize = LogEntry::BLOCKS as usize;
 
 // Nothing is done, and the compiler drops the copy: how long an array is the proof learns of a value, not of a reference.
 fn sized(rec: [u8; RECORD])
-    ensures { λ r. ⌜ length rec ≡ 448 ⌝ }
+    ensures { λ r. ⌜ length rec ≡ 478 ⌝ }
 {}
 
 // The four bytes of an entry, from byte i on.
@@ -80,28 +80,34 @@ pub fn hold(rec: &mut [u8; RECORD], b: usize, u: u8)
     rec[HOLDERS + (b - 1)] = u;
 }
 
-// Unit u open or closed, its journal emptied.
-pub fn empty(rec: &mut [u8; RECORD], u: usize, opened: bool)
+// Unit u open for a window, or closed where that is 0, its journal emptied.
+pub fn empty(rec: &mut [u8; RECORD], u: usize, window: u8)
     requires { ⌜ (1 ≤ u) × (u ≤ 4) ⌝ }
-    ensures { λ r. ⌜ recordIn (now (rec .exit)) ≡ unitTurned (flag opened) u (recordIn (now (rec .entry))) ⌝ }
+    ensures { λ r. ⌜ recordIn (now (rec .exit)) ≡ unitTurned window u (recordIn (now (rec .entry))) ⌝ }
 {
     sized(*rec);
     let i = u - 1;
-    rec[OPENED + i] = opened as u8;
+    rec[UNIT_WINDOWS + i] = window;
     rec[LENGTHS + i] = 0;
 }
 
-// One conflict more, up to the limit.
-pub fn count_conflict(rec: &mut [u8; RECORD])
-    ensures { λ r. ⌜ recordIn (now (rec .exit)) ≡ conflictCounted (recordIn (now (rec .entry))) ⌝ }
+// A count with one conflict more, up to the limit.
+fn raised(n: u16) -> u16
+    ensures { λ r. ⌜ r ≡ min 65535 (n + 1) ⌝ }
+{
+    if n < Record::CONFLICTS { n + 1 } else { n }
+}
+
+// One conflict more of window w.
+pub fn count_conflict(rec: &mut [u8; RECORD], w: usize)
+    requires { ⌜ (1 ≤ w) × (w ≤ 16) ⌝ }
+    ensures { λ r. ⌜ recordIn (now (rec .exit)) ≡ conflictCounted w (recordIn (now (rec .entry))) ⌝ }
 {
     sized(*rec);
-    let n = conflicts(rec);
-    if n < Record::CONFLICTS {
-        let m = n + 1;
-        rec[CONFLICTS_AT] = (m % 256) as u8;
-        rec[CONFLICTS_AT + 1] = (m / 256) as u8;
-    }
+    let m = raised(conflicts(rec, w));
+    let i = COUNTS + 2 * (w - 1);
+    rec[i] = (m % 256) as u8;
+    rec[i + 1] = (m / 256) as u8;
 }
 
 // The number given last.

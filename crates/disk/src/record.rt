@@ -5,10 +5,11 @@
 //
 //     0     queue: QUEUE cells
 //     128   journals: JOURNAL cells for each unit
-//     368   is the unit open? a byte for each
+//     368   the window that the unit's Begin named, 0 where it is closed: a byte for each
 //     372   entries in its journal: a byte for each unit
 //     376   the unit that holds the block, 0 for none: a byte for each block
-//     440   the queue's head, then its length; stores done of the head, two bytes; block and list given last; conflicts, two bytes
+//     440   the queue's head, then its length; stores done of the head, two bytes; block and list given last
+//     446   conflicts counted for the window: two bytes for each
 use lists::tables::of_bytes;
 use log::cell::entry_in;
 use log::entry::LogEntry;
@@ -17,16 +18,16 @@ ghost use mathlib.Core.Path.{_≡_};
 ghost use Prim.Native.Nat.{_<_, _≤_};
 ghost use lib.ListN.{getD};
 ghost use Rattle.log.specs.Cell.{memberIn, entryIn};
-ghost use Rattle.disk.specs.Record.{recordIn, noCell, unitAt, isOpen, holderOf, freshRecord};
+ghost use Rattle.disk.specs.Record.{recordIn, noCell, unitAt, isOpen, holderOf, countOf, freshRecord};
 
 // How many bytes a record has.
-pub const RECORD: usize = 448;
+pub const RECORD: usize = 478;
 
 pub const CELL: usize = 4;
 
 pub const JOURNALS: usize = 128;
 
-pub const OPENED: usize = 368;
+pub const UNIT_WINDOWS: usize = 368;
 
 pub const LENGTHS: usize = 372;
 
@@ -42,7 +43,7 @@ pub const LAST_BLOCK: usize = 444;
 
 pub const LAST_LIST: usize = 445;
 
-pub const CONFLICTS_AT: usize = 446;
+pub const COUNTS: usize = 446;
 
 const BLOCKS: usize = LogEntry::BLOCKS as usize;
 
@@ -63,8 +64,10 @@ pub struct Record {
 }
 
 impl Record {
-    // Units are 1 to UNITS; the queue has QUEUE places; conflicts are counted up to CONFLICTS.
+    // Units are 1 to UNITS, windows 1 to WINDOWS; the queue has QUEUE places; conflicts are counted up to CONFLICTS.
     pub const UNITS: usize = 4;
+
+    pub const WINDOWS: usize = 16;
 
     pub const QUEUE: usize = 32;
 
@@ -125,10 +128,21 @@ pub fn last_list(rec: &[u8; RECORD]) -> u8
     rec[LAST_LIST]
 }
 
-pub fn conflicts(rec: &[u8; RECORD]) -> u16
-    ensures { λ r. ⌜ r ≡ recordIn (now (rec .entry)) .tally .conflicts ⌝ }
+// The conflicts counted for window w.
+pub fn conflicts(rec: &[u8; RECORD], w: usize) -> u16
+    requires { ⌜ (1 ≤ w) × (w ≤ 16) ⌝ }
+    ensures { λ r. ⌜ r ≡ countOf (recordIn (now (rec .entry))) w ⌝ }
 {
-    of_bytes(rec[CONFLICTS_AT], rec[CONFLICTS_AT + 1])
+    let i = COUNTS + 2 * (w - 1);
+    of_bytes(rec[i], rec[i + 1])
+}
+
+// The window that unit u's Begin named, 0 where the unit is closed.
+pub fn window(rec: &[u8; RECORD], u: usize) -> u8
+    requires { ⌜ (1 ≤ u) × (u ≤ 4) ⌝ }
+    ensures { λ r. ⌜ r ≡ unitAt (recordIn (now (rec .entry))) u .window ⌝ }
+{
+    rec[UNIT_WINDOWS + (u - 1)]
 }
 
 // Is unit u open?
@@ -136,7 +150,7 @@ pub fn opened(rec: &[u8; RECORD], u: usize) -> bool
     requires { ⌜ (1 ≤ u) × (u ≤ 4) ⌝ }
     ensures { λ r. ⌜ r ≡ isOpen (unitAt (recordIn (now (rec .entry))) u) ⌝ }
 {
-    rec[OPENED + (u - 1)] != 0
+    window(rec, u) != 0
 }
 
 // How many entries its journal has.

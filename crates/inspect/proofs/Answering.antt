@@ -88,7 +88,7 @@ module _ (d : Disk) where
       let s = isSome (committedReader d) in
       let k = headStanding (d .card) (r .ring .done) (queued d) in
       let o = all (holderSound d) (from (λ b. b) 1 64) in
-      let ns = leb (r .ring .len) 32 ∷ ltb (r .ring .head) 32 ∷ isBlock (r .tally .lastBlock) ∷ isList (r .tally .lastList) ∷ leb (r .tally .conflicts) 65535 ∷ [] in
+      let ns = leb (r .ring .len) 32 ∷ ltb (r .ring .head) 32 ∷ isBlock (r .tally .lastBlock) ∷ isList (r .tally .lastList) ∷ [] in
       ap (λ (b : Bool). b && each (ns ++ l ∷ u ∷ s ∷ k ∷ o ∷ [])) h
       ∙ each-append ns (l ∷ u ∷ s ∷ k ∷ o ∷ [])
       ∙ ap (λ (b : Bool). each ns && b) (turned l u s k o ∙ ap (λ (b : Bool). b && behindLog d) units-is)

@@ -93,17 +93,21 @@ module _ (hs : List ℕ) (x : Unit) (u : ℕ) where
   unfolding unitRight each
   unit-long l = rw (gt-false (x .len) 15 l)
 
-  pub unit-closed : isOpen x ≡ false → eqb (x .len) 0 ≡ unitRight hs x u
+  pub unit-wide : 16 < x .window → false ≡ unitRight hs x u
+  unfolding unitRight each
+  unit-wide l = rw (gt-false (x .window) 16 l) (sym (and-no (leb (x .len) 15)))
+
+  pub unit-closed : x .window ≤ 16 → isOpen x ≡ false → eqb (x .len) 0 ≡ unitRight hs x u
   unfolding unitRight each all from
-  unit-closed h = rw h (go (eqb (x .len) 0) refl)
+  unit-closed w h = rw (h, le-true (x .window) 16 w) (go (eqb (x .len) 0) refl)
     where
       go : (b : Bool) → eqb (x .len) 0 ≡ b → b ≡ leb (x .len) 15 && (b && (all (changeRight hs u) (from (changeIn x) 0 (x .len)) && true))
       go true e = let z = eqb-true (x .len) 0 e in rw z
       go false e = sym (and-no (leb (x .len) 15))
 
-  pub unit-open : x .len ≤ 15 → isOpen x ≡ true → all (changeRight hs u) (from (changeIn x) 0 (x .len)) ≡ unitRight hs x u
+  pub unit-open : x .len ≤ 15 → x .window ≤ 16 → isOpen x ≡ true → all (changeRight hs u) (from (changeIn x) 0 (x .len)) ≡ unitRight hs x u
   unfolding unitRight each
-  unit-open l h = rw (h, le-true (x .len) 15 l) (sym (and-yes (all (changeRight hs u) (from (changeIn x) 0 (x .len)))))
+  unit-open l w h = rw (h, le-true (x .len) 15 l, le-true (x .window) 16 w) (sym (and-yes (all (changeRight hs u) (from (changeIn x) 0 (x .len)))))
 
 -- The units.
 abbrev pub unitGood : Record → ℕ → Bool
@@ -127,16 +131,15 @@ module _ (r : Record) (u : ℕ) where
   open-unit a b = rw (le-true 1 u a, le-true u 4 b)
 
 -- The counts and numbers.
-pub numbers-all : (r : Record) → (leb (r .ring .len) 32 && ltb (r .ring .head) 32) && ((isBlock (r .tally .lastBlock) && isList (r .tally .lastList)) && leb (r .tally .conflicts) 65535) ≡ numbersRight r
+pub numbers-all : (r : Record) → (leb (r .ring .len) 32 && ltb (r .ring .head) 32) && (isBlock (r .tally .lastBlock) && isList (r .tally .lastList)) ≡ numbersRight r
 unfolding numbersRight each
-numbers-all r = five (leb (r .ring .len) 32) (ltb (r .ring .head) 32) (isBlock (r .tally .lastBlock)) (isList (r .tally .lastList)) (leb (r .tally .conflicts) 65535)
+numbers-all r = four (leb (r .ring .len) 32) (ltb (r .ring .head) 32) (isBlock (r .tally .lastBlock)) (isList (r .tally .lastList))
   where
-    five : (a b c d e : Bool) → (a && b) && ((c && d) && e) ≡ a && (b && (c && (d && (e && true))))
-    five false b c d e = refl
-    five true false c d e = refl
-    five true true false d e = refl
-    five true true true false e = refl
-    five true true true true e = sym (and-yes e)
+    four : (a b c d : Bool) → (a && b) && (c && d) ≡ a && (b && (c && (d && true)))
+    four false b c d = refl
+    four true false c d = refl
+    four true true false d = refl
+    four true true true d = sym (and-yes d)
 
 -- The holder h of block b, over the lists rs.
 module _ (r : Record) (rs : List (Row ℕ)) (b h : ℕ) (e : holderOf r b ≡ h) where

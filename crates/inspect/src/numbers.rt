@@ -1,7 +1,6 @@
 // The record's counts and numbers.
 use disk::record::RECORD;
 use disk::record::Record;
-use disk::record::conflicts;
 use disk::record::head;
 use disk::record::last_block;
 use disk::record::last_list;
@@ -19,9 +18,6 @@ pub fn numbers_right(rec: &[u8; RECORD]) -> bool
 {
     both(
         both(len(rec) <= Record::QUEUE, head(rec) < Record::QUEUE),
-        both(
-            both(is_block(last_block(rec)), is_list(last_list(rec))),
-            conflicts(rec) <= Record::CONFLICTS,
-        ),
+        both(is_block(last_block(rec)), is_list(last_list(rec))),
     )
 }

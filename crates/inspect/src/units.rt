@@ -6,6 +6,7 @@ use disk::record::holder_of;
 use disk::record::journal_entry;
 use disk::record::journal_len;
 use disk::record::opened;
+use disk::record::window;
 use log::entry::LogEntry;
 use log::legal::is_member;
 ghost use mathlib.Core.Path.{_≡_};
@@ -38,6 +39,9 @@ fn unit_right(rec: &[u8; RECORD], u: usize) -> bool
 {
     let n = journal_len(rec, u);
     if Unit::JOURNAL < n {
+        return false;
+    }
+    if Record::WINDOWS < window(rec, u) as usize {
         return false;
     }
     if !opened(rec, u) {

@@ -48,6 +48,10 @@ abbrev pub atMost : Number → ℕ → Number
 atMost (Value n) most = cond (leb n most) (Value n) Bad
 atMost Bad most = Bad
 
+-- "without W it is window 1"
+unfoldable pub windowFrom : List ℕ → ℕ → Number
+windowFrom line from = cond (endedAt line from) (Value 1) (oneFrom line from)
+
 -- with N, up to the most: that many bytes are lent, and without N the whole
 unfoldable pub partFrom : List ℕ → ℕ → ℕ → ℕ → Number
 partFrom line from whole most = cond (endedAt line from) (Value whole) (atMost (oneFrom line from) most)

@@ -24,7 +24,7 @@ use Rattle.script.specs.declared.command.Tool.the-variants as S
 use Rattle.script.specs.declared.command.Cut.the-variants as X
 use Rattle.script.specs.declared.command.Lend.the-variants as L
 use Rattle.script.specs.declared.command.Print.the-variants as P
-use Rattle.script.specs.Arguments.{textOf, numberAt, endedAt, pair, triple, oneFrom, twoFrom, threeFrom, partFrom, lentFrom}
+use Rattle.script.specs.Arguments.{textOf, numberAt, endedAt, pair, triple, oneFrom, twoFrom, threeFrom, windowFrom, partFrom, lentFrom}
 use Rattle.script.specs.Spelling.{bytes}
 
 -- "Anything else that is not a command below, with its words, prints `?` and does nothing."
@@ -76,6 +76,12 @@ readFrom line from =
     let b = wordFrom line (v .end) in
     ofThree (λ v b k. inView v (K.Read b k)) (triple (numberAt line v) (pair (numberAt line b) (partFrom line (b .end) 256 300)))
 
+-- `U`, `U W`
+unfoldable pub beginFrom : List ℕ → ℕ → Command
+beginFrom line from =
+    let u = wordFrom line from in
+    ofTwo (λ u w. C.Call (Q.Begin u w)) (pair (numberAt line u) (windowFrom line (u .end)))
+
 -- a row of the table: a name, and what the words behind it make
 pub record Row : Type 0 where
   pub name : String
@@ -124,7 +130,7 @@ firstRows line at =
     "card" ⇒ cardOf (twoFrom line at)
     ∷ "format" ⇒ alone line at (C.Call Q.Format)
     ∷ "mount" ⇒ alone line at (C.Call Q.Mount)
-    ∷ "begin" ⇒ ofOne (λ u. C.Call (Q.Begin u)) (oneFrom line at)
+    ∷ "begin" ⇒ beginFrom line at
     ∷ "end" ⇒ ofOne (λ u. C.Call (Q.End u)) (oneFrom line at)
     ∷ "newlist" ⇒ ofOne (λ s. onStream s E.NewList) (oneFrom line at)
     ∷ "newblock" ⇒ ofThree (λ s l p. onStream s (E.NewBlock l p)) (threeFrom line at)
@@ -138,7 +144,7 @@ middleRows line at =
     ∷ "dellist" ⇒ ofTwo (λ s l. onStream s (E.DeleteList l)) (twoFrom line at)
     ∷ "flush" ⇒ ofOne (λ n. C.Call (Q.Flush n)) (oneFrom line at)
     ∷ "next" ⇒ ofThree (λ v l p. inView v (K.Next l p)) (threeFrom line at)
-    ∷ "conflicts" ⇒ alone line at (C.Call Q.Conflicts)
+    ∷ "conflicts" ⇒ ofOne (λ w. C.Call (Q.Conflicts w)) (windowFrom line at)
     ∷ []
 
 -- an inventory: "with N (0 to 300) N bytes are lent"; a page: "the buffer lent has 820 bytes, or N (0 to 1,000)"

@@ -3,7 +3,7 @@ use text::decimal::number;
 use text::line::word;
 use text::number::Number;
 ghost use mathlib.Core.Path.{_≡_};
-ghost use Rattle.script.specs.Arguments.{endedAt, oneFrom, twoFrom, threeFrom, partFrom, lentFrom, atMost};
+ghost use Rattle.script.specs.Arguments.{endedAt, oneFrom, twoFrom, threeFrom, windowFrom, partFrom, lentFrom, atMost};
 ghost use Rattle.script.specs.Arguments.{pair as Arguments·pair, triple as Arguments·triple};
 
 pub enum Two {
@@ -47,6 +47,17 @@ pub fn three_numbers(line: &[u8], from: usize) -> Three
 {
     let w = word(line, from);
     triple(number(line, w.start, w.end), two_numbers(line, w.end))
+}
+
+// The window behind the position, or window 1 where no word stands there.
+pub fn window(line: &[u8], from: usize) -> Number
+    ensures { λ r. ⌜ r ≡ windowFrom (now (line .entry)) from ⌝ }
+{
+    if is_end(line, from) {
+        Number::Value(1)
+    } else {
+        one_number(line, from)
+    }
 }
 
 // How many bytes are lent: the number behind the position, no greater than the most, or the whole where no word stands there.

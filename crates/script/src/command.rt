@@ -15,10 +15,10 @@ pub enum Command {
 pub enum Request {
     Format,
     Mount,
-    Begin { unit: u64 },
+    Begin { unit: u64, window: u64 },
     End { unit: u64 },
     Flush { allowance: u64 },
-    Conflicts,
+    Conflicts { window: u64 },
     Edit { stream: u64, edit: Edit },
     Look { view: u64, look: Look },
 }

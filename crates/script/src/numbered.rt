@@ -34,12 +34,12 @@ pub fn card(n: Two) -> Command
     Command::Tool(Tool::Card { length, byte })
 }
 
-pub fn begin(n: Number) -> Command
-    ensures { λ r. ⌜ r ≡ ofOne (λ u. Command.Call (Request.Begin u)) n ⌝ }
+pub fn begin(n: Two) -> Command
+    ensures { λ r. ⌜ r ≡ ofTwo (λ u w. Command.Call (Request.Begin u w)) n ⌝ }
 {
     match n {
-        Number::Value(unit) => Command::Call(Request::Begin { unit }),
-        Number::Bad => Command::Unknown,
+        Two::Values(unit, window) => Command::Call(Request::Begin { unit, window }),
+        Two::Bad => Command::Unknown,
     }
 }
 
@@ -146,6 +146,15 @@ pub fn next(n: Three) -> Command
             Command::Call(Request::Look { view, look })
         }
         Three::Bad => Command::Unknown,
+    }
+}
+
+pub fn conflicts(n: Number) -> Command
+    ensures { λ r. ⌜ r ≡ ofOne (λ w. Command.Call (Request.Conflicts w)) n ⌝ }
+{
+    match n {
+        Number::Value(window) => Command::Call(Request::Conflicts { window }),
+        Number::Bad => Command::Unknown,
     }
 }
 

@@ -7,6 +7,7 @@ use crate::arguments::part_lent;
 use crate::arguments::three_numbers;
 use crate::arguments::triple;
 use crate::arguments::two_numbers;
+use crate::arguments::window;
 use crate::command::Command;
 use crate::command::Cut;
 use crate::command::Lend;
@@ -21,7 +22,7 @@ use text::line::is_word;
 use text::line::part;
 use text::line::word;
 ghost use mathlib.Core.Path.{_≡_};
-ghost use Rattle.script.specs.Commands.{commandOf, isQuiet, named, middleNamed, lastNamed, writeFrom, readFrom, cutFrom, cutNamed, lendFrom, lendNamed};
+ghost use Rattle.script.specs.Commands.{commandOf, isQuiet, named, middleNamed, lastNamed, writeFrom, readFrom, beginFrom, cutFrom, cutNamed, lendFrom, lendNamed};
 ghost use Rattle.script.specs.Commands.{alone as Commands·alone};
 
 // The most bytes of a line.
@@ -78,7 +79,7 @@ fn first_rows(line: &[u8], start: usize, end: usize) -> Command
         return alone(line, end, Command::Call(Request::Mount));
     }
     if is_word(line, start, end, b"begin") {
-        return numbered::begin(one_number(line, end));
+        return begin(line, end);
     }
     if is_word(line, start, end, b"end") {
         return numbered::end(one_number(line, end));
@@ -114,7 +115,7 @@ fn middle_rows(line: &[u8], start: usize, end: usize) -> Command
         return numbered::next(three_numbers(line, end));
     }
     if is_word(line, start, end, b"conflicts") {
-        return alone(line, end, Command::Call(Request::Conflicts));
+        return numbered::conflicts(window(line, end));
     }
     last_rows(line, start, end)
 }
@@ -184,6 +185,13 @@ fn read(line: &[u8], from: usize) -> Command
     let block = number(line, b.start, b.end);
     let lent = part_lent(line, b.end, BLOCK, MOST);
     numbered::read(triple(view, pair(block, lent)))
+}
+
+fn begin(line: &[u8], from: usize) -> Command
+    ensures { λ r. ⌜ r ≡ beginFrom (now (line .entry)) from ⌝ }
+{
+    let unit = word(line, from);
+    numbered::begin(pair(number(line, unit.start, unit.end), window(line, unit.end)))
 }
 
 fn cut(line: &[u8], from: usize) -> Command

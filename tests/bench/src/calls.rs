@@ -197,7 +197,7 @@ fn start(call: Call, disk: &mut Disk) -> Option<Record> {
     lent.mount().ok()?;
     match call {
         Call::Read(_) => {
-            lent.begin(1).ok()?;
+            lent.begin(1, 1).ok()?;
             lent.write(1, 1, &CONTENT).ok()?;
         }
         Call::FlushWrite => lent.write(0, 1, &CONTENT).ok()?,
@@ -227,7 +227,7 @@ fn call_second(call: Call, disk: &mut Disk, record: &mut Record) -> Option<()> {
         }
         Call::Unit => {
             let mut lent = disk.lend(record);
-            lent.begin(1).ok()?;
+            lent.begin(1, 1).ok()?;
             lent.write(1, 1, &CONTENT).ok()?;
             let block = lent.new_block(1, 1, 1).ok()?;
             lent.write(1, block.into(), &CONTENT).ok()?;

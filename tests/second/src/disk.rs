@@ -1,10 +1,12 @@
-//! The calls: document 01, "The calls", "Flush" and "The questions, in order"; document 02, E1, E4.
+//! The calls: document 01, "The calls", "Flush" and "The questions, in order"; document 02, E1, E4, E7.
 //!
 //! Each call asks its questions in the order of their numbers and returns the first that is answered no; "a call
 //! passes over what it doesn't use". Numbers come as wide as a caller may write them and are never cut.
 
 use crate::entry::{Change, Entry};
-use crate::limits::{ALLOWANCE, BLOCKS, BLOCK_BYTES, JOURNAL, JOURNAL_BYTES, LISTS, QUEUE_BYTES, SEGMENT_BYTES, UNITS};
+use crate::limits::{
+    ALLOWANCE, BLOCKS, BLOCK_BYTES, JOURNAL, JOURNAL_BYTES, LISTS, QUEUE_BYTES, SEGMENT_BYTES, UNITS, WINDOWS,
+};
 use crate::log::{self, Fault, Log, Stores};
 use crate::page;
 use crate::record::{Record, Unit, Versions};
@@ -214,18 +216,22 @@ impl Lent<'_> {
 
     // ---- Units -------------------------------------------------------------------------------------------------
 
-    /// BeginARU: opens the unit that the caller names. Asks 1, 3, 4, 6.
-    pub fn begin(&mut self, unit: u64) -> Result<(), Refusal> {
+    /// BeginARU: opens the unit that the caller names, for the window that the caller names. Asks 1, 3, 4, 5, 6.
+    pub fn begin(&mut self, unit: u64, window: u64) -> Result<(), Refusal> {
         self.versions()?;
         let unit = unit_number(unit).ok_or(Refusal::Stream)?;
+        let window = number_in_range(window, 1, WINDOWS)?;
         if self.record.unit(unit).is_open {
             return Err(Refusal::Begun);
         }
-        self.record.unit_mut(unit).is_open = true;
+        let unit = self.record.unit_mut(unit);
+        unit.is_open = true;
+        unit.window = window;
         Ok(())
     }
 
-    /// EndARU: queues the journal as members, then a commit. Asks 1, 3, 4, 12, 13; refusal 12 closes the unit too.
+    /// EndARU: queues the journal as members, then a commit. Asks 1, 3, 4, 12, 13; refusal 12 closes the unit too, and
+    /// "raises the count of the window its unit's Begin named and no other".
     pub fn end(&mut self, unit: u64) -> Result<(), Refusal> {
         let versions = self.versions()?;
         let Stream::Unit(number) = self.stream(unit)? else {
@@ -235,7 +241,7 @@ impl Lent<'_> {
         let mut committed = versions.committed;
         if !unit.replay(number, &mut committed) {
             *self.record.unit_mut(number) = Unit::CLOSED;
-            self.record.conflicts = self.record.conflicts.saturating_add(1);
+            self.record.count_conflict(unit.window);
             return Err(Refusal::Conflict);
         }
         let members = unit.journal().len();
@@ -334,10 +340,11 @@ impl Lent<'_> {
         Ok(view.block_after(list, predecessor))
     }
 
-    /// The conflict count. Asks 1, 3.
-    pub fn conflicts(&self) -> Result<u16, Refusal> {
+    /// The conflict count of a window. Asks 1, 3, 5.
+    pub fn conflicts(&self, window: u64) -> Result<u16, Refusal> {
         self.versions()?;
-        Ok(self.record.conflicts)
+        let window = number_in_range(window, 1, WINDOWS)?;
+        Ok(self.record.conflicts_of(window))
     }
 
     /// The inventory: fills 16 lent bytes with the lists taken in a view and returns how many there are, in the order

@@ -1,4 +1,4 @@
-//! The sizes and ranges of document 01, "The card and the record".
+//! The sizes and ranges of document 01, "The card and the record"; document 02, E7.
 
 /// Bytes of a block, and of a slot that holds one.
 pub const BLOCK_BYTES: usize = 256;
@@ -19,6 +19,8 @@ pub const BLOCKS: u8 = 64;
 pub const LISTS: u8 = 16;
 /// Units are numbered from 1 to this.
 pub const UNITS: u8 = 4;
+/// Windows are numbered from 1 to this.
+pub const WINDOWS: u8 = 16;
 
 /// Entries that a unit's journal takes, and most members of a commit.
 pub const JOURNAL: usize = 15;

@@ -1,7 +1,7 @@
-//! The record that is lent to every call: the queue, the journals, the numbers held and given.
+//! The record that is lent to every call: the queue, the journals, the numbers held and given, the windows' conflicts.
 
 use crate::entry::{Change, Entry};
-use crate::limits::{BLOCKS, BLOCK_BYTES, JOURNAL, LISTS, QUEUE, SEGMENT_BYTES, UNITS};
+use crate::limits::{BLOCKS, BLOCK_BYTES, JOURNAL, LISTS, QUEUE, SEGMENT_BYTES, UNITS, WINDOWS};
 use crate::log::{stores_of, Log, Stores};
 use crate::state::{Content, Reading, State};
 
@@ -43,6 +43,8 @@ impl BlockSet {
 pub struct Unit {
     /// Whether it has begun and not ended.
     pub is_open: bool,
+    /// The window that its Begin named; of a closed unit it says nothing.
+    pub window: u8,
     journal: [Change; JOURNAL],
     journal_length: u8,
     /// Blocks made in it: "A block made in a unit is held by it until it ends."
@@ -53,6 +55,7 @@ impl Unit {
     /// A unit that is closed: its journal is empty and it holds nothing.
     pub const CLOSED: Unit = Unit {
         is_open: false,
+        window: 0,
         journal: [Change::TakeList { list: 1 }; JOURNAL],
         journal_length: 0,
         held: BlockSet::EMPTY,
@@ -86,7 +89,10 @@ impl Unit {
     /// Its part of question 3.
     fn is_sound(&self) -> bool {
         usize::from(self.journal_length) <= JOURNAL
-            && (self.is_open || (self.journal_length == 0 && self.held == BlockSet::EMPTY))
+            && match self.is_open {
+                true => (1..=WINDOWS).contains(&self.window),
+                false => self.journal_length == 0 && self.held == BlockSet::EMPTY,
+            }
             && self
                 .journal()
                 .iter()
@@ -117,8 +123,8 @@ pub struct Record {
     pub block_given: u8,
     /// The list number given last.
     pub list_given: u8,
-    /// "One for all, stops at 65,535, 0 after mounting."
-    pub conflicts: u16,
+    /// Of windows 1 to 16: "Each window has its own count, which stops at 65,535 and is 0 after mounting."
+    pub conflicts: [u16; WINDOWS as usize],
 }
 
 /// The versions of the state that every unit shares.
@@ -140,7 +146,7 @@ impl Record {
         units: [Unit::CLOSED; UNITS as usize],
         block_given: BLOCKS,
         list_given: LISTS,
-        conflicts: 0,
+        conflicts: [0; WINDOWS as usize],
     };
 
     /// A record that question 3 refuses on every card: no number 0 is ever given.
@@ -158,6 +164,17 @@ impl Record {
     /// Unit `number`, 1 to 4, to be changed.
     pub fn unit_mut(&mut self, number: u8) -> &mut Unit {
         &mut self.units[usize::from(number) - 1]
+    }
+
+    /// The conflict count of `window`, 1 to 16.
+    pub fn conflicts_of(&self, window: u8) -> u16 {
+        self.conflicts[usize::from(window) - 1]
+    }
+
+    /// The conflict count of `window`, 1 to 16, rises by one or stays where it stops.
+    pub fn count_conflict(&mut self, window: u8) {
+        let count = &mut self.conflicts[usize::from(window) - 1];
+        *count = count.saturating_add(1);
     }
 
     /// Blocks that open units hold.

@@ -18,6 +18,8 @@ const PART_BYTES: usize = 300;
 /// Bytes that `page` lends if not told how many, and most that it lends if told.
 const PAGE_BYTES: usize = 820;
 const MOST_PAGE_BYTES: usize = 1_000;
+/// The window of `begin` and `conflicts` if not told which.
+const WINDOW: u64 = 1;
 /// What a cut leaves in both data buffers.
 const CUT_BYTE: u8 = 165;
 /// Most words of a command.
@@ -109,7 +111,11 @@ impl Shell {
                 };
                 print(output, format_args!("{answer} {segment} {entry}"));
             }
-            ["begin", unit] => print_answer(output, self.lent().begin(number(unit)?)),
+            ["begin", unit] => print_answer(output, self.lent().begin(number(unit)?, WINDOW)),
+            ["begin", unit, window] => {
+                let (unit, window) = (number(unit)?, number(window)?);
+                print_answer(output, self.lent().begin(unit, window));
+            }
             ["end", unit] => print_answer(output, self.lent().end(number(unit)?)),
             ["newlist", stream] => {
                 print_number(output, self.lent().new_list(number(stream)?));
@@ -153,7 +159,11 @@ impl Shell {
                 let (view, list, predecessor) = (number(view)?, number(list)?, number(predecessor)?);
                 print_number(output, self.lent().next_block(view, list, predecessor));
             }
-            ["conflicts"] => print_number(output, self.lent().conflicts()),
+            ["conflicts"] => print_number(output, self.lent().conflicts(WINDOW)),
+            ["conflicts", window] => {
+                let window = number(window)?;
+                print_number(output, self.lent().conflicts(window));
+            }
             ["inventory", view] => self.print_inventory(output, number(view)?, usize::from(LISTS)),
             ["inventory", view, length] => {
                 let length = number_to(length, PART_BYTES)?;

@@ -24,11 +24,11 @@ const QUESTIONS: &[(&str, &[u64])] = &[
     ("delblock", &[1, 3, 4, 5, 8, 11, 13]),
     ("dellist", &[1, 3, 4, 5, 7, 11, 13]),
     ("read", &[1, 3, 4, 5, 8, 15]),
-    ("begin", &[1, 3, 4, 6]),
+    ("begin", &[1, 3, 4, 5, 6]),
     ("end", &[1, 3, 4, 12, 13]),
     ("flush", &[1, 3, 5]),
     ("next", &[1, 3, 4, 5, 7, 9]),
-    ("conflicts", &[1, 3]),
+    ("conflicts", &[1, 3, 5]),
     ("inventory", &[1, 3, 4, 5]),
     ("page", &[1, 3, 4, 14]),
 ];
@@ -158,7 +158,7 @@ impl Reached {
         self.add_if(is_part, "a part of the card in use");
         self.add_if(is_part && record.done() > 0, "a part of the card in use, stores done");
         self.add_if(record.queue_length() == QUEUE, "a full queue");
-        self.add_if(record.conflicts > 2, "three conflicts");
+        self.add_if(record.conflicts.iter().any(|&count| count > 2), "three conflicts");
         self.add_if(versions.committed.lists().len() == usize::from(LISTS), "16 lists");
         let blocks = (1..=BLOCKS).filter(|&block| versions.committed.is_on_a_list(block));
         self.add_if(blocks.count() == usize::from(BLOCKS), "64 blocks");

@@ -1,5 +1,5 @@
 //! The "Runs with known outcome" of document 01, in their order; those that it marks P are named so. Then what document 02
-//! says of blocks that nobody wrote (E4) and of printed pages (E1).
+//! says of blocks that nobody wrote (E4), of printed pages (E1) and of windows (E7).
 
 use second::disk::{Ending, Flushed, Lent, MountRefusal, Refusal};
 use second::entry::Cause;
@@ -58,7 +58,7 @@ impl Owner {
     /// Then unit 1: NewBlock after 1, Write to it.
     fn with_unit() -> Owner {
         let mut owner = Owner::begun_and_flushed();
-        assert_eq!(owner.lend().begin(1), Ok(()));
+        assert_eq!(owner.lend().begin(1, 1), Ok(()));
         assert_eq!(owner.lend().new_block(1, 1, 1), Ok(2));
         assert_eq!(owner.lend().write(1, 2, &[9; BLOCK_BYTES]), Ok(()));
         owner
@@ -188,18 +188,18 @@ fn p_before_end_view_1_has_2() {
 #[test]
 fn p_unit_that_wrote_a_deleted_block_is_refused_12() {
     let mut owner = Owner::begun_and_flushed();
-    assert_eq!(owner.lend().begin(2), Ok(()));
+    assert_eq!(owner.lend().begin(2, 1), Ok(()));
     assert_eq!(owner.lend().write(2, 1, &[5; BLOCK_BYTES]), Ok(()));
     assert_eq!(owner.lend().delete_block(0, 1), Ok(()));
     assert_eq!(owner.lend().end(2), Err(Refusal::Conflict));
-    assert_eq!(owner.lend().conflicts(), Ok(1));
+    assert_eq!(owner.lend().conflicts(1), Ok(1));
     assert_eq!(owner.lend().end(2), Err(Refusal::Stream));
 }
 
 #[test]
 fn p_empty_unit_queues_16_0() {
     let mut owner = Owner::formatted(1);
-    assert_eq!(owner.lend().begin(1), Ok(()));
+    assert_eq!(owner.lend().begin(1, 1), Ok(()));
     assert_eq!(owner.lend().end(1), Ok(()));
     assert_eq!(owner.flush(65_535), flushed(3, Ending::Drained));
     assert_eq!(owner.summary(0)[..3], [1, 16, 0]);
@@ -209,7 +209,7 @@ fn p_empty_unit_queues_16_0() {
 fn two_byte_entries_fill_510_bytes_and_a_256th_opens_the_next_segment() {
     let mut owner = Owner::formatted(2);
     for _ in 0..255 {
-        assert_eq!(owner.lend().begin(1), Ok(()));
+        assert_eq!(owner.lend().begin(1, 1), Ok(()));
         assert_eq!(owner.lend().end(1), Ok(()));
         assert_eq!(owner.flush(65_535), flushed(3, Ending::Drained));
     }
@@ -252,7 +252,7 @@ fn a_15th_write_on_one_segment_ends_full() {
 #[test]
 fn journal_takes_15_entries() {
     let mut owner = Owner::begun(1);
-    assert_eq!(owner.lend().begin(4), Ok(()));
+    assert_eq!(owner.lend().begin(4, 1), Ok(()));
     for _ in 0..15 {
         assert_eq!(owner.lend().write(4, 1, &[1; BLOCK_BYTES]), Ok(()));
     }
@@ -278,7 +278,7 @@ fn wrong_lengths_are_refused_1() {
         assert_eq!(owner.lend().mount(), Err(MountRefusal::Lengths));
         assert_eq!(owner.lend().new_list(0), Err(Refusal::Lengths));
         assert_eq!(owner.lend().flush(0), Err(Refusal::Lengths));
-        assert_eq!(owner.lend().conflicts(), Err(Refusal::Lengths));
+        assert_eq!(owner.lend().conflicts(1), Err(Refusal::Lengths));
     }
     for segments in 1..=64 {
         Owner::formatted(segments).remount();
@@ -384,31 +384,13 @@ fn dead_members_stay_dead() {
     assert_eq!(owner.lend().end(1), Ok(()));
     assert_eq!(owner.flush(5), flushed(5, Ending::Spent));
     owner.remount();
-    assert_eq!(owner.lend().begin(1), Ok(()));
+    assert_eq!(owner.lend().begin(1, 1), Ok(()));
     assert_eq!(owner.lend().new_block(1, 1, 0), Ok(2));
     assert_eq!(owner.lend().end(1), Ok(()));
     assert_eq!(owner.flush(65_535), flushed(7, Ending::Drained));
     owner.remount();
     assert_eq!(owner.lend().next_block(5, 1, 0), Ok(2));
     assert_eq!(owner.lend().next_block(5, 1, 2), Ok(1));
-}
-
-/// "The conflict count (one for all, stops at 65,535, 0 after mounting)."
-#[test]
-fn conflict_count_stops() {
-    let mut owner = Owner::begun_and_flushed();
-    owner.record.conflicts = 65_534;
-    for unit in 1..=3 {
-        assert_eq!(owner.lend().begin(unit), Ok(()));
-        assert_eq!(owner.lend().delete_list(unit, 1), Ok(()));
-    }
-    assert_eq!(owner.lend().delete_list(0, 1), Ok(()));
-    for unit in 1..=3 {
-        assert_eq!(owner.lend().end(unit), Err(Refusal::Conflict));
-        assert_eq!(owner.lend().conflicts(), Ok(65_535));
-    }
-    owner.remount();
-    assert_eq!(owner.lend().conflicts(), Ok(0));
 }
 
 // ---- Document 02, E4 ------------------------------------------------------------------------------------------------
@@ -472,8 +454,8 @@ fn a_block_of_a_deleted_list_is_unwritten_when_put_again() {
 #[test]
 fn a_units_write_is_seen_in_its_view_until_end() {
     let mut owner = Owner::unwritten();
-    assert_eq!(owner.lend().begin(1), Ok(()));
-    assert_eq!(owner.lend().begin(2), Ok(()));
+    assert_eq!(owner.lend().begin(1, 1), Ok(()));
+    assert_eq!(owner.lend().begin(2, 1), Ok(()));
     assert_eq!(owner.lend().write(1, 1, &seven()), Ok(()));
     assert_eq!(owner.read(1, 1), Ok(seven()));
     assert_eq!(owner.reads(1, [0, 1, 2, 5]), [15, 0, 15, 15]);
@@ -491,7 +473,7 @@ fn a_units_write_is_seen_in_its_view_until_end() {
 #[test]
 fn a_block_put_in_a_unit_is_unwritten_there() {
     let mut owner = Owner::unwritten();
-    assert_eq!(owner.lend().begin(3), Ok(()));
+    assert_eq!(owner.lend().begin(3, 1), Ok(()));
     assert_eq!(owner.lend().new_block(3, 1, 1), Ok(2));
     assert_eq!(owner.reads(2, [0, 3, 5]), [8, 15, 8]);
     assert_eq!(owner.lend().end(3), Ok(()));
@@ -508,7 +490,7 @@ fn a_block_put_in_a_unit_is_unwritten_there() {
 #[test]
 fn a_lost_units_write_does_not_count() {
     let mut owner = Owner::unwritten();
-    assert_eq!(owner.lend().begin(1), Ok(()));
+    assert_eq!(owner.lend().begin(1, 1), Ok(()));
     assert_eq!(owner.lend().write(1, 1, &seven()), Ok(()));
     let mut open = owner.clone();
     open.remount();
@@ -677,8 +659,8 @@ fn pages_of_views() {
     assert_eq!(owner.lend().new_list(0), Ok(1));
     let mut blocks = owner.put(1, 11);
     assert!(owner.flush(65_535).is_ok());
-    assert_eq!(owner.lend().begin(1), Ok(()));
-    assert_eq!(owner.lend().begin(2), Ok(()));
+    assert_eq!(owner.lend().begin(1, 1), Ok(()));
+    assert_eq!(owner.lend().begin(2, 1), Ok(()));
     assert_eq!(owner.lend().new_block(1, 1, 0), Ok(12));
     assert_eq!(owner.lend().delete_list(2, 1), Ok(()));
     let before = line(Some(1), &blocks);
@@ -754,4 +736,177 @@ fn pages_of_cards() {
     }
     assert_eq!(page::of_card(&[]), b"refused 1\n");
     assert_eq!(page::of_card(&vec![0; 65 * SEGMENT_BYTES]), b"refused 1\n");
+}
+
+// ---- Document 02, E7 ------------------------------------------------------------------------------------------------
+
+impl Owner {
+    /// Units begin for these windows and delete list 1, which stream 0 deletes then: every End is a conflict.
+    fn conflicting(windows: &[u64]) -> Owner {
+        let mut owner = Owner::begun_and_flushed();
+        owner.conflict(1, windows);
+        owner
+    }
+
+    fn conflict(&mut self, list: u64, windows: &[u64]) {
+        for (unit, &window) in (1..).zip(windows) {
+            assert_eq!(self.lend().begin(unit, window), Ok(()));
+            assert_eq!(self.lend().delete_list(unit, list), Ok(()));
+        }
+        assert_eq!(self.lend().delete_list(0, list), Ok(()));
+    }
+
+    /// The counts of all windows; in the array window 1 is the first.
+    fn counts(&mut self) -> [u16; 16] {
+        std::array::from_fn(|place| self.lend().conflicts(place as u64 + 1).expect("it is a window"))
+    }
+}
+
+/// The counts where these windows have counts above 0.
+fn counts(raised: &[(usize, u16)]) -> [u16; 16] {
+    let mut counts = [0; 16];
+    for &(window, count) in raised {
+        counts[window - 1] = count;
+    }
+    counts
+}
+
+/// "An End refused 12 raises the count of the window its unit's Begin named and no other": not that of the last Begin.
+#[test]
+fn the_window_that_the_units_begin_named_is_charged() {
+    let mut owner = Owner::conflicting(&[16, 1, 7]);
+    assert_eq!(owner.lend().begin(4, 9), Ok(()));
+    assert_eq!(owner.counts(), counts(&[]));
+    assert_eq!(owner.lend().end(1), Err(Refusal::Conflict));
+    assert_eq!(owner.counts(), counts(&[(16, 1)]));
+    assert_eq!(owner.lend().end(3), Err(Refusal::Conflict));
+    assert_eq!(owner.counts(), counts(&[(16, 1), (7, 1)]));
+    assert_eq!(owner.lend().end(2), Err(Refusal::Conflict));
+    assert_eq!(owner.counts(), counts(&[(16, 1), (7, 1), (1, 1)]));
+    assert_eq!(owner.lend().end(4), Ok(()));
+    assert_eq!(owner.counts(), counts(&[(16, 1), (7, 1), (1, 1)]));
+}
+
+/// "Two open units may belong to one window", and four too.
+#[test]
+fn units_may_share_a_window() {
+    let mut owner = Owner::conflicting(&[3, 3, 3, 3]);
+    for (unit, count) in [(2, 1), (4, 2), (1, 3), (3, 4)] {
+        assert_eq!(owner.lend().end(unit), Err(Refusal::Conflict));
+        assert_eq!(owner.counts(), counts(&[(3, count)]));
+    }
+}
+
+/// A unit that begins once more belongs to the window that this Begin names.
+#[test]
+fn a_unit_begun_again_has_another_window() {
+    let mut owner = Owner::conflicting(&[5]);
+    assert_eq!(owner.lend().end(1), Err(Refusal::Conflict));
+    assert_eq!(owner.lend().new_list(0), Ok(2));
+    owner.conflict(2, &[6]);
+    // Refused 6 and 5, a Begin names nothing.
+    assert_eq!(owner.lend().begin(1, 7), Err(Refusal::Begun));
+    assert_eq!(owner.lend().begin(1, 17), Err(Refusal::Range));
+    assert_eq!(owner.lend().end(1), Err(Refusal::Conflict));
+    assert_eq!(owner.counts(), counts(&[(5, 1), (6, 1)]));
+}
+
+/// "Other refusals raise none": 13 least of all, which is an End's too, and 4 of the unit that is closed then.
+#[test]
+fn other_refusals_raise_no_count() {
+    let mut owner = Owner::conflicting(&[2]);
+    assert_eq!(owner.lend().end(1), Err(Refusal::Conflict));
+    assert_eq!(owner.lend().end(1), Err(Refusal::Stream));
+    assert_eq!(owner.lend().end(0), Err(Refusal::Stream));
+    assert_eq!(owner.lend().begin(1, 2), Ok(()));
+    assert_eq!(owner.lend().new_list(1), Ok(2));
+    assert_eq!(owner.lend().new_block(1, 1, 0), Err(Refusal::List));
+    assert_eq!(owner.lend().new_block(0, 2, 0), Ok(2));
+    while owner.lend().write(0, 2, &seven()).is_ok() {}
+    assert_eq!(owner.lend().write(0, 2, &seven()), Err(Refusal::QueueFull));
+    assert_eq!(owner.lend().end(1), Err(Refusal::QueueFull));
+    assert_eq!(owner.counts(), counts(&[(2, 1)]));
+    assert!(owner.flush(65_535).is_ok());
+    assert_eq!(owner.lend().end(1), Ok(()));
+    assert_eq!(owner.counts(), counts(&[(2, 1)]));
+}
+
+/// "A window outside 1 to 16 is refused 5": Begin asks 1, 3, 4, 5, 6, the look-up 1, 3, 5.
+#[test]
+fn windows_outside_1_to_16_are_refused_5() {
+    let outside = [0, 17, 255, 256, 257, 65_537, 1 << 32, (1 << 32) + 1, u64::MAX];
+    let mut owner = Owner::formatted(1);
+    assert_eq!(owner.lend().begin(1, 16), Ok(()));
+    for window in outside {
+        for (unit, refusal) in [
+            (0, Refusal::Stream),
+            (5, Refusal::Stream),
+            (1, Refusal::Range),
+            (2, Refusal::Range),
+        ] {
+            assert_eq!(owner.lend().begin(unit, window), Err(refusal));
+        }
+        assert_eq!(owner.lend().conflicts(window), Err(Refusal::Range));
+    }
+    for window in 1..=16 {
+        assert_eq!(owner.lend().conflicts(window), Ok(0));
+        assert_eq!(owner.lend().begin(1, window), Err(Refusal::Begun));
+        assert_eq!(owner.lend().begin(2, window), Ok(()));
+        assert_eq!(owner.lend().end(2), Ok(()));
+    }
+    let sound = owner.record;
+    owner.record = Record::UNSOUND;
+    assert_eq!(owner.lend().begin(5, 17), Err(Refusal::Record));
+    assert_eq!(owner.lend().conflicts(0), Err(Refusal::Record));
+    owner.record = sound;
+    owner.queue_data.pop();
+    assert_eq!(owner.lend().begin(5, 17), Err(Refusal::Lengths));
+    assert_eq!(owner.lend().conflicts(0), Err(Refusal::Lengths));
+}
+
+/// "Each window has its own count, which stops at 65,535 and is 0 after mounting": no wrap, and the others go on.
+#[test]
+fn counts_stop_each_for_itself() {
+    let mut owner = Owner::conflicting(&[4, 4, 5, 4]);
+    owner.record.conflicts[2..5].copy_from_slice(&[65_535, 65_534, 65_534]);
+    for (unit, fourth, fifth) in [
+        (1, 65_535, 65_534),
+        (2, 65_535, 65_534),
+        (3, 65_535, 65_535),
+        (4, 65_535, 65_535),
+    ] {
+        assert_eq!(owner.lend().end(unit), Err(Refusal::Conflict));
+        assert_eq!(owner.counts(), counts(&[(3, 65_535), (4, fourth), (5, fifth)]));
+    }
+    let mut formatted = owner.clone();
+    assert_eq!(formatted.lend().format(), Ok(()));
+    assert_eq!(formatted.counts(), counts(&[]));
+    // Over a mounting that is accepted, and not over one that is refused.
+    let mut refused = owner.clone();
+    refused.card[SUMMARY_AT + 1] = 255;
+    assert!(refused.lend().mount().is_err());
+    assert_eq!(
+        refused.record.conflicts,
+        counts(&[(3, 65_535), (4, 65_535), (5, 65_535)])
+    );
+    assert_eq!(owner.lend().mount(), Ok(()));
+    assert_eq!(owner.counts(), counts(&[]));
+}
+
+/// Question 3 wants the window of every open unit from 1 to 16, and "says nothing of a closed one's".
+#[test]
+fn question_3_judges_windows_of_open_units() {
+    for window in [0, 1, 16, 17, 255] {
+        let mut owner = Owner::formatted(1);
+        assert_eq!(owner.lend().begin(3, 8), Ok(()));
+        owner.record.unit_mut(2).window = window;
+        assert_eq!(owner.lend().conflicts(8), Ok(0));
+        owner.record.unit_mut(3).window = window;
+        let is_sound = (1..=16).contains(&window);
+        assert_eq!(owner.lend().conflicts(8).is_ok(), is_sound);
+        assert_eq!(
+            owner.lend().end(3),
+            if is_sound { Ok(()) } else { Err(Refusal::Record) }
+        );
+    }
 }

@@ -118,6 +118,57 @@ fn pages_are_printed() {
     ]);
 }
 
+/// Without a window it is window 1.
+#[test]
+fn windows_are_named() {
+    check(&[
+        ("conflicts 0", "1 0\n"),
+        ("begin 1 0", "1\n"),
+        ("card 4096 0", "ok\n"),
+        ("conflicts 17", "3 0\n"),
+        ("begin 1 17", "3\n"),
+        ("format", "0\n"),
+        ("newlist 0", "0 1\n"),
+        ("begin 1", "0\n"),
+        ("begin 2 16", "0\n"),
+        ("begin 3 1", "0\n"),
+        ("begin 4 0", "5\n"),
+        ("begin 4 17", "5\n"),
+        ("begin 4 18446744073709551615", "5\n"),
+        ("begin 4 4294967297", "5\n"),
+        ("begin 5 17", "4\n"),
+        ("begin 2 0", "5\n"),
+        ("begin 2 15", "6\n"),
+        ("dellist 1 1", "0\n"),
+        ("dellist 2 1", "0\n"),
+        ("dellist 3 1", "0\n"),
+        ("end 3", "0\n"),
+        ("end 1", "12\n"),
+        ("conflicts", "0 1\n"),
+        ("conflicts 1", "0 1\n"),
+        ("conflicts 16", "0 0\n"),
+        ("end 2", "12\n"),
+        ("conflicts 00016", "0 1\n"),
+        ("conflicts 15", "0 0\n"),
+        ("conflicts 0", "5 0\n"),
+        ("conflicts 17", "5 0\n"),
+        ("conflicts 257", "5 0\n"),
+        ("begin 1 1 1", "?\n"),
+        ("begin 1 -", "?\n"),
+        ("begin 1 +1", "?\n"),
+        ("begin 1 18446744073709551616", "?\n"),
+        ("conflicts 1 1", "?\n"),
+        ("conflicts -1", "?\n"),
+        ("conflicts x", "?\n"),
+        ("conflicts 18446744073709551616", "?\n"),
+        ("cut", "cut\n"),
+        ("conflicts", "3 0\n"),
+        ("mount", "0 0 0\n"),
+        ("conflicts", "0 0\n"),
+        ("conflicts 16", "0 0\n"),
+    ]);
+}
+
 #[test]
 fn what_is_not_a_command() {
     check(&[

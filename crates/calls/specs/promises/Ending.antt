@@ -40,6 +40,8 @@ pub record Ready (q j : List ℕ) (r : Record) (u : ℕ) : Type 0 where
   pub first : 1 ≤ u
   pub last : u ≤ 4
   pub room : unitAt r u .len ≤ 15
+  pub opened : 1 ≤ unitAt r u .window
+  pub window : unitAt r u .window ≤ 16
   pub lawful : all (λ c. legal (raw 0 (member c))) (from (changeIn (unitAt r u)) 0 (unitAt r u .len)) ≡ true
 
 -- unit u's journal and a commit join them

@@ -1,5 +1,4 @@
--- The record's bytes with a cell stored in them, and a flag as a byte.
-use mathlib.Core.Bool.{Bool, cond}
+-- The record's bytes with a cell stored in them.
 use mathlib.Core.List.{List}
 use Prim.Native.Nat.{ℕ, _+_}
 use lib.ListN.{set}
@@ -8,6 +7,3 @@ use Rattle.log.specs.Cell.{Cell}
 -- the four bytes of a cell, from byte i on
 abbrev pub cellSet : List ℕ → ℕ → Cell → List ℕ
 cellSet bs i c = set (set (set (set bs i (c .map)) (i + 1) (c .first)) (i + 2) (c .second)) (i + 3) (c .third)
-
-abbrev pub flag : Bool → ℕ
-flag b = cond b 1 0

@@ -14,14 +14,14 @@ use Rattle.log.specs.Entry.{Entry, member, raw, legal, isBlock, isList, asChang
 use Rattle.log.specs.Cell.{entryIn}
 use Rattle.log.specs.Reader.{Reader, replay}
 use Rattle.log.specs.promises.Feed.{Memory, Keeps}
-use Rattle.disk.specs.Record.{Unit, Record, noCell, unitAt, isOpen, holderOf, queuePlaces, journalPlaces, unitCount}
+use Rattle.disk.specs.Record.{Unit, Record, noCell, unitAt, isOpen, holderOf, queuePlaces, journalPlaces, unitCount, windowCount}
 use Rattle.disk.specs.Disk.{disk, queued}
 use Rattle.disk.specs.Sound.{putBy, headStanding}
 use Rattle.inspect.specs.promises.Located.{queueHere, journalHere}
 
 -- "counts and numbers in range"
 unfoldable pub numbersRight : Record → Bool
-numbersRight r = each (leb (r .ring .len) queuePlaces ∷ ltb (r .ring .head) queuePlaces ∷ isBlock (r .tally .lastBlock) ∷ isList (r .tally .lastList) ∷ leb (r .tally .conflicts) 65535 ∷ [])
+numbersRight r = each (leb (r .ring .len) queuePlaces ∷ ltb (r .ring .head) queuePlaces ∷ isBlock (r .tally .lastBlock) ∷ isList (r .tally .lastList) ∷ [])
 
 -- may change c stand in unit u's journal, hs being the holders?
 unfoldable pub changeRight : List ℕ → ℕ → Change ℕ → Bool
@@ -31,9 +31,9 @@ changeRight hs u c = legal (raw 0 (member c)) && all (λ b. eqb (getD hs (b - 1)
 abbrev pub changeIn : Unit → ℕ → Change ℕ
 changeIn x k = asChange (entryIn (getD (x .journal) k noCell))
 
--- unit u of the record, x: its count, a journal only if it is open, and each change of it
+-- unit u of the record, x: its count and its window, a journal only if it is open, and each change of it
 unfoldable pub unitRight : List ℕ → Unit → ℕ → Bool
-unitRight hs x u = each (leb (x .len) journalPlaces ∷ (isOpen x || eqb (x .len) 0) ∷ all (changeRight hs u) (from (changeIn x) 0 (x .len)) ∷ [])
+unitRight hs x u = each (leb (x .len) journalPlaces ∷ leb (x .window) windowCount ∷ (isOpen x || eqb (x .len) 0) ∷ all (changeRight hs u) (from (changeIn x) 0 (x .len)) ∷ [])
 
 -- all four
 unfoldable pub unitsRight : Record → Bool

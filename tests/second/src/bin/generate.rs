@@ -1,7 +1,7 @@
 //! `generate SEED [LINES]`: prints a random script for the shell, which follows from its seed.
 //!
 //! `generate --card SEED` prints a random card for the lister, `generate --page SEED` one for the page program, and
-//! `generate --conflicts` the script in which the conflict count stops.
+//! `generate --conflicts` the script in which the conflict count of a window stops.
 
 use std::io::{self, Write};
 use std::process::ExitCode;

@@ -42,7 +42,7 @@ impl Generator<'_> {
     }
 
     /// Whether an argument is to be wrong: seldom, but often in calls that are to be wrong in several ways.
-    fn is_wrong(&mut self) -> bool {
+    pub(super) fn is_wrong(&mut self) -> bool {
         self.random.chance(self.wrong_arguments)
     }
 

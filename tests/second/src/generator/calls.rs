@@ -98,7 +98,7 @@ impl Generator<'_> {
                 self.run(format_args!("inventory {view}{part}"));
             }
             9 => self.page_in(view),
-            _ => self.run(format_args!("conflicts")).ignore(),
+            _ => self.conflicts(),
         }
     }
 
@@ -118,7 +118,8 @@ impl Generator<'_> {
 
     pub(super) fn begin(&mut self) {
         let unit = self.unit(false);
-        self.run(format_args!("begin {unit}"));
+        let window = self.window();
+        self.run(format_args!("begin {unit}{window}"));
     }
 
     /// A unit ends; if none is open, most of the time one begins.
@@ -204,7 +205,7 @@ impl Generator<'_> {
     pub(super) fn empty_units(&mut self) {
         let unit = self.random.between(1, 4);
         for _ in 0..self.random.between(5, 40) {
-            self.run(format_args!("begin {unit}"));
+            self.begin_unit(unit);
             let answer = self.run(format_args!("end {unit}")).answer;
             self.make_room(answer);
         }
@@ -218,7 +219,7 @@ impl Generator<'_> {
             return self.random.pick(&open);
         }
         let unit = self.random.pick(&closed);
-        self.run(format_args!("begin {unit}"));
+        self.begin_unit(unit);
         unit
     }
 
@@ -252,8 +253,7 @@ impl Generator<'_> {
         if self.random.chance(30) {
             self.fill_queue();
         }
-        self.run(format_args!("end {unit}"));
-        self.run(format_args!("conflicts"));
+        self.end_unit(unit);
     }
 
     /// Deletes a block, or its list, on stream 0 or in a unit that ends.
@@ -265,7 +265,7 @@ impl Generator<'_> {
             self.random.pick(&others)
         };
         if stream != 0 && !self.units(true).contains(&stream) {
-            self.run(format_args!("begin {stream}"));
+            self.begin_unit(stream);
         }
         if self.random.chance(60) {
             self.run(format_args!("delblock {stream} {block}"));

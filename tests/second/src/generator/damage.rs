@@ -184,7 +184,11 @@ impl Generator<'_> {
             }
         }
         for _ in 0..self.random.below(3) {
-            self.any_call();
+            if self.random.chance(30) {
+                self.wrong_call();
+            } else {
+                self.any_call();
+            }
         }
         if self.random.chance(10) {
             self.run(format_args!("mount"));
@@ -200,7 +204,7 @@ impl Generator<'_> {
         let length = self.random.between(1, segments.max(2) - 1) as usize * SEGMENT_BYTES;
         self.run(format_args!("lend card {length}"));
         if self.run(format_args!("mount")).is_accepted() {
-            self.run(format_args!("begin 1"));
+            self.begin_unit(1);
             self.new_block(1);
         }
         self.run(format_args!("lend all"));
@@ -257,7 +261,7 @@ impl Generator<'_> {
     /// A line that is no command, or only just one.
     pub(super) fn nonsense(&mut self) {
         let number = self.strange_number();
-        match self.random.below(26) {
+        match self.random.below(29) {
             0 => self.run(format_args!("")),
             1 => self.run(format_args!("   ")),
             2 => self.run(format_args!("# newlist 0")),
@@ -283,6 +287,9 @@ impl Generator<'_> {
             22 => self.run(format_args!("card 266241 0")),
             23 => self.run(format_args!("page 0 {number}")),
             24 => self.run(format_args!("page 0 1001")),
+            25 => self.run(format_args!("begin 1 {number}")),
+            26 => self.run(format_args!("conflicts {number}")),
+            27 => self.run(format_args!("begin 1 1 1")),
             _ => self.words(),
         }
         .ignore();

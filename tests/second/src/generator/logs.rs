@@ -68,7 +68,7 @@ impl Generator<'_> {
             if self.random.chance(70) {
                 self.change_on(0);
             } else {
-                self.run(format_args!("begin 1"));
+                self.begin_unit(1);
                 self.run(format_args!("end 1"));
             }
             if self.random.chance(50) {

@@ -11,6 +11,7 @@ mod damage;
 mod logs;
 mod pages;
 mod power;
+mod windows;
 
 pub use cards::card;
 
@@ -51,6 +52,8 @@ enum Action {
     Pages,
     /// The longest page that there is.
     LongestPage,
+    /// Units of several windows, and their conflicts.
+    Windows,
     /// Stores, cuts, and what comes after them.
     Flush,
     CutFlush,
@@ -89,6 +92,7 @@ const COMMON: &[(Action, u64)] = &[
     (Action::Flush, 8),
     (Action::Unwritten, 2),
     (Action::Pages, 1),
+    (Action::Windows, 1),
     (Action::CutFlush, 1),
     (Action::Cut, 1),
     (Action::Mount, 1),
@@ -258,9 +262,28 @@ const PROFILES: &[Profile] = &[
         segments: (1, 9),
         lines: (400, 1_200),
     },
+    // Windows.
+    Profile {
+        actions: &[
+            (Action::Windows, 40),
+            (Action::Conflict, 10),
+            (Action::FillQueue, 2),
+            (Action::Begin, 6),
+            (Action::End, 4),
+            (Action::Flush, 15),
+            (Action::CutFlush, 2),
+            (Action::Mount, 2),
+            (Action::Format, 1),
+            (Action::Lend, 1),
+            (Action::Damage, 1),
+        ],
+        segments: (1, 9),
+        lines: (400, 1_200),
+    },
     // Formattings and remounts.
     Profile {
         actions: &[
+            (Action::Conflict, 4),
             (Action::CutFormat, 12),
             (Action::Format, 6),
             (Action::Mount, 12),
@@ -320,22 +343,25 @@ pub fn generate<'a>(seed: u64, lines: Option<usize>, observer: &'a mut Observer<
     generator.write_script();
 }
 
-/// A script in which the conflict count stops at 65,535. Four units at a time delete the only list; then someone else
-/// takes it off the card, so that none of them applies, and puts it back. So the log doesn't grow.
+/// A script in which the conflict count of window 16 stops at 65,535, and those of its neighbours go on. Four units at a
+/// time delete the only list; then someone else takes it off the card, so that none of them applies, and puts it back. So
+/// the log doesn't grow.
 pub fn conflicts_script() -> String {
-    const ROUNDS: usize = 65_540 / 4;
+    const ROUNDS: usize = 65_580 / 4;
     let mut script = "card 4096 0\nformat\nnewlist 0\nflush 65535\n".to_string();
     for round in 0..ROUNDS {
-        script += "begin 1\nbegin 2\nbegin 3\nbegin 4\n";
+        let looks = round % 1_000 == 0 || round + 5 > ROUNDS;
+        let others = if looks { (15, 1) } else { (16, 16) };
+        script += &format!("begin 1 {}\nbegin 2 16\nbegin 3 16\nbegin 4 {}\n", others.0, others.1);
         script += "dellist 1 1\ndellist 2 1\ndellist 3 1\ndellist 4 1\n";
         script += "poke 3584 0\n";
         script += "end 1\nend 2\nend 3\nend 4\n";
         script += "poke 3584 1\n";
-        if round % 1_000 == 0 || round + 5 > ROUNDS {
-            script += "conflicts\n";
+        if looks {
+            script += "conflicts 16\nconflicts 15\nconflicts\n";
         }
     }
-    script + "mount\nconflicts\n"
+    script + "mount\nconflicts 16\nconflicts 15\nconflicts\n"
 }
 
 impl Generator<'_> {
@@ -385,6 +411,7 @@ impl Generator<'_> {
             Action::Unwritten => self.unwritten(),
             Action::Pages => self.pages(),
             Action::LongestPage => self.longest_page(),
+            Action::Windows => self.windows(),
             Action::Flush => self.flush(),
             Action::CutFlush => self.cut_flush(),
             Action::Cut => self.cut(),
@@ -404,7 +431,7 @@ impl Generator<'_> {
     /// Any single call, for times at which it is likely to be refused.
     fn any_call(&mut self) {
         let stream = self.stream();
-        match self.random.below(17) {
+        match self.random.below(18) {
             0 => self.new_list(stream),
             1..=2 => self.new_block(stream),
             3..=4 => self.write(stream),
@@ -416,6 +443,7 @@ impl Generator<'_> {
             13 => self.flush(),
             14 => self.cut_flush(),
             15 => self.page(),
+            16 => self.conflicts(),
             _ => self.show(),
         }
     }
@@ -450,8 +478,10 @@ impl Generator<'_> {
 
     /// Goes on where calls are refused 1 or 3: mounts, formats, lends everything again.
     fn recover(&mut self) {
-        if self.random.chance(30) {
-            return self.any_call();
+        match self.random.below(10) {
+            0..=1 => return self.any_call(),
+            2 => return self.wrong_call(),
+            _ => {}
         }
         if self.random.chance(60) {
             self.run(format_args!("lend all"));

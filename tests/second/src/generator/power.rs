@@ -53,6 +53,9 @@ impl Generator<'_> {
         if self.random.chance(80) {
             self.run(format_args!("mount"));
         }
+        if self.random.chance(10) {
+            self.conflicts();
+        }
         if self.random.chance(50) {
             let view = self.random.pick(&[0, 5]);
             self.run(format_args!("show {view}"));
@@ -71,7 +74,7 @@ impl Generator<'_> {
     }
 
     pub(super) fn mount(&mut self) {
-        self.run(format_args!("mount"));
+        self.with_counts_after(|script| script.run(format_args!("mount")).ignore());
         if self.random.chance(30) {
             self.run(format_args!("show 0"));
             self.run(format_args!("sum"));
@@ -98,6 +101,6 @@ impl Generator<'_> {
             self.run(format_args!("list"));
             return self.new_card();
         }
-        self.run(format_args!("format"));
+        self.with_counts_after(|script| script.run(format_args!("format")).ignore());
     }
 }

@@ -1,8 +1,8 @@
 -- The journal laid over the committed state tells whether every entry applies. Assumes nothing.
-use mathlib.Core.Path.{sym, ap, _∙_}
+use mathlib.Core.Path.{sym, _∙_}
 use borrow.Author.Tests.{not-true, not-false}
 use native.Mathlib.Omega.{arith}
-use Rattle.disk.specs.Record.{Record, recordIn, conflictCounted}
+use Rattle.disk.specs.Record.{recordIn, conflictCounted}
 use Rattle.calls.proofs.Ending.{ends-conflict, ends-full, ends-accepted}
 use borrow.Author.Needs.{needs}
 use Rattle.calls.proofs.end.end_unit.Statement.{statement}
@@ -11,18 +11,26 @@ use Rattle.calls.proofs.end.end_unit.Tie as tie
 enter-journal-requires : tie.Need-enter-journal-requires
 enter-journal-requires c κs = search needs
 
+window-requires : tie.Need-window-requires
+window-requires c κs = search needs
+
 close-requires : tie.Need-close-requires
 close-requires c κs = search needs
+
+cast-count-conflict : tie.Need-cast-count-conflict
+cast-count-conflict c = search needs
 
 count-conflict-requires : tie.Need-count-conflict-requires
 count-conflict-requires c κs = search needs
 
 returns : tie.Need-returns
 returns c st sh =
-    let a = c .before .before .before .before .before .before .before .before .before .before .args in
-    let j = c .before .before .before .before .before .enter-journal in
-    ends-conflict (a .queue-data .now) (a .journal-data .now) (recordIn (a .rec .now)) (a .u) _ (recordIn (c .count-conflict .last .0)) (sym (j .ensures .answer st sh) ∙ not-true (j .result) (c .before .before .before .before .if1 .taken))
-    (c .count-conflict .ensures ∙ ap (λ (r : Record). conflictCounted r) (c .before .before .close .ensures))
+    let w = c .before .before .before .before in
+    let f = w .before .before in
+    let j = f .before .enter-journal in
+    let a = f .before .before .before .before .before .before .args in
+    ends-conflict (a .queue-data .now) (a .journal-data .now) (recordIn (a .rec .now)) (a .u) _ (recordIn (c .count-conflict .last .0)) (sym (j .ensures .answer st sh) ∙ not-true (j .result) (f .if1 .taken))
+    (c .count-conflict .ensures ∙ (λ i. conflictCounted (w .window .ensures i) (c .before .before .close .ensures i)))
 
 len-requires : tie.Need-len-requires
 len-requires c κs = search needs
@@ -61,7 +69,9 @@ end-unit-spec =
     tie.close
     (tie.spec
     enter-journal-requires
+    window-requires
     close-requires
+    cast-count-conflict
     count-conflict-requires
     returns
     len-requires

@@ -51,8 +51,8 @@ flush-requires c κs = search needs
 put-flushed-requires : tie.Need-put-flushed-requires
 put-flushed-requires c κs = search needs
 
-enum-told-3 : tie.Need-enum-told-3
-enum-told-3 c = search needs
+enum-known-q-4 : tie.Need-enum-known-q-4
+enum-known-q-4 c = search needs
 
 conflicts-requires : tie.Need-conflicts-requires
 conflicts-requires c κs = search needs
@@ -60,14 +60,14 @@ conflicts-requires c κs = search needs
 put-numbered-requires : tie.Need-put-numbered-requires
 put-numbered-requires c κs = search needs
 
-enum-known-q-4 : tie.Need-enum-known-q-4
-enum-known-q-4 c = search needs
+enum-known-q-5 : tie.Need-enum-known-q-5
+enum-known-q-5 c = search needs
 
 edit-requires : tie.Need-edit-requires
 edit-requires c κs = search needs
 
-enum-known-q-5 : tie.Need-enum-known-q-5
-enum-known-q-5 c = search needs
+enum-known-q-6 : tie.Need-enum-known-q-6
+enum-known-q-6 c = search needs
 
 look-requires : tie.Need-look-requires
 look-requires c κs = search needs
@@ -172,7 +172,7 @@ same-length-24 c = search needs
 returns-6 : tie.Need-returns-6
 unfolding callOf lineOf
 returns-6 c =
-    rw (c .before .before .before .before .before .before .before .before .before .enum-told3 .given .1) (calls (c .before .before .before .before .conflicts .ensures) (c .before .before .put-numbered .ensures))
+    rw (c .before .before .before .before .before .before .before .before .before .before .q4 .given .1) (calls (c .before .before .before .before .conflicts .ensures) (c .before .before .put-numbered .ensures))
 
 same-length-25 : tie.Need-same-length-25
 same-length-25 c = search needs
@@ -188,7 +188,7 @@ same-length-28 c = search needs
 
 returns-7 : tie.Need-returns-7
 unfolding callOf
-returns-7 c = rw (c .before .before .before .before .before .before .before .before .before .before .before .before .before .q4 .given .1) (c .before .before .before .before .before .before .edit .ensures)
+returns-7 c = rw (c .before .before .before .before .before .before .before .before .before .before .before .before .before .q5 .given .1) (c .before .before .before .before .before .before .edit .ensures)
 
 same-length-29 : tie.Need-same-length-29
 same-length-29 c = search needs
@@ -204,7 +204,7 @@ same-length-32 c = search needs
 
 returns-8 : tie.Need-returns-8
 unfolding callOf
-returns-8 c = rw (c .before .before .before .before .before .before .before .before .before .q5 .given .1) (c .before .before .look .ensures)
+returns-8 c = rw (c .before .before .before .before .before .before .before .before .before .q6 .given .1) (c .before .before .look .ensures)
 
 pub call-spec : {M : Type 1} → statement M
 call-spec =
@@ -225,12 +225,12 @@ call-spec =
     enum-known-q-3
     flush-requires
     put-flushed-requires
-    enum-told-3
+    enum-known-q-4
     conflicts-requires
     put-numbered-requires
-    enum-known-q-4
-    edit-requires
     enum-known-q-5
+    edit-requires
+    enum-known-q-6
     look-requires
     same-length
     same-length-2

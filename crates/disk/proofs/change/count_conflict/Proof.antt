@@ -1,9 +1,9 @@
--- The two bytes of the count. Assumes nothing.
-use mathlib.Core.Path.{_≡_, refl, sym, ap, _∙_}
+-- The two bytes of the window's count. Assumes nothing.
+use mathlib.Core.Path.{_≡_, ap, _∙_}
 use Prim.Native.Nat.{ℕ, _+_, _-_, _*_, _/_, _%_, min}
 use native.Mathlib.Omega.{arith}
-use Rattle.disk.proofs.Bytes.{conflicts-in}
-use Rattle.disk.specs.Record.{recordIn, withConflicts}
+use Rattle.disk.specs.Record.{recordIn, countOf, withCount}
+use Rattle.disk.proofs.Bytes.{count-in}
 use borrow.Author.Needs.{needs}
 use Rattle.disk.proofs.change.count_conflict.Statement.{statement}
 use Rattle.disk.proofs.change.count_conflict.Tie as tie
@@ -14,8 +14,17 @@ sized-requires c κs = search needs
 conflicts-requires : tie.Need-conflicts-requires
 conflicts-requires c κs = search needs
 
-add-m : tie.Need-add-m
-add-m c = search needs
+raised-requires : tie.Need-raised-requires
+raised-requires c κs = search needs
+
+sub-i : tie.Need-sub-i
+sub-i c = search needs
+
+mul-i : tie.Need-mul-i
+mul-i c = search needs
+
+add-i : tie.Need-add-i
+add-i c = search needs
 
 cast-rec : tie.Need-cast-rec
 cast-rec c = search needs
@@ -34,17 +43,11 @@ element-write-rec-2 c = search needs
 
 returns : tie.Need-returns
 returns c =
+    let n = c .raised in
+    let e : n .result % 256 + 256 * (n .result / 256) ≡ min 65535 (countOf (recordIn (c .before .before .before .before .before .args .rec .now)) (c .before .before .before .before .before .args .w) + 1) =
+    omega (arith, n .ensures, c .before .conflicts .ensures) in
     let a = c .before .before .before .before .before .args in
-    let n = c .before .conflicts in
-    let e : (n .result + 1) % 256 + 256 * ((n .result + 1) / 256) ≡ min 65535 (recordIn (a .rec .now) .tally .conflicts + 1) = omega (arith, n .ensures) in
-    conflicts-in (a .rec .now) (c .before .before .before .sized .ensures) _ _ ∙ ap (withConflicts (recordIn (a .rec .now))) e
-
-returns-2 : tie.Need-returns-2
-returns-2 c =
-    let a = c .before .before .before .before .before .args in
-    let n = c .before .conflicts in
-    let e : recordIn (a .rec .now) .tally .conflicts ≡ min 65535 (recordIn (a .rec .now) .tally .conflicts + 1) = omega (arith, n .ensures) in
-    ap (withConflicts (recordIn (a .rec .now))) e
+    count-in (a .rec .now) (c .before .before .before .sized .ensures) (a .w - 1) _ _ (omega arith) ∙ ap (withCount (recordIn (a .rec .now)) (a .w)) e
 
 pub count-conflict-spec : {M : Type 1} → statement M
 count-conflict-spec =
@@ -52,11 +55,13 @@ count-conflict-spec =
     (tie.spec
     sized-requires
     conflicts-requires
-    add-m
+    raised-requires
+    sub-i
+    mul-i
+    add-i
     cast-rec
     element-write-rec
     cast-rec-2
     add-rec
     element-write-rec-2
-    returns
-    returns-2)
+    returns)

@@ -1,4 +1,4 @@
--- The five tests are the definition's. Assumes nothing.
+-- The four tests are the definition's. Assumes nothing.
 use Rattle.disk.specs.Record.{recordIn}
 use Rattle.inspect.proofs.Judging.{numbers-all}
 use borrow.Author.Needs.{needs}
@@ -29,23 +29,17 @@ is-list-requires c κs = search needs
 both-requires-2 : tie.Need-both-requires-2
 both-requires-2 c κs = search needs
 
-conflicts-requires : tie.Need-conflicts-requires
-conflicts-requires c κs = search needs
-
 both-requires-3 : tie.Need-both-requires-3
 both-requires-3 c κs = search needs
 
-both-requires-4 : tie.Need-both-requires-4
-both-requires-4 c κs = search needs
-
 returns : tie.Need-returns
 returns c =
-    let k = c .before .before .before in
+    let k = c .before in
     let b = k .before .before .before in
     let h = b .before .before .before in
-    rw (c .both4 .ensures, b .before .before .both .ensures, c .before .both3 .ensures, k .both2 .ensures)
+    rw (c .both3 .ensures, b .before .before .both .ensures, k .both2 .ensures)
     (rw (b .is-block .ensures, k .before .is-list .ensures, h .before .len .ensures, h .head .ensures)
-    (rw (b .before .last-block .ensures, k .before .before .last-list .ensures, c .before .before .conflicts .ensures)
+    (rw (b .before .last-block .ensures, k .before .before .last-list .ensures)
     (numbers-all (recordIn (h .before .before .args .rec .now)))))
 
 pub numbers-right-spec : {M : Type 1} → statement M
@@ -60,7 +54,5 @@ numbers-right-spec =
     last-list-requires
     is-list-requires
     both-requires-2
-    conflicts-requires
     both-requires-3
-    both-requires-4
     returns)

@@ -55,15 +55,12 @@ slice-aggregate-is-word-4 c = search needs
 is-word-requires-4 : tie.Need-is-word-requires-4
 is-word-requires-4 c κs = search needs
 
-one-number-requires : tie.Need-one-number-requires
-one-number-requires c κs = search needs
-
 begin-requires : tie.Need-begin-requires
 begin-requires c κs = search needs
 
 returns-4 : tie.Need-returns-4
 unfolding named firstRows pick bytes same
-returns-4 c = rw (sym (c .before .before .before .before .before .before .before .before .before .before .before .before .is-word .ensures) ∙ c .before .before .before .before .before .before .before .before .before .before .before .if1 .left, sym (c .before .before .before .before .before .before .before .before .before .is-word2 .ensures) ∙ c .before .before .before .before .before .before .before .before .if2 .left, sym (c .before .before .before .before .before .before .is-word3 .ensures) ∙ c .before .before .before .before .before .if3 .left, sym (c .before .before .before .is-word4 .ensures) ∙ c .before .before .if4 .taken, ← (c .before .one-number .ensures)) (c .begin .ensures)
+returns-4 c = rw (sym (c .before .before .before .before .before .before .before .before .before .before .before .is-word .ensures) ∙ c .before .before .before .before .before .before .before .before .before .before .if1 .left, sym (c .before .before .before .before .before .before .before .before .is-word2 .ensures) ∙ c .before .before .before .before .before .before .before .if2 .left, sym (c .before .before .before .before .before .is-word3 .ensures) ∙ c .before .before .before .before .if3 .left, sym (c .before .before .is-word4 .ensures) ∙ c .before .if4 .taken) (c .begin .ensures)
 
 slice-aggregate-is-word-5 : tie.Need-slice-aggregate-is-word-5
 slice-aggregate-is-word-5 c = search needs
@@ -71,15 +68,15 @@ slice-aggregate-is-word-5 c = search needs
 is-word-requires-5 : tie.Need-is-word-requires-5
 is-word-requires-5 c κs = search needs
 
-one-number-requires-2 : tie.Need-one-number-requires-2
-one-number-requires-2 c κs = search needs
+one-number-requires : tie.Need-one-number-requires
+one-number-requires c κs = search needs
 
 end-requires : tie.Need-end-requires
 end-requires c κs = search needs
 
 returns-5 : tie.Need-returns-5
 unfolding named firstRows pick bytes same
-returns-5 c = rw (sym (c .before .before .before .before .before .before .before .before .before .before .before .before .before .before .before .is-word .ensures) ∙ c .before .before .before .before .before .before .before .before .before .before .before .before .before .before .if1 .left, sym (c .before .before .before .before .before .before .before .before .before .before .before .before .is-word2 .ensures) ∙ c .before .before .before .before .before .before .before .before .before .before .before .if2 .left, sym (c .before .before .before .before .before .before .before .before .before .is-word3 .ensures) ∙ c .before .before .before .before .before .before .before .before .if3 .left, sym (c .before .before .before .before .before .before .is-word4 .ensures) ∙ c .before .before .before .before .before .if4 .left, sym (c .before .before .before .is-word5 .ensures) ∙ c .before .before .if5 .taken, ← (c .before .one-number2 .ensures)) (c .end .ensures)
+returns-5 c = rw (sym (c .before .before .before .before .before .before .before .before .before .before .before .before .before .before .before .is-word .ensures) ∙ c .before .before .before .before .before .before .before .before .before .before .before .before .before .before .if1 .left, sym (c .before .before .before .before .before .before .before .before .before .before .before .before .is-word2 .ensures) ∙ c .before .before .before .before .before .before .before .before .before .before .before .if2 .left, sym (c .before .before .before .before .before .before .before .before .before .is-word3 .ensures) ∙ c .before .before .before .before .before .before .before .before .if3 .left, sym (c .before .before .before .before .before .before .is-word4 .ensures) ∙ c .before .before .before .before .before .if4 .left, sym (c .before .before .before .is-word5 .ensures) ∙ c .before .before .if5 .taken, ← (c .before .one-number .ensures)) (c .end .ensures)
 
 slice-aggregate-is-word-6 : tie.Need-slice-aggregate-is-word-6
 slice-aggregate-is-word-6 c = search needs
@@ -87,15 +84,15 @@ slice-aggregate-is-word-6 c = search needs
 is-word-requires-6 : tie.Need-is-word-requires-6
 is-word-requires-6 c κs = search needs
 
-one-number-requires-3 : tie.Need-one-number-requires-3
-one-number-requires-3 c κs = search needs
+one-number-requires-2 : tie.Need-one-number-requires-2
+one-number-requires-2 c κs = search needs
 
 new-list-requires : tie.Need-new-list-requires
 new-list-requires c κs = search needs
 
 returns-6 : tie.Need-returns-6
 unfolding named firstRows pick bytes same
-returns-6 c = rw (sym (c .before .before .before .before .before .before .before .before .before .before .before .before .before .before .before .before .before .before .is-word .ensures) ∙ c .before .before .before .before .before .before .before .before .before .before .before .before .before .before .before .before .before .if1 .left, sym (c .before .before .before .before .before .before .before .before .before .before .before .before .before .before .before .is-word2 .ensures) ∙ c .before .before .before .before .before .before .before .before .before .before .before .before .before .before .if2 .left, sym (c .before .before .before .before .before .before .before .before .before .before .before .before .is-word3 .ensures) ∙ c .before .before .before .before .before .before .before .before .before .before .before .if3 .left, sym (c .before .before .before .before .before .before .before .before .before .is-word4 .ensures) ∙ c .before .before .before .before .before .before .before .before .if4 .left, sym (c .before .before .before .before .before .before .is-word5 .ensures) ∙ c .before .before .before .before .before .if5 .left, sym (c .before .before .before .is-word6 .ensures) ∙ c .before .before .if6 .taken, ← (c .before .one-number3 .ensures)) (c .new-list .ensures)
+returns-6 c = rw (sym (c .before .before .before .before .before .before .before .before .before .before .before .before .before .before .before .before .before .before .is-word .ensures) ∙ c .before .before .before .before .before .before .before .before .before .before .before .before .before .before .before .before .before .if1 .left, sym (c .before .before .before .before .before .before .before .before .before .before .before .before .before .before .before .is-word2 .ensures) ∙ c .before .before .before .before .before .before .before .before .before .before .before .before .before .before .if2 .left, sym (c .before .before .before .before .before .before .before .before .before .before .before .before .is-word3 .ensures) ∙ c .before .before .before .before .before .before .before .before .before .before .before .if3 .left, sym (c .before .before .before .before .before .before .before .before .before .is-word4 .ensures) ∙ c .before .before .before .before .before .before .before .before .if4 .left, sym (c .before .before .before .before .before .before .is-word5 .ensures) ∙ c .before .before .before .before .before .if5 .left, sym (c .before .before .before .is-word6 .ensures) ∙ c .before .before .if6 .taken, ← (c .before .one-number2 .ensures)) (c .new-list .ensures)
 
 slice-aggregate-is-word-7 : tie.Need-slice-aggregate-is-word-7
 slice-aggregate-is-word-7 c = search needs
@@ -139,17 +136,16 @@ first-rows-spec =
     returns-3
     slice-aggregate-is-word-4
     is-word-requires-4
-    one-number-requires
     begin-requires
     returns-4
     slice-aggregate-is-word-5
     is-word-requires-5
-    one-number-requires-2
+    one-number-requires
     end-requires
     returns-5
     slice-aggregate-is-word-6
     is-word-requires-6
-    one-number-requires-3
+    one-number-requires-2
     new-list-requires
     returns-6
     slice-aggregate-is-word-7

@@ -103,12 +103,15 @@ slice-aggregate-is-word-7 c = search needs
 is-word-requires-7 : tie.Need-is-word-requires-7
 is-word-requires-7 c κs = search needs
 
-alone-requires : tie.Need-alone-requires
-alone-requires c κs = search needs
+window-requires : tie.Need-window-requires
+window-requires c κs = search needs
+
+conflicts-requires : tie.Need-conflicts-requires
+conflicts-requires c κs = search needs
 
 returns-7 : tie.Need-returns-7
 unfolding middleNamed middleRows pick bytes same
-returns-7 c = rw (sym (c .before .before .before .before .before .before .before .before .before .before .before .before .before .before .before .before .before .before .before .before .is-word .ensures) ∙ c .before .before .before .before .before .before .before .before .before .before .before .before .before .before .before .before .before .before .before .if1 .left, sym (c .before .before .before .before .before .before .before .before .before .before .before .before .before .before .before .before .before .is-word2 .ensures) ∙ c .before .before .before .before .before .before .before .before .before .before .before .before .before .before .before .before .if2 .left, sym (c .before .before .before .before .before .before .before .before .before .before .before .before .before .before .is-word3 .ensures) ∙ c .before .before .before .before .before .before .before .before .before .before .before .before .before .if3 .left, sym (c .before .before .before .before .before .before .before .before .before .before .before .is-word4 .ensures) ∙ c .before .before .before .before .before .before .before .before .before .before .if4 .left, sym (c .before .before .before .before .before .before .before .before .is-word5 .ensures) ∙ c .before .before .before .before .before .before .before .if5 .left, sym (c .before .before .before .before .before .is-word6 .ensures) ∙ c .before .before .before .before .if6 .left, sym (c .before .before .is-word7 .ensures) ∙ c .before .if7 .taken) (c .alone .ensures)
+returns-7 c = rw (sym (c .before .before .before .before .before .before .before .before .before .before .before .before .before .before .before .before .before .before .before .before .before .is-word .ensures) ∙ c .before .before .before .before .before .before .before .before .before .before .before .before .before .before .before .before .before .before .before .before .if1 .left, sym (c .before .before .before .before .before .before .before .before .before .before .before .before .before .before .before .before .before .before .is-word2 .ensures) ∙ c .before .before .before .before .before .before .before .before .before .before .before .before .before .before .before .before .before .if2 .left, sym (c .before .before .before .before .before .before .before .before .before .before .before .before .before .before .before .is-word3 .ensures) ∙ c .before .before .before .before .before .before .before .before .before .before .before .before .before .before .if3 .left, sym (c .before .before .before .before .before .before .before .before .before .before .before .before .is-word4 .ensures) ∙ c .before .before .before .before .before .before .before .before .before .before .before .if4 .left, sym (c .before .before .before .before .before .before .before .before .before .is-word5 .ensures) ∙ c .before .before .before .before .before .before .before .before .if5 .left, sym (c .before .before .before .before .before .before .is-word6 .ensures) ∙ c .before .before .before .before .before .if6 .left, sym (c .before .before .before .is-word7 .ensures) ∙ c .before .before .if7 .taken, ← (c .before .window .ensures)) (c .conflicts .ensures)
 
 last-rows-requires : tie.Need-last-rows-requires
 last-rows-requires c κs = search needs
@@ -151,7 +154,8 @@ middle-rows-spec =
     returns-6
     slice-aggregate-is-word-7
     is-word-requires-7
-    alone-requires
+    window-requires
+    conflicts-requires
     returns-7
     last-rows-requires
     returns-8)
