@@ -13,7 +13,7 @@ use Rattle.lists.specs.promises.Tables.{Tables, OfShown}
 use Rattle.lists.proofs.Basic.{eqb-false, le-true, lt-true, gt-false, ge-false}
 use Rattle.log.specs.declared.entry.LogEntry.{LogEntry}
 use Rattle.log.specs.declared.entry.LogEntry.the-variants.{DeleteBlock, DeleteList}
-use Rattle.log.specs.Card.{Content}
+use Rattle.log.specs.Card.{Written}
 use Rattle.log.specs.Entry.{plain, mapEntry, raw, carried, hasMember, isBlock, isList, asEntry}
 use Rattle.log.specs.Cell.{cellOf}
 use Rattle.disk.specs.Record.{Record, unitAt}
@@ -56,11 +56,11 @@ module _ (d : Disk) (r : Record) (s : ℕ) (e : d .rec ≡ r) where
   journal-takes z l = rw (eqb-false s 0 z, e) (lt-true (unitAt r s .len) 15 l, refl)
 
 -- entry e says change c
-abbrev pub Says : LogEntry → Change Content → Type 0
+abbrev pub Says : LogEntry → Change Written → Type 0
 Says e c = cellOf (plain c) ≡ cellOf (asEntry false e)
 
 -- the disk with a change that carries no data
-pub change-added : (s : ℕ) (c : Change Content) (e : LogEntry) (d : Disk) → carriedBy c ≡ none → Says e c → change s c d ≡ withRecord d (added s e (d .rec))
+pub change-added : (s : ℕ) (c : Change Written) (e : LogEntry) (d : Disk) → carriedBy c ≡ none → Says e c → change s c d ≡ withRecord d (added s e (d .rec))
 unfolding change enqueue journalAdd carried added unitOf spliceSome
 change-added zero c e d h w = rw (h, w)
 change-added (suc u) c e d h w = rw (h, w, eqb·suc-zero u)
@@ -101,7 +101,7 @@ module _ (k : Call) (d : Disk) (s : ℕ) (e : LogEntry) (n : ℕ) (p q : Bool) (
       go Accepted y = (y .0, asked ∙ y .1 d refl)
 
 -- a change that carries no data
-pub decides-performs : (k : Call) (d : Disk) (s : ℕ) (c : Change Content) (e : LogEntry) (a : Reply) (r : Record) → Usual k → destination k ≡ [] → carriedBy c ≡ none → Says e c
+pub decides-performs : (k : Call) (d : Disk) (s : ℕ) (c : Change Written) (e : LogEntry) (a : Reply) (r : Record) → Usual k → destination k ≡ [] → carriedBy c ≡ none → Says e c
     → accepted k d ≡ reply (change s c d) 0 0 [] → Decides k d s e a r → Performs k d (withRecord d r) (replyAnswer a) []
 unfolding replyAnswer
 decides-performs k d s c e (Refused x) r u t n w y h = rw (h .0, ← t) (usual-performs-refused k d x u (h .1))

@@ -13,7 +13,7 @@ use Rattle.log.specs.declared.entry.LogEntry.{LogEntry}
 use Rattle.log.specs.declared.place.Place.{Place}
 use Rattle.log.specs.Entry.{Entry}
 use Rattle.log.specs.Cell.{memberIn, entryIn}
-use Rattle.log.specs.Card.{Content, slot, segmentsIn}
+use Rattle.log.specs.Card.{Content, Written, slot, segmentsIn}
 use Rattle.log.specs.Store.{home, tail, entryStores}
 use Rattle.log.specs.Flush.{Flushed, Ending, drained, full, spent, nextStore, flushFrom}
 use Rattle.log.specs.promises.Within.{Within}
@@ -47,7 +47,7 @@ abbrev pub dataAt : List ℕ → ℕ → Content
 dataAt q i = take (256 * i + 256 - 256 * i) (drop (256 * i) q)
 
 -- the queue's entry i, as the code meets it
-abbrev pub entryHere : List ℕ → Record → ℕ → Entry Content
+abbrev pub entryHere : List ℕ → Record → ℕ → Entry Written
 entryHere q r i = let x = getD (r .ring .queue) (ringPlace r i) noCell in going (dataAt q (ringPlace r i)) (memberIn x) (entryIn x)
 
 -- it is a place's data, and its stores are few
@@ -62,12 +62,12 @@ pub entry-met : (q : List ℕ) (r : Record) (first i : ℕ) (m : Bool) (e : LogE
     → (let x = getD (r .ring .queue) ((first + i) % 32) noCell in m ≡ memberIn x → e ≡ entryIn x → going (dataAt q ((first + i) % 32)) m e ≡ entryHere q r i)
 entry-met q r first i m e f a b = rw (a, b, f)
 
-pub heads-met : (c : List ℕ) (p : Place) (x y : Entry Content) (k a : ℕ) (h : Headed) (c′ : List ℕ) → x ≡ y → Heads c p x k a h c′ → Heads c p y k a h c′
-heads-met c p x y k a h c′ e = subst (λ (z : Entry Content). Heads c p z k a h c′) e
+pub heads-met : (c : List ℕ) (p : Place) (x y : Entry Written) (k a : ℕ) (h : Headed) (c′ : List ℕ) → x ≡ y → Heads c p x k a h c′ → Heads c p y k a h c′
+heads-met c p x y k a h c′ e = subst (λ (z : Entry Written). Heads c p z k a h c′) e
 
 module _ (c q : List ℕ) (r : Record) where
   -- the queue when i entries have left it
-  unfoldable pub rest : ℕ → List (Entry Content)
+  unfoldable pub rest : ℕ → List (Entry Written)
   rest i = from (queuedAt (disk c q [] r)) i (r .ring .len - i)
 
   entry-here : (i : ℕ) → queuedAt (disk c q [] r) i ≡ entryHere q r i
@@ -107,7 +107,7 @@ module _ (c q : List ℕ) (r : Record) where
       pub inside : p′ .segment < segmentsIn c
       pub begun : gone < r .ring .len → k < length (entryStores p′ (entryHere q r gone))
       pub small : k < 65536
-      pub segs : List (List (Entry Content))
+      pub segs : List (List (Entry Written))
       pub flows : Flows c′ segs (rest gone) k
       pub place : p′ ≡ endOf segs
       pub onward : flushFrom (segmentsIn c) left (a - left) (flow c′ p′ (rest gone) k) ≡ whole
@@ -127,7 +127,7 @@ module _ (c q : List ℕ) (r : Record) where
           begun = λ l. rw (entry-here 0) at (f .begun l);
           small = go (decLt 0 (r .ring .len));
           segs = o .segs;
-          flows = subst (λ (es : List (Entry Content)). Flows c (o .segs) es (r .ring .done)) (queue-whole (f .journalData)) (o .flows);
+          flows = subst (λ (es : List (Entry Written)). Flows c (o .segs) es (r .ring .done)) (queue-whole (f .journalData)) (o .flows);
           place = f .place ∙ tail-end c (o .segs) (o .flows .carries);
           onward = rw i;
         }
@@ -145,7 +145,7 @@ module _ (c q : List ℕ) (r : Record) where
 
       module _ (l : gone < r .ring .len) where
         flows-here : Flows c′ (g .segs) (entryHere q r gone ∷ rest (gone + 1)) k
-        flows-here = subst (λ (es : List (Entry Content)). Flows c′ (g .segs) es k) (rest-step gone l) (g .flows)
+        flows-here = subst (λ (es : List (Entry Written)). Flows c′ (g .segs) es k) (rest-step gone l) (g .flows)
 
         home-here : (h : Place) → home (segmentsIn c′) p′ (entryHere q r gone) ≡ some h → home (length (g .segs)) (endOf (g .segs)) (entryHere q r gone) ≡ some h
         home-here h v = (λ i. home (sym (carries-segments c′ (g .segs) (g .flows .carries)) i) (sym (g .place) i) (entryHere q r gone)) ∙ v
@@ -170,7 +170,7 @@ module _ (c q : List ℕ) (r : Record) where
               flows = rw (h .card) (flows-last (g .segs) e (rest (gone + 1)) (h .place) v k c′ flows-here);
               place = h .behind ∙ sym (end-add (head-at c′ (g .segs) e (rest (gone + 1)) k flows-here (h .place) v) (g .flows .carries .packed));
               onward = sym (rw (segments-same, i) at (h .onward (rest (gone + 1)) (a - left)))
-                  ∙ ap (λ (es : List (Entry Content)). flushFrom (segmentsIn c) left (a - left) (flow c′ p′ es k)) (sym (rest-step gone l)) ∙ g .onward;
+                  ∙ ap (λ (es : List (Entry Written)). flushFrom (segmentsIn c) left (a - left) (flow c′ p′ es k)) (sym (rest-step gone l)) ∙ g .onward;
             }
 
     -- The endings: the flush whole, and what the definition makes of the disk by it.
@@ -215,7 +215,7 @@ module _ (c q : List ℕ) (r : Record) where
             ends j c″ p′ gone k″ a spent (f .place) (g .among) (whole-ends c″ k″ a spent (rw i at (h .1 (rest (gone + 1)) (a - left))))
 
 -- A sound disk can be flushed from the place behind its log: the head's stores that are done are fewer than it takes, wherever it goes.
-ready-begun : (o : Option Place) (e : Entry Content) (k : ℕ) (p : Place) → ReadyHead o e k → k < length (entryStores p e)
+ready-begun : (o : Option Place) (e : Entry Written) (k : ℕ) (p : Place) → ReadyHead o e k → k < length (entryStores p e)
 ready-begun none e k p h = omega (arith, entry-stores-length p e)
 ready-begun (some x) e k p h = omega (arith, entry-stores-length p e, entry-stores-length x e, raw-length (p .slots) e, raw-length (x .slots) e)
 

@@ -17,7 +17,7 @@ use Rattle.lists.proofs.Basic.{from-step, from-none, all-from, le-true, gt-fals
 use Rattle.log.proofs.entry.LogEntry.{the-type}
 use Rattle.log.specs.declared.entry.LogEntry.{LogEntry}
 use Rattle.log.specs.declared.entry.LogEntry.the-variants.{Take, PutFirst, PutAfter, Write, DeleteBlock, DeleteList, Commit}
-use Rattle.log.specs.Card.{Content, slot, slotBytes, splice}
+use Rattle.log.specs.Card.{Written, slot, slotBytes, splice}
 use Rattle.log.specs.Entry.{member, commit, mapEntry, carried, raw, legal, hasMember, asChange, asEntry}
 use Rattle.log.specs.Cell.{cellOf, entryIn}
 use Rattle.disk.specs.Record.{Unit, Record, noCell, noUnit, ringPlace, unitAt, appended, conflictCounted}
@@ -50,10 +50,10 @@ module _ (q j : List ℕ) (r : Record) (k : ℕ) where
   abbrev queuedAs : LogEntry → Record
   queuedAs e = appended (cellOf (asEntry true e)) r
 
-  pub member-write : (b s : ℕ) (q′ : List ℕ) (r′ : Record) → q′ ≡ splice q (slotBytes * ringPlace r (r .ring .len)) (slot j k) → r′ ≡ queuedAs (Write b 0)
-      → QueuesMember q j r (Write b s) k q′ r′
+  pub member-write : (b s n : ℕ) (q′ : List ℕ) (r′ : Record) → q′ ≡ splice q (slotBytes * ringPlace r (r .ring .len)) (slot j k) → r′ ≡ queuedAs (Write b 0 n)
+      → QueuesMember q j r (Write b s n) k q′ r′
   unfolding enqueue mapChange asChange carried carriedBy spliceSome cellOf raw mapEntry asEntry
-  member-write b s q′ r′ h g c = rw (h, g)
+  member-write b s n q′ r′ h g c = rw (h, g)
 
   no-write : OneOf (0 ∷ 1 ∷ 2 ∷ 4 ∷ 5 ∷ 6 ∷ []) 3 → ⊥
   no-write (inl e) = omega arith
@@ -70,7 +70,7 @@ module _ (q j : List ℕ) (r : Record) (k : ℕ) where
   member-other (Take l) r′ t h g c = absurd (false≢true h)
   member-other (PutFirst b l) r′ t h g c = rw g
   member-other (PutAfter b l p) r′ t h g c = rw g
-  member-other (Write b s) r′ t h g c = absurd (no-write t)
+  member-other (Write b s n) r′ t h g c = absurd (no-write t)
   member-other (DeleteBlock b) r′ t h g c = rw g
   member-other (DeleteList l) r′ t h g c = rw g
   member-other (Commit n) r′ t h g c = absurd (false≢true h)
@@ -136,7 +136,7 @@ module _ (q₀ j : List ℕ) (u : ℕ) (r₀ : Record) (q : List ℕ) (r : Recor
             let n = unitAt r₀ u .len in
             let es = map member (from (journalAt d u) (k + 1) (n - (k + 1))) ++ commit n ∷ [] in
             ap (enqueueAll es) (sym (h c))
-            ∙ ap (λ (cs : List (Change Content)). enqueueAll (map member cs ++ commit n ∷ []) (disk c q j r)) (sym (from-step (journalAt d u) k n l))
+            ∙ ap (λ (cs : List (Change Written)). enqueueAll (map member cs ++ commit n ∷ []) (disk c q j r)) (sym (from-step (journalAt d u) k n l))
             ∙ a .rest c;
       }
 
@@ -147,7 +147,7 @@ module _ (q₀ j : List ℕ) (u : ℕ) (r₀ : Record) (q : List ℕ) (r : Recor
       let d = disk c q₀ j r₀ in
       let n = unitAt r₀ u .len in
       sym (a .rest c)
-      ∙ ap (λ (cs : List (Change Content)). enqueueAll (map member cs ++ commit n ∷ []) (disk c q j r)) (from-none (journalAt d u) k n l)
+      ∙ ap (λ (cs : List (Change Written)). enqueueAll (map member cs ++ commit n ∷ []) (disk c q j r)) (from-none (journalAt d u) k n l)
       ∙ ap (disk c q j) (sym e)
 
 -- The answers of End.
@@ -197,7 +197,7 @@ module _ (u : ℕ) (d : Disk) (t : Tables) (k : Admitted false d u t) where
   unfolding refusal questions endApplies queueRoom unitOf applied here
   asked =
       entered false d u t ((12, endApplies d u) ∷ (13, leb (d .rec .ring .len + (unitAt (d .rec) u .len + 1)) 32) ∷ []) k
-      ∙ rw (k .located .means, applies-here d u (k .located .here))
+      ∙ rw (k .located .means, applies-here d u (k .located .here) (stands-ready .last) (stands-ready .room))
 
   pub ends-performs : (x : Reply) (q′ : List ℕ) (r′ : Record) → Ends t (d .queueData) (d .journalData) (d .rec) u x q′ r′
       → Performs (end u) d (disk (d .card) q′ (d .journalData) r′) (replyAnswer x) []

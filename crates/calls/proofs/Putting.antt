@@ -104,7 +104,7 @@ module _ (s : ℕ) (d : Disk) (t : Tables) (k : Admitted true d s t) where
       go : (b : Bool) → cond b (mapState (contents d) here) (overlay (journalOf d s) (mapState (contents d) here))
           ≡ mapState (contents d) (cond b here (overlay (journalHere (unitAt (d .rec) s) s) here))
       go true = refl
-      go false = overlay-here d s here
+      go false = overlay-here d s here (stands-range d s t k) (unit-some d s (k .lengths) (k .sound) (stands-range d s t k) .room)
 
   free : freeBlock d ≡ freeBlockIn (d .rec) (here .lists)
   unfolding freeBlock here

@@ -7,7 +7,7 @@ use mathlib.Core.List.{List}
 use Prim.Native.Nat.{ℕ, zero, suc}
 use lib.Dec.{leb, eqb}
 use lib.ListN.{length}
-use Rattle.lists.specs.Basic.{isSome, orElse}
+use Rattle.lists.specs.Basic.{isSome}
 use Rattle.lists.specs.State.{placed}
 use Rattle.lists.specs.Lookup.{contentOf, written}
 use Rattle.lists.specs.promises.Tables.{Tables, IsBlock, OfShown, locatedAt}
@@ -15,12 +15,12 @@ use Rattle.lists.proofs.Basic.{and-true, leb-true, eqb-true}
 use Rattle.log.specs.Entry.{isBlock}
 use Rattle.disk.specs.declared.answer.Refusal.{Refusal}
 use Rattle.disk.specs.declared.answer.Refusal.the-variants.{OutOfRange, BlockNotPlaced, Unwritten}
-use Rattle.disk.specs.declared.answer.Reply as R
+use Rattle.disk.specs.declared.answer.ReadReply as R
 use Rattle.disk.specs.Disk.{Disk, view}
 use Rattle.disk.specs.Call.{readBlock, inView, lentTo, destination}
 use Rattle.disk.specs.Questions.{lookQuestions, questions, refusal}
-use Rattle.disk.specs.Perform.{found, accepted}
-use Rattle.disk.specs.Answers.{number, replyAnswer}
+use Rattle.disk.specs.Perform.{readTo, found, accepted}
+use Rattle.disk.specs.Answers.{number, readAnswer}
 use Rattle.disk.proofs.Contents.{view-sized}
 use Rattle.calls.specs.Performs.{Performs}
 use Rattle.inspect.specs.promises.Located.{contents}
@@ -39,11 +39,11 @@ read-range b n h =
     ((leb-true 1 b x, leb-true b 64 y), eqb-true n 256 e)
 
 module _ (d : Disk) (v b : ℕ) (x : List ℕ) where
-  abbrev Reads : R.Reply → List ℕ → Type 0
-  Reads r y = Performs (inView v (readBlock b x)) d d (replyAnswer r) y
+  abbrev Reads : R.ReadReply → List ℕ → Type 0
+  Reads r y = Performs (inView v (readBlock b x)) d d (readAnswer r) y
 
   read-refused : (r : Refusal) → refusal (inView v (readBlock b x)) d ≡ number r → Reads (R.the-variants.Refused r) x
-  unfolding destination lentTo replyAnswer
+  unfolding destination lentTo readAnswer
   read-refused r h = usual-performs-refused (inView v (readBlock b x)) d r tt h
 
   module _ (t : Tables) (s : Sees true d v t) where
@@ -76,11 +76,11 @@ module _ (d : Disk) (v b : ℕ) (x : List ℕ) where
           content-some : contentOf (view d v .lists) b ≡ some (contents d m)
           content-some = content-view ∙ ap (Option·map (contents d)) (located-some m z)
 
-          pub read-sized : length (contents d m) ≡ 256
+          pub read-sized : length (contents d m .body) ≡ 256
           read-sized = view-sized d (s .lengths) (s .sound) v b (contents d m) (s .opened) content-some
 
-          pub read-given : (y : List ℕ) → y ≡ contents d m → Reads R.the-variants.Accepted y
-          unfolding refusal questions lookQuestions accepted found replyAnswer orElse written isSome
-          read-given y e =
+          pub read-given : (y : List ℕ) (n : ℕ) → y ≡ contents d m .body → n ≡ contents d m .race → Reads (R.the-variants.Race n) y
+          unfolding refusal questions lookQuestions accepted found readTo readAnswer written isSome
+          read-given y n e k =
               performs-accepted (inView v (readBlock b x)) d _
-              (seen _ s ∙ ask-yes 5 _ _ w ∙ ask-yes 8 _ _ (placed-view ∙ h) ∙ last-yes 15 _ (ap isSome content-some)) (rw (content-some, orElse, e))
+              (seen _ s ∙ ask-yes 5 _ _ w ∙ ask-yes 8 _ _ (placed-view ∙ h) ∙ last-yes 15 _ (ap isSome content-some)) (rw (content-some, readTo, e, k))

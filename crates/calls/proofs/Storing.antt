@@ -14,7 +14,7 @@ use Rattle.log.specs.declared.place.Place.{Place}
 use Rattle.log.specs.declared.place.Home.{Home}
 use Rattle.log.specs.declared.place.Home.the-variants.{At, Full}
 use Rattle.log.specs.Entry.{Entry, carried, asEntry}
-use Rattle.log.specs.Card.{Content, segmentsIn}
+use Rattle.log.specs.Card.{Content, Written, segmentsIn}
 use Rattle.log.specs.Store.{Store, doStores, after, home, entryStores}
 use Rattle.log.specs.Flush.{full, spent, stored, storeNext, nextStore, flushFrom}
 use Rattle.log.specs.promises.Within.{Storable, asPlace}
@@ -50,7 +50,7 @@ stores-next k u ss c g l =
 pub stores-done : (k u : ℕ) (ss : List Store) (c : List ℕ) → u ≤ k → doStores (several k (u - k) ss) c ≡ c
 stores-done k u ss c g = let i : u - k ≡ 0 = omega arith in ap (λ (m : ℕ). doStores (several k m ss) c) i ∙ stores-none k ss c
 
-module _ (n : ℕ) (p h : Place) (e : Entry Content) (q : List (Entry Content)) (v : home n p e ≡ some h) where
+module _ (n : ℕ) (p h : Place) (e : Entry Written) (q : List (Entry Written)) (v : home n p e ≡ some h) where
   abbrev ss : List Store
   ss = entryStores h e
 
@@ -104,12 +104,12 @@ module _ (n : ℕ) (p h : Place) (e : Entry Content) (q : List (Entry Content)) 
       let j : a ≡ suc m + (a - suc m) = omega arith in
       rw i (ap (λ (x : ℕ). flushFrom n x s (flow c p (e ∷ q) k)) j ∙ flush-rest m (a - suc m) s k c (omega arith))
 
-pub flush-full : (n a s k : ℕ) (p : Place) (e : Entry Content) (q : List (Entry Content)) (c : List ℕ) → home n p e ≡ none
+pub flush-full : (n a s k : ℕ) (p : Place) (e : Entry Written) (q : List (Entry Written)) (c : List ℕ) → home n p e ≡ none
     → flushFrom n a s (flow c p (e ∷ q) k) ≡ record { flow = flow c p (e ∷ q) k; stores = s; ending = full }
 unfolding nextStore
 flush-full n a s k p e q c v = stopped-flush n a s (flow c p (e ∷ q) k) full (rw (v, nextStore))
 
-after-segment : (p : Place) (e : Entry Content) → after p e .segment ≡ p .segment
+after-segment : (p : Place) (e : Entry Written) → after p e .segment ≡ p .segment
 unfolding after
 after-segment p e = refl
 
@@ -121,7 +121,7 @@ few-stores d z t e p = omega (arith, stores-many d z t e p, used-one (carried (a
 module _ (d : Content) (z : length d ≡ 256) (t : Bool) (e : LogEntry) (c : List ℕ) (p : Place) (k : ℕ) (r : HeadReady c p (going d t e) k) (x : Home)
     (i : asPlace x ≡ home (segmentsIn c) p (asEntry false e)) where
   home-found : asPlace x ≡ home (segmentsIn c) p (going d t e)
-  home-found = i ∙ sym (home-of-entry (λ s. d) t e (segmentsIn c) p)
+  home-found = i ∙ sym (home-of-entry d t e (segmentsIn c) p)
 
   pub heads-full : (a : ℕ) → x ≡ Full → Heads c p (going d t e) k a headed.Full c
   unfolding asPlace
@@ -150,7 +150,7 @@ module _ (d : Content) (z : length d ≡ 256) (t : Bool) (e : LogEntry) (c : Lis
     pub heads-drained : (a n : ℕ) (p′ : Place) (c′ : List ℕ) → n ≡ length (entryStores h (going d t e)) → n - k ≤ a → p′ ≡ after h (asEntry false e)
         → c′ ≡ doStores (several k (n - k) (entryStores h (going d t e))) c → Heads c p (going d t e) k a (headed.Drained p′ (n - k)) c′
     heads-drained a n p′ c′ m l u y =
-        let v : p′ ≡ after h (going d t e) = u ∙ sym (after-of-entry (λ s. d) t e h) in
+        let v : p′ ≡ after h (going d t e) = u ∙ sym (after-of-entry d t e h) in
         record {
           within = rw v (within-after h (going d t e) (storable .within) (storable .room));
           inside = rw (v, after-segment h (going d t e)) (storable .inside);

@@ -10,7 +10,7 @@ use lib.ListN.{length, drop, getD, set, length-drop}
 use lib.Seq.{take-all}
 use Rattle.log.specs.declared.place.Place.{Place}
 use Rattle.log.specs.Entry.{Entry}
-use Rattle.log.specs.Card.{Content}
+use Rattle.log.specs.Card.{Written}
 use Rattle.log.specs.Store.{Store, doStores, home, entryStores}
 use Rattle.log.specs.Turns.{InTurn, AllInTurn}
 use Rattle.log.proofs.Places.{addTo}
@@ -19,7 +19,7 @@ use Rattle.disk.proofs.Turns.{in-turn}
 use Rattle.calls.proofs.Storing.{several, stores-none, stores-one, stores-next, stores-done}
 
 -- As a loop meets them: the first one is in turn, and behind it the others are.
-module _ (p : Place) (e : Entry Content) (c : List ℕ) (k u : ℕ) (l : k < u) (t : AllInTurn c p e k u) where
+module _ (p : Place) (e : Entry Written) (c : List ℕ) (k u : ℕ) (l : k < u) (t : AllInTurn c p e k u) where
   pub turn-now : InTurn c p e k
   turn-now = rw (stores-done k k (entryStores p e) c (omega arith)) at (t k (omega arith) l)
 
@@ -27,7 +27,7 @@ module _ (p : Place) (e : Entry Content) (c : List ℕ) (k u : ℕ) (l : k < u) 
   turns-next m n a b = rw (stores-next k n (entryStores p e) c (omega arith) (omega arith)) (t n (omega arith) b)
 
 -- The stores of the head e at its place p.
-module _ (ess : List (List (Entry Content))) (e : Entry Content) (q : List (Entry Content)) (p : Place) (h : home (length ess) (endOf ess) e ≡ some p) where
+module _ (ess : List (List (Entry Written))) (e : Entry Written) (q : List (Entry Written)) (p : Place) (h : home (length ess) (endOf ess) e ≡ some p) where
   abbrev ss : List Store
   ss = entryStores p e
 

@@ -19,6 +19,7 @@ use log::store::stores_of;
 ghost use mathlib.Core.Path.{_≡_};
 ghost use Prim.Native.Nat.{_+_, _-_, _%_, _≤_, _<_};
 ghost use lib.ListN.{length, take, drop};
+ghost use Rattle.log.specs.Raced.{withBody};
 ghost use Rattle.log.specs.Entry.{mapEntry, asEntry};
 ghost use Rattle.log.specs.Store.{doStores, entryStores};
 ghost use Rattle.log.specs.promises.Within.{Storable};
@@ -44,8 +45,8 @@ fn advance(
     done: usize,
     upto: usize,
 )
-    requires { ⌜ Storable (now card) place (mapEntry (λ s. now content) (asEntry member e)) done × (upto ≤ length (entryStores place (mapEntry (λ s. now content) (asEntry member e)))) × (length (now content) ≡ 256) × AllInTurn (now card) place (mapEntry (λ s. now content) (asEntry member e)) done upto ⌝ }
-    ensures { λ r. ⌜ now (card .exit) ≡ doStores (take (upto - done) (drop done (entryStores place (mapEntry (λ s. now (content .entry)) (asEntry member e))))) (now (card .entry)) ⌝ }
+    requires { ⌜ Storable (now card) place (mapEntry (withBody (now content)) (asEntry member e)) done × (upto ≤ length (entryStores place (mapEntry (withBody (now content)) (asEntry member e)))) × (length (now content) ≡ 256) × AllInTurn (now card) place (mapEntry (withBody (now content)) (asEntry member e)) done upto ⌝ }
+    ensures { λ r. ⌜ now (card .exit) ≡ doStores (take (upto - done) (drop done (entryStores place (mapEntry (withBody (now (content .entry))) (asEntry member e))))) (now (card .entry)) ⌝ }
 {
     let mut k = done;
     while k < upto {
@@ -65,8 +66,8 @@ fn store_head(
     done: usize,
     allowance: usize,
 ) -> Headed
-    requires { ⌜ HeadReady (now card) place (mapEntry (λ s. now content) (asEntry member e)) done × (length (now content) ≡ 256) ⌝ }
-    ensures { λ r. ⌜ Heads (now (card .entry)) place (mapEntry (λ s. now (content .entry)) (asEntry member e)) done allowance r (now (card .exit)) ⌝ }
+    requires { ⌜ HeadReady (now card) place (mapEntry (withBody (now content)) (asEntry member e)) done × (length (now content) ≡ 256) ⌝ }
+    ensures { λ r. ⌜ Heads (now (card .entry)) place (mapEntry (withBody (now (content .entry))) (asEntry member e)) done allowance r (now (card .exit)) ⌝ }
 {
     let Home::At(home) = home_of(card.len() / SEGMENT, place, e) else {
         return Headed::Full;

@@ -57,12 +57,24 @@ fn queue_member(
     ensures { λ r. ⌜ QueuesMember (now (queue_data .entry)) (now (journal_data .entry)) (recordIn (now (rec .entry))) e k (now (queue_data .exit)) (recordIn (now (rec .exit))) ⌝ }
 {
     match e {
-        LogEntry::Write { block, slot: _ } => {
+        LogEntry::Write {
+            block,
+            slot: _,
+            race,
+        } => {
             let at = (head(rec) + len(rec)) % Record::QUEUE;
             let start = SLOT * k;
             let stop = start + SLOT;
             copy_in(queue_data, SLOT * at, &journal_data[start..stop]);
-            append(rec, true, LogEntry::Write { block, slot: 0 });
+            append(
+                rec,
+                true,
+                LogEntry::Write {
+                    block,
+                    slot: 0,
+                    race,
+                },
+            );
         }
         _ => {
             append(rec, true, e);

@@ -9,12 +9,14 @@ ghost use Prim.Native.Nat.{_≤_};
 ghost use lib.Dec.{leb, eqb};
 ghost use Rattle.lists.specs.State.{onList};
 ghost use Rattle.lists.specs.promises.Tables.{tablesIn, OfShown, IsList};
-ghost use Rattle.log.specs.Entry.{isBlock, isList};
+ghost use Rattle.log.specs.Entry.{isBlock, isList, isRace};
 ghost use Rattle.disk.specs.Questions.{isWindow};
 
 const BLOCKS: usize = LogEntry::BLOCKS as usize;
 
 const LISTS: usize = LogEntry::LISTS as usize;
+
+const RACES: usize = LogEntry::RACES as usize;
 
 pub fn is_block(b: usize) -> bool
     ensures { λ r. ⌜ r ≡ isBlock b ⌝ }
@@ -32,6 +34,12 @@ pub fn is_window(w: usize) -> bool
     ensures { λ r. ⌜ r ≡ isWindow w ⌝ }
 {
     both(1 <= w, w <= Record::WINDOWS)
+}
+
+pub fn is_race(n: usize) -> bool
+    ensures { λ r. ⌜ r ≡ isRace n ⌝ }
+{
+    n <= RACES
 }
 
 // A list, and a block on it or 0, which stands for none.

@@ -1,7 +1,7 @@
-// ReadBlock: a block of a view copied to what the caller lends.
+// ReadBlock: a block of a view copied to what the caller lends, and its race.
 use crate::ranges::is_block;
+use disk::answer::ReadReply;
 use disk::answer::Refusal;
-use disk::answer::Reply;
 use disk::record::RECORD;
 use inspect::look::Looked;
 use inspect::look::look_view;
@@ -11,8 +11,9 @@ use lists::tables::location_of;
 use log::content::copy_content;
 use log::layout::SLOT;
 use log::legal::both;
+use log::location::race_in;
 ghost use Rattle.disk.specs.Call.{readBlock, inView};
-ghost use Rattle.disk.specs.Answers.{replyAnswer};
+ghost use Rattle.disk.specs.Answers.{readAnswer};
 ghost use Rattle.calls.specs.Performs.{ChangesNothing};
 
 // Block b of view v goes to dest.
@@ -25,27 +26,27 @@ pub fn read(
     view: usize,
     block: usize,
     dest: &mut [u8],
-) -> Reply
-    ensures { λ r. ⌜ ChangesNothing (inView view (readBlock block (now (dest .entry)))) (now (card .entry)) (now (queue_data .entry)) (now (journal_data .entry)) (now (rec .entry)) (replyAnswer r) (now (dest .exit)) ⌝ }
+) -> ReadReply
+    ensures { λ r. ⌜ ChangesNothing (inView view (readBlock block (now (dest .entry)))) (now (card .entry)) (now (queue_data .entry)) (now (journal_data .entry)) (now (rec .entry)) (readAnswer r) (now (dest .exit)) ⌝ }
 {
     let mut nodes = [0u8; 1280];
     match look_view(card, queue_data, journal_data, rec, view, &mut nodes) {
         Looked::Refused(x) => {
-            return Reply::Refused(x);
+            return ReadReply::Refused(x);
         }
         Looked::Seen => {}
     }
     if !both(is_block(block), dest.len() == SLOT) {
-        return Reply::Refused(Refusal::OutOfRange);
+        return ReadReply::Refused(Refusal::OutOfRange);
     }
     let b = block as u8;
     if !is_placed(&nodes, b) {
-        return Reply::Refused(Refusal::BlockNotPlaced);
+        return ReadReply::Refused(Refusal::BlockNotPlaced);
     }
-    let location = location_of(&nodes, b);
-    if location == UNWRITTEN {
-        return Reply::Refused(Refusal::Unwritten);
+    let number = location_of(&nodes, b);
+    if number == UNWRITTEN {
+        return ReadReply::Refused(Refusal::Unwritten);
     }
-    copy_content(card, queue_data, journal_data, location, dest);
-    Reply::Accepted
+    copy_content(card, queue_data, journal_data, number, dest);
+    ReadReply::Race(race_in(number))
 }

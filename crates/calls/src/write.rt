@@ -1,6 +1,7 @@
-// Write: 256 bytes that a block is to hold, added on a stream.
+// Write: 256 bytes that a block is to hold, and the race that they are of, added on a stream.
 use crate::add::add;
 use crate::ranges::is_block;
+use crate::ranges::is_race;
 use disk::answer::Refusal;
 use disk::answer::Reply;
 use disk::record::RECORD;
@@ -26,7 +27,7 @@ ghost use Rattle.lists.specs.State.{placed};
 ghost use Rattle.lists.specs.promises.Tables.{tablesIn, OfShown};
 ghost use Rattle.log.specs.declared.entry.LogEntry.the-variants as E;
 ghost use Rattle.log.specs.Card.{slotBytes};
-ghost use Rattle.log.specs.Entry.{isBlock};
+ghost use Rattle.log.specs.Entry.{isBlock, isRace};
 ghost use Rattle.disk.specs.Record.{recordIn};
 ghost use Rattle.disk.specs.Disk.{diskIn};
 ghost use Rattle.disk.specs.Call.{writeBlock, onStream};
@@ -58,21 +59,37 @@ fn copy_content(queue_data: &mut [u8], journal_data: &mut [u8], s: usize, at: us
 }
 
 // Questions 5, 8, 11 and 13, over the stream's view; n bytes are lent.
-fn write_placed(rec: &mut [u8; RECORD], nodes: &[u8; 1280], s: usize, b: usize, n: usize) -> Reply
+fn write_placed(
+    rec: &mut [u8; RECORD],
+    nodes: &[u8; 1280],
+    s: usize,
+    b: usize,
+    race: usize,
+    n: usize,
+) -> Reply
     requires { ⌜ (s ≤ 4) × (recordIn (now rec) .ring .head < 32) ⌝ }
-    ensures { λ r. ⌜ OfShown (tablesIn (now (nodes .entry))) (λ rs. AddsAfter ((5, isBlock b && eqb n slotBytes) ∷ (8, placed b rs) ∷ []) s (E.Write b 0) (recordIn (now (rec .entry))) r (recordIn (now (rec .exit)))) ⌝ }
+    ensures { λ r. ⌜ OfShown (tablesIn (now (nodes .entry))) (λ rs. AddsAfter ((5, isBlock b && isRace race && eqb n slotBytes) ∷ (8, placed b rs) ∷ []) s (E.Write b 0 race) (recordIn (now (rec .entry))) r (recordIn (now (rec .exit)))) ⌝ }
 {
-    if !both(is_block(b), n == SLOT) {
+    if !both(both(is_block(b), is_race(race)), n == SLOT) {
         return Reply::Refused(Refusal::OutOfRange);
     }
     let block = b as u8;
+    let race_byte = race as u8;
     if !is_placed(nodes, block) {
         return Reply::Refused(Refusal::BlockNotPlaced);
     }
-    add(rec, s, LogEntry::Write { block, slot: 0 })
+    add(
+        rec,
+        s,
+        LogEntry::Write {
+            block,
+            slot: 0,
+            race: race_byte,
+        },
+    )
 }
 
-// Questions: 1 lengths, 3 record, 4 stream, 5 block and length, 8 on a list, 11 journal, 13 queue.
+// Questions: 1 lengths, 3 record, 4 stream, 5 block, race and length, 8 on a list, 11 journal, 13 queue.
 pub fn write(
     card: &[u8],
     queue_data: &mut [u8],
@@ -80,9 +97,10 @@ pub fn write(
     rec: &mut [u8; RECORD],
     stream: usize,
     block: usize,
+    race: usize,
     content: &[u8],
 ) -> Reply
-    ensures { λ r. ⌜ Performs (onStream stream (writeBlock block (now (content .entry)))) (diskIn (now (card .entry)) (now (queue_data .entry)) (now (journal_data .entry)) (now (rec .entry))) (diskIn (now (card .entry)) (now (queue_data .exit)) (now (journal_data .exit)) (now (rec .exit))) (replyAnswer r) [] ⌝ }
+    ensures { λ r. ⌜ Performs (onStream stream (writeBlock block race (now (content .entry)))) (diskIn (now (card .entry)) (now (queue_data .entry)) (now (journal_data .entry)) (now (rec .entry))) (diskIn (now (card .entry)) (now (queue_data .exit)) (now (journal_data .exit)) (now (rec .exit))) (replyAnswer r) [] ⌝ }
 {
     let mut nodes = [0u8; 1280];
     match look_stream(card, queue_data, journal_data, rec, stream, &mut nodes) {
@@ -92,7 +110,7 @@ pub fn write(
         Looked::Seen => {}
     }
     let at = place_next(rec, stream);
-    let reply = write_placed(rec, &nodes, stream, block, content.len());
+    let reply = write_placed(rec, &nodes, stream, block, race, content.len());
     match reply {
         Reply::Accepted => copy_content(queue_data, journal_data, stream, at, content),
         Reply::Refused(_) => {}

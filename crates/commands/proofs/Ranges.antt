@@ -12,7 +12,7 @@ use Rattle.lists.specs.Basic.{any}
 use Rattle.lists.specs.State.{Block, Row, isBlockNum, onRow, placed}
 use Rattle.lists.specs.Lookup.{blocksOf, nextIn, nextAfter}
 use Rattle.lists.proofs.Basic.{or-both, eqb-false, eqb-neq, gt-false}
-use Rattle.log.specs.Card.{Content}
+use Rattle.log.specs.Card.{Written}
 use Rattle.disk.specs.Disk.{Disk, view}
 use Rattle.disk.specs.Call.{blockAfter, inView}
 use Rattle.disk.specs.Questions.{viewOpen, questions, refusal}
@@ -45,14 +45,14 @@ module _ (b : ℕ) (far : 64 < b) where
       go y ih true f = rw (f, nextIn) (first ns y)
       go y ih false f = rw (f, nextIn) ih
 
-  away : (l : ℕ) (rs : List (Row Content)) → placed b rs ≡ false → any (λ n. eqb n b) (blocksOf rs l) ≡ false
+  away : (l : ℕ) (rs : List (Row Written)) → placed b rs ≡ false → any (λ n. eqb n b) (blocksOf rs l) ≡ false
   unfolding placed blocksOf
   away l [] h = refl
   away l (r ∷ rs) h =
       let (x, y) = or-both (onRow b r) (placed b rs) h in
       go x (away l rs y) (eqb (r .num) l) refl
     where
-      on : (xs : List (Block Content)) → any (isBlockNum b) xs ≡ any (λ n. eqb n b) (map (λ x. x .num) xs)
+      on : (xs : List (Block Written)) → any (isBlockNum b) xs ≡ any (λ n. eqb n b) (map (λ x. x .num) xs)
       on [] = refl
       on (x ∷ xs) = ap (λ (t : Bool). eqb (x .num) b || t) (on xs)
 
@@ -60,7 +60,7 @@ module _ (b : ℕ) (far : 64 < b) where
       go x ih true f = rw (f, blocksOf) (sym (on (r .blocks)) ∙ x)
       go x ih false f = rw (f, blocksOf) ih
 
-  next-other : (rs : List (Row Content)) (l p : ℕ) → placed b rs ≡ false → nextAfter rs l p ≢ b
+  next-other : (rs : List (Row Written)) (l p : ℕ) → placed b rs ≡ false → nextAfter rs l p ≢ b
   unfolding nextAfter
   next-other rs l p h = following p (0 ∷ blocksOf rs l) (rw (eqb-false 0 b (λ e. absurd (omega arith))) (away l rs h))
 

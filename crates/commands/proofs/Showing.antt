@@ -10,12 +10,12 @@ use lib.Seq.{slice, take-suc, take-set-le, getD-set-same}
 use Rattle.lists.specs.Basic.{joined}
 use Rattle.lists.proofs.Basic.{eqb-false}
 use Rattle.disk.specs.declared.answer.Refusal.{Refusal}
-use Rattle.disk.specs.declared.answer.Reply as R
+use Rattle.disk.specs.declared.answer.ReadReply as R
 use Rattle.disk.specs.declared.answer.NumberReply as N
 use Rattle.disk.specs.Disk.{Disk}
 use Rattle.disk.specs.Call.{readBlock, blockAfter, inventory, inView}
 use Rattle.disk.specs.Perform.{Answer, Result}
-use Rattle.disk.specs.Answers.{number, replyAnswer, numberAnswer}
+use Rattle.disk.specs.Answers.{number, readAnswer, numberAnswer}
 use Rattle.calls.specs.Performs.{Performs}
 use Rattle.calls.proofs.Refusing.{number-nonzero}
 use Rattle.script.specs.Lines.{numberLine, blockLine, unwrittenLine}
@@ -80,12 +80,12 @@ module _ (d : Disk) (v : ℕ) where
           let z : 64 - n ≡ 0 = omega arith in
           sym (append-nil (take n bs)) ∙ (rw z at (g .2))
 
-  pub block-read : (b : ℕ) (x : List ℕ) → Performs (inView v (readBlock b (replicate 256 0))) d d (replyAnswer R.the-variants.Accepted) x → blockShown d v b ≡ blockLine b x
-  unfolding blockShown replyAnswer
-  block-read b x h = rw h
+  pub block-read : (b n : ℕ) (x : List ℕ) → Performs (inView v (readBlock b (replicate 256 0))) d d (readAnswer (R.the-variants.Race n)) x → blockShown d v b ≡ blockLine b x n
+  unfolding blockShown readAnswer
+  block-read b n x h = rw h
 
-  pub block-unread : (b : ℕ) (r : Refusal) (x : List ℕ) → Performs (inView v (readBlock b (replicate 256 0))) d d (replyAnswer (R.the-variants.Refused r)) x → blockShown d v b ≡ unwrittenLine b
-  unfolding blockShown replyAnswer
+  pub block-unread : (b : ℕ) (r : Refusal) (x : List ℕ) → Performs (inView v (readBlock b (replicate 256 0))) d d (readAnswer (R.the-variants.Refused r)) x → blockShown d v b ≡ unwrittenLine b
+  unfolding blockShown readAnswer
   block-unread b r x h = rw (h, eqb-false (number r) 0 (number-nonzero r))
 
   pub view-seen : (n : ℕ) (x : List ℕ) → Performs (inView v (inventory (replicate 16 0))) d d (numberAnswer (N.the-variants.Number n)) x → shown v d ≡ viewShown d v (slice 0 n x)

@@ -27,7 +27,7 @@ bytesLent n = take n (replicate 1000 0)
 unfoldable pub editOf : List ℕ → E.Edit → Edit
 editOf line E.the-variants.NewList = newList
 editOf line (E.the-variants.NewBlock l p) = newBlock l p
-editOf line (E.the-variants.Write b n w) = writeBlock b (dataLent (textOf line w) n)
+editOf line (E.the-variants.Write b n r w) = writeBlock b r (dataLent (textOf line w) n)
 editOf line (E.the-variants.DeleteBlock b) = deleteBlock b
 editOf line (E.the-variants.DeleteList l) = deleteList l
 

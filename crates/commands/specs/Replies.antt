@@ -9,7 +9,7 @@ use Rattle.script.specs.Lines.{answerLine, numberedLine, mountLine, flushLine, 
 unfoldable pub editLine : Edit → Answer → List ℕ
 editLine newList a = numberedLine a
 editLine (newBlock l p) a = numberedLine a
-editLine (writeBlock b x) a = answerLine a
+editLine (writeBlock b n x) a = answerLine a
 editLine (deleteBlock b) a = answerLine a
 editLine (deleteList l) a = answerLine a
 

@@ -1,5 +1,5 @@
 -- What `show` prints of a view, by the look-ups: "for each list in inventory order `list L:` and its blocks as the lister has them, then for each of these
--- blocks, list by list, `block B: HEX`", with "`block B: unwritten`"; "refused: `A`".
+-- blocks, list by list, `block B: HEX`", with its race, and "`block B: unwritten`"; "refused: `A`".
 use mathlib.Core.Bool.{true, false, cond}
 use mathlib.Core.List.{List, [], _∷_, _++_, map}
 use Prim.Native.Nat.{ℕ, zero, suc}
@@ -38,7 +38,7 @@ module _ (d : Disk) (v : ℕ) where
   unfoldable pub blockShown : ℕ → List ℕ
   blockShown b =
       let r = perform (inView v (readBlock b (replicate 256 0))) d in
-      cond (eqb (r .answer .code) 0) (blockLine b (r .lent)) (unwrittenLine b)
+      cond (eqb (r .answer .code) 0) (blockLine b (r .lent) (r .answer .value)) (unwrittenLine b)
 
   abbrev pub blocksShown : List ℕ → List ℕ
   blocksShown bs = eachOf blockShown bs

@@ -109,6 +109,7 @@ fn edit(
         Edit::Write {
             block,
             lent,
+            race,
             digits,
         } => {
             write(
@@ -119,6 +120,7 @@ fn edit(
                 rec,
                 stream,
                 block as usize,
+                race as usize,
                 lent as usize,
                 digits,
                 out,
@@ -146,16 +148,17 @@ fn write(
     rec: &mut [u8; RECORD],
     stream: usize,
     block: usize,
+    race: usize,
     lent: usize,
     digits: Word,
     out: &mut [u8],
     at: usize,
 ) -> usize
-    ensures { λ r. ⌜ Calls (onStream stream (writeBlock block (dataLent (textOf (now (line .entry)) digits) lent))) (diskIn (now (card .entry)) (now (queue .entry)) (now (journal .entry)) (now (rec .entry))) (diskIn (now (card .entry)) (now (queue .exit)) (now (journal .exit)) (now (rec .exit))) (now (out .entry)) at (now (out .exit)) r ⌝ }
+    ensures { λ r. ⌜ Calls (onStream stream (writeBlock block race (dataLent (textOf (now (line .entry)) digits) lent))) (diskIn (now (card .entry)) (now (queue .entry)) (now (journal .entry)) (now (rec .entry))) (diskIn (now (card .entry)) (now (queue .exit)) (now (journal .exit)) (now (rec .exit))) (now (out .entry)) at (now (out .exit)) r ⌝ }
 {
     let mut bytes = [0u8; 256];
     hex(part(line, digits.start, digits.end), &mut bytes);
-    let reply = write_part(&bytes, lent, card, queue, journal, rec, stream, block);
+    let reply = write_part(&bytes, lent, card, queue, journal, rec, stream, block, race);
     put_answer(out, at, reply)
 }
 
@@ -169,8 +172,9 @@ fn write_part(
     rec: &mut [u8; RECORD],
     stream: usize,
     block: usize,
+    race: usize,
 ) -> Reply
-    ensures { λ r. ⌜ Performs (onStream stream (writeBlock block (take lent (now (bytes .entry) ++ replicate 44 0)))) (diskIn (now (card .entry)) (now (queue .entry)) (now (journal .entry)) (now (rec .entry))) (diskIn (now (card .entry)) (now (queue .exit)) (now (journal .exit)) (now (rec .exit))) (replyAnswer r) [] ⌝ }
+    ensures { λ r. ⌜ Performs (onStream stream (writeBlock block race (take lent (now (bytes .entry) ++ replicate 44 0)))) (diskIn (now (card .entry)) (now (queue .entry)) (now (journal .entry)) (now (rec .entry))) (diskIn (now (card .entry)) (now (queue .exit)) (now (journal .exit)) (now (rec .exit))) (replyAnswer r) [] ⌝ }
 {
     let mut content = [0u8; 300];
     put_bytes(&mut content, 0, bytes);
@@ -181,6 +185,7 @@ fn write_part(
         rec,
         stream,
         block,
+        race,
         part(&content, 0, lent),
     )
 }

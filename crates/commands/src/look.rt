@@ -1,7 +1,7 @@
 // The look-ups in a view; read, the inventory and the page, on so many bytes as are lent to them.
 use crate::state::within;
 use disk::answer::NumberReply;
-use disk::answer::Reply;
+use disk::answer::ReadReply;
 use disk::record::RECORD;
 use script::command::Look;
 use script::replies::put_inventory;
@@ -12,7 +12,7 @@ use text::line::part;
 ghost use lib.ListN.{take};
 ghost use Rattle.disk.specs.Disk.{diskIn};
 ghost use Rattle.disk.specs.Call as call;
-ghost use Rattle.disk.specs.Answers.{replyAnswer, numberAnswer};
+ghost use Rattle.disk.specs.Answers.{readAnswer, numberAnswer};
 ghost use Rattle.calls.specs.Performs.{Performs};
 ghost use Rattle.commands.specs.Called.{lookOf, bytesLent, Calls};
 
@@ -90,8 +90,8 @@ fn read_part(
     block: usize,
     lent: usize,
     content: &mut [u8],
-) -> Reply
-    ensures { λ r. ⌜ Performs (call.inView view (call.readBlock block (take lent (now (content .entry))))) (diskIn (now (card .entry)) (now (queue .entry)) (now (journal .entry)) (now (rec .entry))) (diskIn (now (card .entry)) (now (queue .entry)) (now (journal .entry)) (now (rec .entry))) (replyAnswer r) (take lent (now (content .exit))) ⌝ }
+) -> ReadReply
+    ensures { λ r. ⌜ Performs (call.inView view (call.readBlock block (take lent (now (content .entry))))) (diskIn (now (card .entry)) (now (queue .entry)) (now (journal .entry)) (now (rec .entry))) (diskIn (now (card .entry)) (now (queue .entry)) (now (journal .entry)) (now (rec .entry))) (readAnswer r) (take lent (now (content .exit))) ⌝ }
 {
     let n = within(lent, content);
     calls::read::read(card, queue, journal, rec, view, block, &mut content[..n])

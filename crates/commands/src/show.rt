@@ -1,6 +1,6 @@
 // A view, shown by the look-ups.
 use disk::answer::NumberReply;
-use disk::answer::Reply;
+use disk::answer::ReadReply;
 use disk::record::RECORD;
 use log::entry::LogEntry;
 use script::lines::put_block;
@@ -245,7 +245,7 @@ fn show_block(
         block as usize,
         &mut content,
     ) {
-        Reply::Accepted => put_block(out, at, block, &content),
-        Reply::Refused(_) => put_unwritten(out, at, block),
+        ReadReply::Race(race) => put_block(out, at, block, &content, race),
+        ReadReply::Refused(_) => put_unwritten(out, at, block),
     }
 }

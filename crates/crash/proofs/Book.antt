@@ -10,7 +10,7 @@ use Rattle.lists.specs.Basic.{joined}
 use Rattle.lists.specs.Change.{Change}
 use Rattle.lists.proofs.Basic.{getD-set-default}
 use Rattle.log.specs.Entry.{Entry}
-use Rattle.log.specs.Card.{Content}
+use Rattle.log.specs.Card.{Written}
 use Rattle.crash.specs.Book.{Book, Waiting, entriesOf, batchOf, withBatch, keepFirst}
 
 -- Entries.
@@ -21,15 +21,15 @@ entries-append x y = map-append (λ (w : Waiting). w .entry) x y
 pub entries-joined : (ss : List (List Waiting)) → joined (map entriesOf ss) ≡ entriesOf (joined ss)
 unfolding joined entriesOf
 entries-joined [] = refl
-entries-joined (s ∷ ss) = ap (λ (l : List (Entry Content)). entriesOf s ++ l) (entries-joined ss) ∙ sym (map-append (λ (w : Waiting). w .entry) s (joined ss))
+entries-joined (s ∷ ss) = ap (λ (l : List (Entry Written)). entriesOf s ++ l) (entries-joined ss) ∙ sym (map-append (λ (w : Waiting). w .entry) s (joined ss))
 
 -- Batches.
 module _ (b : Book) (u : ℕ) where
-  pub batch-same : (cs : List (Change Content)) → u - 1 < length (b .batches) → batchOf (withBatch b u cs) u ≡ cs
+  pub batch-same : (cs : List (Change Written)) → u - 1 < length (b .batches) → batchOf (withBatch b u cs) u ≡ cs
   unfolding batchOf withBatch
   batch-same cs l = getD-set-same (b .batches) (u - 1) cs [] l
 
-  pub batch-other : (v : ℕ) (cs : List (Change Content)) → v - 1 ≢ u - 1 → batchOf (withBatch b u cs) v ≡ batchOf b v
+  pub batch-other : (v : ℕ) (cs : List (Change Written)) → v - 1 ≢ u - 1 → batchOf (withBatch b u cs) v ≡ batchOf b v
   unfolding batchOf withBatch
   batch-other v cs d = getD-set-other (b .batches) (u - 1) (v - 1) cs [] d
 
@@ -82,5 +82,5 @@ module _ {A : Type 0} where
 pub keep-entries : (m : ℕ) (ss : List (List Waiting)) → map entriesOf (keepFirst m ss) ≡ keepFirst m (map entriesOf ss)
 unfolding keepFirst entriesOf
 keep-entries m [] = refl
-keep-entries zero (s ∷ ss) = ap {B = List (List (Entry Content))} (λ r. [] ∷ r) (keep-entries zero ss)
-keep-entries (suc m) (s ∷ ss) = ap {B = List (List (Entry Content))} (λ r. entriesOf s ∷ r) (keep-entries m ss)
+keep-entries zero (s ∷ ss) = ap {B = List (List (Entry Written))} (λ r. [] ∷ r) (keep-entries zero ss)
+keep-entries (suc m) (s ∷ ss) = ap {B = List (List (Entry Written))} (λ r. entriesOf s ∷ r) (keep-entries m ss)

@@ -8,7 +8,7 @@ use Rattle.lists.specs.Change.{Change, takeList, putFirst, putAfter, write, del
 use Rattle.lists.specs.State.{applies, applyAll}
 use Rattle.lists.proofs.Basic.{and-true, not-false, leb-true, some-of}
 use Rattle.log.specs.Entry.{plain, carried}
-use Rattle.log.specs.Card.{Content}
+use Rattle.log.specs.Card.{Written}
 use Rattle.log.proofs.Segment.{Sized}
 use Rattle.log.proofs.Places.{Good}
 use Rattle.disk.specs.Record.{isOpen}
@@ -45,7 +45,7 @@ held zero n d b i = i
 held (suc u) n d b i = same-inv d (hold (suc u) n d) b refl (queued-hold (suc u) n d) refl (journal-hold (suc u) n d) i
 
 -- A change on a stream.
-plain-sized : (c : Change Content) → Good (plain c) → Sized (carriedBy c)
+plain-sized : (c : Change Written) → Good (plain c) → Sized (carriedBy c)
 unfolding carried
 plain-sized c g = g .sized
 
@@ -55,7 +55,7 @@ record Streams (s : ℕ) (d : Disk) : Type 0 where
   journal : journalRoom d s ≡ true
   queue : streamRoom d s ≡ true
 
-change-inv : (s : ℕ) (c : Change Content) (d : Disk) (b : Book) → Live d b → Streams s d → Good (plain c) → (s ≡ 0 → applies c (committed d .lists) ≡ true)
+change-inv : (s : ℕ) (c : Change Written) (d : Disk) (b : Book) → Live d b → Streams s d → Good (plain c) → (s ≡ 0 → applies c (committed d .lists) ≡ true)
     → Live (change s c d) (join s c b)
 unfolding change join
 change-inv zero c d b i t g a = join-plain d b c _ (t .sound) i (stream-room d (t .queue)) g (apply-applies c (committed d) (a refl))
@@ -64,7 +64,7 @@ change-inv (suc u) c d b i t g a =
     join-batch d b (suc u) c (t .sound) i p q (journal-room d u (t .journal)) (plain-sized c g)
 
 -- what the record notes of a number given is no part of it
-noted-inv : (s : ℕ) (c : Change Content) (d : Disk) (b : Book) → Live d b → Live (noted s c d) b
+noted-inv : (s : ℕ) (c : Change Written) (d : Disk) (b : Book) → Live d b → Live (noted s c d) b
 unfolding noted
 noted-inv s (takeList l) d b i = gave-list d b l i
 noted-inv s (putFirst n l) d b i = gave-block (hold s n d) b n (held s n d b i)

@@ -10,7 +10,7 @@ use Rattle.lists.specs.Basic.{joined}
 use Rattle.lists.proofs.Basic.{and-true, not-false}
 use Rattle.log.specs.declared.place.Place.{Place}
 use Rattle.log.specs.Entry.{Entry}
-use Rattle.log.specs.Card.{Content, segmentsIn}
+use Rattle.log.specs.Card.{Written, segmentsIn}
 use Rattle.log.specs.Store.{home}
 use Rattle.log.specs.Flush.{Flow, Ending, drained, full, spent, Next, stored, stopped, storeNext, nextStore, flushFrom}
 use Rattle.log.proofs.Flows.{flowFor}
@@ -45,7 +45,7 @@ next-drained : (n : ℕ) (f : Flow) → nextStore n f ≡ stopped drained → f 
 unfolding nextStore
 next-drained n f h = go (f .queue) refl
   where
-    head : (e : Entry Content) (q : List (Entry Content)) → f .queue ≡ e ∷ q → (o : Option Place) → home n (f .place) e ≡ o → f .queue ≡ []
+    head : (e : Entry Written) (q : List (Entry Written)) → f .queue ≡ e ∷ q → (o : Option Place) → home n (f .place) e ≡ o → f .queue ≡ []
     head e q x none y =
         let z : stopped full ≡ stopped drained = rw y at (rw (x, nextStore) at h) in
         absurd (let w : _≡_ {A = ℕ} 0 1 = cc in omega arith)
@@ -53,7 +53,7 @@ next-drained n f h = go (f .queue) refl
         let z : stored (storeNext f p e q) ≡ stopped drained = rw y at (rw (x, nextStore) at h) in
         absurd (let w : _≡_ {A = ℕ} 0 1 = cc in omega arith)
 
-    go : (q : List (Entry Content)) → f .queue ≡ q → f .queue ≡ []
+    go : (q : List (Entry Written)) → f .queue ≡ q → f .queue ≡ []
     go [] x = x
     go (e ∷ q) x = head e q x (home n (f .place) e) refl
 

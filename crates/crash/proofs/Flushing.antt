@@ -7,7 +7,7 @@ use native.Mathlib.Omega.{arith}
 use lib.ListN.{length, drop, getD, length-map}
 use Rattle.lists.specs.Change.{Change}
 use Rattle.lists.proofs.Basic.{map-drop}
-use Rattle.log.specs.Card.{Content, segmentsIn}
+use Rattle.log.specs.Card.{Written, segmentsIn}
 use Rattle.log.specs.Flush.{Flow}
 use Rattle.log.proofs.Segment.{Carries}
 use Rattle.log.proofs.Flows.{tail-end, flowFor}
@@ -57,7 +57,7 @@ module _ (d : Disk) (b b′ : Book) (y : Flow) (f : FlushSim y b b′) where
             queued-flushed d y (f .keeps .gone) (gone-queued t) (flow-queue ∙ ap (drop (f .keeps .gone)) (sym (t .queue))) ∙ ap (λ (z : Flow). z .queue) (f .flow);
         done = ap (λ (z : Flow). z .done) (f .flow);
         journals = λ u l m. journal-flushed d y u ∙ t .journals u l m
-            ∙ ap (λ (x : List (List (Change Content))). getD x (u - 1) []) (sym (f .keeps .batches));
+            ∙ ap (λ (x : List (List (Change Written))). getD x (u - 1) []) (sym (f .keeps .batches));
       }
 
 pub cut-flush : (w : World) (b : Book) (a k : ℕ) (x : Rest) → w .down ≡ false → Inv w b → Inv (step w (cutFlush a k x)) (settle (bookFlush k b))

@@ -8,7 +8,7 @@ use native.Mathlib.Decide.{decLt, ℕ-discrete}
 use lib.ListN.{length, take, getD, set, replicate, length-set, length-map}
 use lib.Seq.{getD-set-same, take-all}
 use Rattle.log.specs.Entry.{Entry}
-use Rattle.log.specs.Card.{Content}
+use Rattle.log.specs.Card.{Written}
 use Rattle.log.specs.Store.{doStores, formatStores}
 use Rattle.log.proofs.Segment.{Holds, Empties, Packed, Carries}
 use Rattle.log.proofs.EntryStores.{holds-free}
@@ -42,7 +42,7 @@ module _ {A : Type 0} where
   getD-next m h ss (yes v) d = getD-keep m h ss v ∙ sym (getD-keep (suc m) h ss (omega arith))
   getD-next m h ss (no v) d = getD-emptied m h ss (omega arith) ∙ sym (getD-emptied (suc m) h ss (omega arith))
 
-format-one : (c : List ℕ) (m : ℕ) (ess : List (List (Entry Content))) → suc m ≤ length ess → Packed ess → Carries c (keepFirst (suc m) ess)
+format-one : (c : List ℕ) (m : ℕ) (ess : List (List (Entry Written))) → suc m ≤ length ess → Packed ess → Carries c (keepFirst (suc m) ess)
     → Carries (set c (4096 * m + 3584) 0) (keepFirst m ess)
 format-one c m ess l pk k =
     record {
@@ -68,7 +68,7 @@ format-one c m ess l pk k =
         side (yes v) = holds-free c h _ (4096 * m + 3584) 0 (inr (inr (omega (arith, k′ .short)))) k′
         side (no v) = holds-free c h _ (4096 * m + 3584) 0 (inl (omega arith)) k′
 
-format-some : (k n : ℕ) (c : List ℕ) (ess : List (List (Entry Content))) → k ≤ n → n ≤ length ess → Packed ess → Carries c (keepFirst n ess)
+format-some : (k n : ℕ) (c : List ℕ) (ess : List (List (Entry Written))) → k ≤ n → n ≤ length ess → Packed ess → Carries c (keepFirst n ess)
     → Carries (doStores (take k (formatStores n)) c) (keepFirst (n - k) ess)
 unfolding doStores formatStores
 format-some zero n c ess l m p h = subst (λ (i : ℕ). Carries c (keepFirst i ess)) (let q : n ≡ n - 0 = omega arith in q) h
@@ -91,7 +91,7 @@ format-carries k c b l h =
 map-nils : (n : ℕ) → map entriesOf (replicate n []) ≡ nils n
 unfolding entriesOf
 map-nils zero = refl
-map-nils (suc n) = ap {B = List (List (Entry Content))} (λ r. [] ∷ r) (map-nils n)
+map-nils (suc n) = ap {B = List (List (Entry Written))} (λ r. [] ∷ r) (map-nils n)
 
 pub empty-carries : (n : ℕ) (c : List ℕ) → 0 < n → length c ≡ 4096 * n → Carries (doStores (take n (formatStores n)) c) (placedEntries (emptyBook n))
 unfolding placedEntries emptyBook

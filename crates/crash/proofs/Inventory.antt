@@ -11,7 +11,7 @@ use Rattle.lists.specs.Takings.{undeleted, inForce}
 use Rattle.lists.proofs.Basic.{and-true, not-false}
 use Rattle.lists.proofs.Takings.{lists-by-takings, lists-undeleted}
 use Rattle.log.specs.Reader.{start}
-use Rattle.log.specs.Card.{Content}
+use Rattle.log.specs.Card.{Written}
 use Rattle.disk.specs.Disk.{Disk, journalOf, persistent, committed, view}
 use Rattle.disk.specs.Sound.{isOpenUnit}
 use Rattle.disk.specs.Call.{Call, inventory, inView, resets}
@@ -35,25 +35,25 @@ use Rattle.crash.proofs.Demand3.{begun-inv, play-inv, demand3}
 use Rattle.crash.proofs.Unwritten.{acts-all, persistent-kept}
 
 -- The lists of a history's state.
-history-lists : (hs : List Act) (s : State Content) → acts hs (state []) ≡ some s → listNums (s .lists) ≡ inForce (changesOf hs)
+history-lists : (hs : List Act) (s : State Written) → acts hs (state []) ≡ some s → listNums (s .lists) ≡ inForce (changesOf hs)
 history-lists hs s h = lists-by-takings (changesOf hs) s (sym (acts-all hs (state [])) ∙ h)
 
 pub mounted-in-order : MountedInOrder
 mounted-in-order d h es v x l n =
     let k = demand3 d h es v in
-    ap (λ (s : State Content). listNums (s .lists)) (k .shows x l n) ∙ history-lists (onCard (play (begun d) es .book)) (k .state) (k .prefix)
+    ap (λ (s : State Written). listNums (s .lists)) (k .shows x l n) ∙ history-lists (onCard (play (begun d) es .book)) (k .state) (k .prefix)
 
 -- Each view of a disk that no cut has touched since its last mounting.
 module _ (d : Disk) (b : Book) (i : Live d b) where
   persistent-lists : listNums (persistent d .lists) ≡ inForce (changesOf (onCard b))
   persistent-lists =
       let k = inv-kept (record { disk = d; down = false }) b i in
-      ap (λ (s : State Content). listNums (s .lists)) (persistent-kept d b k) ∙ history-lists (onCard b) (k .state) (k .prefix)
+      ap (λ (s : State Written). listNums (s .lists)) (persistent-kept d b k) ∙ history-lists (onCard b) (k .state) (k .prefix)
 
   committed-lists : listNums (committed d .lists) ≡ inForce (changesOf (b .history))
   committed-lists =
       let t = i .told in
-      ap (λ (s : State Content). listNums (s .lists)) (committed-state d b i)
+      ap (λ (s : State Written). listNums (s .lists)) (committed-state d b i)
       ∙ history-lists (b .history) (t .reader .state) (ap (λ (l : List Act). acts l (state [])) (t .history) ∙ replay-acts (t .entries) start (t .reader) (t .replays))
 
   module _ (k : Right d) where

@@ -11,7 +11,7 @@ use Rattle.lists.specs.Change.{Change, carriedBy}
 use Rattle.lists.specs.State.{State, apply, applyAll}
 use Rattle.log.specs.Entry.{Entry, plain, commit}
 use Rattle.log.specs.Reader.{Reader, settled, start, read, replay}
-use Rattle.log.specs.Card.{Content, sound, mounted}
+use Rattle.log.specs.Card.{Written, sound, mounted}
 use Rattle.log.proofs.Replay.{replay-append}
 use Rattle.log.proofs.Segment.{Sized, carries-walk}
 use Rattle.log.proofs.Places.{Good}
@@ -38,13 +38,13 @@ committed-reader d b s t i =
     let w : mounted (d .card) ≡ sound (v .reader) =
     carries-walk (d .card) (map entriesOf (b .segs)) (v .reader) (s .carries) (ap (replay start) p ∙ v .replays) in
     let e : v .entries ++ entriesOf (b .line) ≡ t .entries =
-    ap (λ (x : List (Entry Content)). x ++ entriesOf (b .line)) (sym p ∙ entries-joined (b .segs))
+    ap (λ (x : List (Entry Written)). x ++ entriesOf (b .line)) (sym p ∙ entries-joined (b .segs))
     ∙ sym (entries-append (joined (b .segs)) (b .line)) ∙ ap entriesOf (t .log) ∙ entries-label 0 (t .entries) in
     rw w (rw (i .queue)
     (rejoin v (t .reader) (entriesOf (b .line))
     (sym (replay-append start (v .entries) (entriesOf (b .line))) ∙ ap (replay start) e ∙ t .replays)))
   where
-    rejoin : (v : Shown (b .segs) (b .history)) (z : Reader Content) (q : List (Entry Content))
+    rejoin : (v : Shown (b .segs) (b .history)) (z : Reader Written) (q : List (Entry Written))
         → bind (replay start (v .entries)) (λ r. replay r q) ≡ some z → replay (v .reader) q ≡ some z
     rejoin v z q h = rw (v .replays) at h
 
@@ -52,7 +52,7 @@ pub committed-state : (d : Disk) (b : Book) (i : Live d b) → committed d ≡ i
 committed-state d b i = committed-is d (i .told .reader) (committed-reader d b (i .sim) (i .told) (i .tied refl))
 
 -- What is left of the disk as it was when the queue has grown by es and the book's line by ws.
-record Grown (d d′ : Disk) (b b′ : Book) (es : List (Entry Content)) (ws : List Waiting) : Type 0 where
+record Grown (d d′ : Disk) (b b′ : Book) (es : List (Entry Written)) (ws : List Waiting) : Type 0 where
   card : d′ .card ≡ d .card
   queue : queued d′ ≡ queued d ++ es
   done : d′ .rec .ring .done ≡ d .rec .ring .done
@@ -63,7 +63,7 @@ record Grown (d d′ : Disk) (b b′ : Book) (es : List (Entry Content)) (ws : L
   journals : (u : ℕ) → 1 ≤ u → u ≤ 4 → journalOf d′ u ≡ batchOf b′ u
 
 -- entries join the queue and the line, and what they tell joins the history
-join-line : (d d′ : Disk) (b b′ : Book) (es : List (Entry Content)) (hs : List Act) (z : Reader Content) (i : Live d b)
+join-line : (d d′ : Disk) (b b′ : Book) (es : List (Entry Written)) (hs : List Act) (z : Reader Written) (i : Live d b)
     → Grown d d′ b b′ es (label (length (b .history)) es) → AllGood es → hs ≡ tell (runAfter [] (i .told .entries)) es → b′ .history ≡ b .history ++ hs
     → replay (i .told .reader) es ≡ some z → Live d′ b′
 unfolding placedEntries
@@ -73,7 +73,7 @@ join-line d d′ b b′ es hs z i g good h k r =
     (flows-append (d .card) (map entriesOf (b .segs)) (entriesOf (b .line)) es (b .done) (i .sim) good))
     (told-add b (i .told) (label (length (b .history)) es) hs es z refl h r b′ (g .segs) (g .line) k)
     (record {
-      queue = g .queue ∙ ap (λ (x : List (Entry Content)). x ++ es) (i .tied refl .queue) ∙ sym lines;
+      queue = g .queue ∙ ap (λ (x : List (Entry Written)). x ++ es) (i .tied refl .queue) ∙ sym lines;
       done = g .done ∙ i .tied refl .done ∙ sym (g .mark);
       journals = g .journals;
     })
@@ -83,14 +83,14 @@ join-line d d′ b b′ es hs z i g good h k r =
     lines : entriesOf (b′ .line) ≡ entriesOf (b .line) ++ es
     lines =
         ap entriesOf (g .line) ∙ entries-append (b .line) (label (length (b .history)) es)
-        ∙ ap (λ (x : List (Entry Content)). entriesOf (b .line) ++ x) (entries-label (length (b .history)) es)
+        ∙ ap (λ (x : List (Entry Written)). entriesOf (b .line) ++ x) (entries-label (length (b .history)) es)
 
 -- A simple change.
-replay-plain : (r : Reader Content) (c : Change Content) (s : State Content) → apply c (r .state) ≡ some s → replay r (plain c ∷ []) ≡ some (settled s)
+replay-plain : (r : Reader Written) (c : Change Written) (s : State Written) → apply c (r .state) ≡ some s → replay r (plain c ∷ []) ≡ some (settled s)
 unfolding replay read
 replay-plain r c s a = rw a
 
-pub join-plain : (d : Disk) (b : Book) (c : Change Content) (s : State Content) → Right d → Live d b → d .rec .ring .len < 32 → Good (plain c)
+pub join-plain : (d : Disk) (b : Book) (c : Change Written) (s : State Written) → Right d → Live d b → d .rec .ring .len < 32 → Good (plain c)
     → apply c (committed d) ≡ some s → Live (enqueue (plain c) d) (joinPlain c b)
 unfolding joinPlain batchOf
 join-plain d b c s r i m g a =
@@ -109,7 +109,7 @@ join-plain d b c s r i m g a =
     (replay-plain (i .told .reader) c s (ap (apply c) (sym (committed-state d b i)) ∙ a))
 
 -- A change in a unit.
-pub join-batch : (d : Disk) (b : Book) (u : ℕ) (c : Change Content) → Right d → Live d b → 1 ≤ u → u ≤ 4 → unitOf d u .len < 15 → Sized (carriedBy c)
+pub join-batch : (d : Disk) (b : Book) (u : ℕ) (c : Change Written) → Right d → Live d b → 1 ≤ u → u ≤ 4 → unitOf d u .len < 15 → Sized (carriedBy c)
     → Live (journalAdd u c d) (withBatch b u (batchOf b u ++ c ∷ []))
 unfolding withBatch placedEntries journalAdd
 join-batch d b u c r i p q m z =
@@ -123,7 +123,7 @@ join-batch d b u c r i p q m z =
     journals v x y (yes e) =
         subst (λ (w : ℕ). journalOf (journalAdd u c d) w ≡ batchOf (withBatch b u (batchOf b u ++ c ∷ [])) w) e
         (journal-add u c d p q (r .journalData) m z (r .units .four) (r .units .units u p q .places)
-        ∙ ap (λ (k : List (Change Content)). k ++ c ∷ []) (i .tied refl .journals u p q)
+        ∙ ap (λ (k : List (Change Written)). k ++ c ∷ []) (i .tied refl .journals u p q)
         ∙ sym (batch-same b u (batchOf b u ++ c ∷ []) (omega (arith, i .four))))
     journals v x y (no e) =
         journal-other u c d p q (r .journalData) m z v x y e (r .units .units v x y .room)
@@ -131,16 +131,16 @@ join-batch d b u c r i p q m z =
         ∙ sym (batch-other b u v (batchOf b u ++ c ∷ []) (omega arith))
 
 -- A unit's batch as it goes to the line.
-line-unit : (l : List Waiting) (n : ℕ) (cs : List (Change Content)) → l ++ map memberOf cs ++ closing (commit (length cs)) n ∷ [] ≡ l ++ label n (unitEntries cs)
+line-unit : (l : List Waiting) (n : ℕ) (cs : List (Change Written)) → l ++ map memberOf cs ++ closing (commit (length cs)) n ∷ [] ≡ l ++ label n (unitEntries cs)
 unfolding unitEntries
 line-unit l n cs =
     append-assoc l (map memberOf cs) (closing (commit (length cs)) n ∷ []) ∙ ap (λ (x : List Waiting). l ++ x) (sym (label-unit n (length cs) cs))
 
-unit-tells : (cs run : List (Change Content)) → whole cs ∷ [] ≡ tell run (unitEntries cs)
+unit-tells : (cs run : List (Change Written)) → whole cs ∷ [] ≡ tell run (unitEntries cs)
 unfolding unitEntries
 unit-tells cs run = sym (tell-unit cs run)
 
-pub join-unit : (d : Disk) (b : Book) (u : ℕ) (s : State Content) → Right d → Live d b → 1 ≤ u → u ≤ 4 → d .rec .ring .len + suc (length (journalOf d u)) ≤ 32
+pub join-unit : (d : Disk) (b : Book) (u : ℕ) (s : State Written) → Right d → Live d b → 1 ≤ u → u ≤ 4 → d .rec .ring .len + suc (length (journalOf d u)) ≤ 32
     → AllGood (unitEntries (journalOf d u)) → AllSized (unitEntries (journalOf d u)) → applyAll (journalOf d u) (committed d) ≡ some s
     → Live (closingUnit u (enqueueAll (unitEntries (journalOf d u)) d)) (joinUnit u b)
 unfolding joinUnit withBatch closingUnit batchOf
@@ -151,18 +151,18 @@ join-unit d b u s r i p q m g z a =
       queue = queued-closing u x ∙ queued-all es d (r .log .queueData) (r .log .places) (omega (arith, unit-entries (journalOf d u))) z;
       done = beside-all es d .done;
       segs = refl;
-      line = line-unit (b .line) n (batchOf b u) ∙ ap (λ (cs : List (Change Content)). b .line ++ label n (unitEntries cs)) (sym same);
+      line = line-unit (b .line) n (batchOf b u) ∙ ap (λ (cs : List (Change Written)). b .line ++ label n (unitEntries cs)) (sym same);
       mark = refl;
       four = length-set (b .batches) (u - 1) [] ∙ i .four;
       journals = λ v y w. journals v y w (ℕ-discrete u v);
     })
-    g (unit-tells (batchOf b u) run ∙ ap (λ (cs : List (Change Content)). tell run (unitEntries cs)) (sym same)) refl
+    g (unit-tells (batchOf b u) run ∙ ap (λ (cs : List (Change Written)). tell run (unitEntries cs)) (sym same)) refl
     (replay-unit (i .told .reader) (journalOf d u) s (ap (applyAll (journalOf d u)) (sym (committed-state d b i)) ∙ a))
   where
     n : ℕ
     n = length (b .history)
 
-    es : List (Entry Content)
+    es : List (Entry Written)
     es = unitEntries (journalOf d u)
 
     x : Disk
@@ -171,7 +171,7 @@ join-unit d b u s r i p q m g z a =
     same : journalOf d u ≡ batchOf b u
     same = i .tied refl .journals u p q
 
-    run : List (Change Content)
+    run : List (Change Written)
     run = runAfter [] (i .told .entries)
 
     journals : (v : ℕ) → 1 ≤ v → v ≤ 4 → Dec (u ≡ v) → journalOf (closingUnit u x) v ≡ batchOf (joinUnit u b) v

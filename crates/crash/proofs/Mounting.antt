@@ -9,7 +9,7 @@ use Rattle.lists.specs.Basic.{isSome}
 use Rattle.lists.specs.State.{State, state}
 use Rattle.lists.proofs.Basic.{eq-true, le-true}
 use Rattle.log.specs.Reader.{Reader, start, replay}
-use Rattle.log.specs.Card.{Content, cardLength, sound, mounted}
+use Rattle.log.specs.Card.{Written, cardLength, sound, mounted}
 use Rattle.log.proofs.Segment.{Carries, carries-walk}
 use Rattle.disk.specs.Record.{freshRecord}
 use Rattle.disk.specs.Disk.{withRecord, readerOf, stateOf, persistent, view}
@@ -30,14 +30,14 @@ unfolding cardLength
 length-right c n l p m =
     rw (eq-true (length c % 4096) 0 (omega arith), le-true 1 (length c / 4096) (omega arith)) (le-true (length c / 4096) 64 (omega arith))
 
-module _ (c : List ℕ) (x : Rest) (z : Reader Content) (w : mounted c ≡ sound z) where
+module _ (c : List ℕ) (x : Rest) (z : Reader Written) (w : mounted c ≡ sound z) where
   mount-accepts : cardLength c ≡ true → Lent x → refusal mount (leaves c x) ≡ 0
   unfolding refusal questions firstNo leaves lengthsRight mountable isSome readerOf ask
   mount-accepts l m = rw (l, eq-true (length (x .queueData)) 8192 (m .0), eq-true (length (x .journalData)) 15360 (m .1)) (rw w)
 
   mount-shows : refusal mount (leaves c x) ≡ 0 → (v : ℕ) → view (perform mount (leaves c x) .disk) v ≡ z .state
   unfolding perform accepted persistent leaves readerOf stateOf
-  mount-shows q v = rw (q, perform) (fresh-view (withRecord (leaves c x) freshRecord) refl v ∙ ap {B = State Content} (λ o. stateOf (readerOf o)) w)
+  mount-shows q v = rw (q, perform) (fresh-view (withRecord (leaves c x) freshRecord) refl v ∙ ap {B = State Written} (λ o. stateOf (readerOf o)) w)
 
 pub kept : (c : List ℕ) (b : Book) → Carries c (placedEntries b) → length (b .segs) ≤ 64 → Shown (b .segs) (b .history) → Kept c b
 unfolding placedEntries onCard

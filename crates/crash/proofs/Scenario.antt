@@ -10,7 +10,7 @@ use lib.ListN.{replicate}
 use Rattle.lists.specs.Change.{takeList, putFirst}
 use Rattle.lists.specs.State.{State, state, row, block}
 use Rattle.lists.specs.Takings.{undeleted, inForce}
-use Rattle.log.specs.Card.{Content}
+use Rattle.log.specs.Card.{Written}
 use Rattle.disk.specs.Record.{freshRecord, withFlow}
 use Rattle.disk.specs.Disk.{Disk, view}
 use Rattle.disk.specs.Call.{newList, newBlock, deleteList, inventory, Call, mount, onStream, inView, begin, end, flush}
@@ -65,7 +65,7 @@ pub last : Scene
 last = play (begun blank) events
 
 -- list 1 with blocks 2 and 1, both unwritten
-pub mountedState : State Content
+pub mountedState : State Written
 mountedState = state (row 1 (block 2 none ∷ block 1 none ∷ []) ∷ [])
 
 -- opens what the events and the book compute with

@@ -14,7 +14,7 @@ use Rattle.lists.specs.Change.{Change}
 use Rattle.lists.proofs.Basic.{eqb-true, eqb-neq}
 use Rattle.log.specs.declared.place.Place.{Place}
 use Rattle.log.specs.Entry.{Entry, carried}
-use Rattle.log.specs.Card.{Content}
+use Rattle.log.specs.Card.{Written}
 use Rattle.log.specs.Store.{home, entryStores}
 use Rattle.log.specs.Flush.{Flow, Ending, drained, full, stored, stopped, nextStore, flushFrom}
 use Rattle.log.proofs.Segment.{Sized, Empties, Packed, data-length}
@@ -47,8 +47,8 @@ used-entries ((w ∷ ws) ∷ ss) = ap suc (used-entries ss)
 move-entries : (g : ℕ) (w : Waiting) (ss : List (List Waiting)) → map entriesOf (moveTo g w ss) ≡ addTo g (w .entry) (map entriesOf ss)
 unfolding moveTo addTo entriesOf
 move-entries g w [] = refl
-move-entries zero w (s ∷ ss) = ap {B = List (List (Entry Content))} (λ r. r ∷ map entriesOf ss) (map-append (λ (x : Waiting). x .entry) s (w ∷ []))
-move-entries (suc g) w (s ∷ ss) = ap {B = List (List (Entry Content))} (λ r. entriesOf s ∷ r) (move-entries g w ss)
+move-entries zero w (s ∷ ss) = ap {B = List (List (Entry Written))} (λ r. r ∷ map entriesOf ss) (map-append (λ (x : Waiting). x .entry) s (w ∷ []))
+move-entries (suc g) w (s ∷ ss) = ap {B = List (List (Entry Written))} (λ r. entriesOf s ∷ r) (move-entries g w ss)
 
 -- the card carries the book's segments, and of the line's first entry so many stores stand as the book says
 abbrev pub Sim : List ℕ → Book → Type 0
@@ -72,11 +72,11 @@ data Moved (n : ℕ) (c : List ℕ) (b : Book) : Type 0 where
   halted : (x : Ending) → nextStore n (bookFlow c b) ≡ stopped x → bookStore b ≡ none → Moved n c b
   moved : (c′ : List ℕ) (b′ : Book) → nextStore n (bookFlow c b) ≡ stored (bookFlow c′ b′) → bookStore b ≡ some b′ → Sim c′ b′ → Keeps b b′ → Moved n c b
 
-cost-length : (p : Place) (e : Entry Content) → Sized (carried e) → length (entryStores p e) ≡ cost e
+cost-length : (p : Place) (e : Entry Written) → Sized (carried e) → length (entryStores p e) ≡ cost e
 unfolding cost
 cost-length p e z = omega (arith, entry-stores-length p e, raw-length (p .slots) e, data-length (carried e) z)
 
-abbrev bookWith : List Act → List (List (Change Content)) → List (List Waiting) → ℕ → List Waiting → Book
+abbrev bookWith : List Act → List (List (Change Written)) → List (List Waiting) → ℕ → List Waiting → Book
 bookWith hs bs ss k l = record { history = hs; line = l; done = k; batches = bs; segs = ss }
 
 moved-log : (g : ℕ) (w : Waiting) (ss : List (List Waiting)) (ws : List Waiting) → g < length ss → (g ≡ used ss) ⊎ (suc g ≡ used ss) → Packed ss
@@ -88,19 +88,19 @@ moved-size : (g : ℕ) (w : Waiting) (ss : List (List Waiting)) → length (move
 unfolding moveTo addTo
 moved-size g w ss = add-length g w ss
 
-store-sim : (hs : List Act) (bs : List (List (Change Content))) (ss : List (List Waiting)) (k : ℕ) (c : List ℕ) (l : List Waiting)
+store-sim : (hs : List Act) (bs : List (List (Change Written))) (ss : List (List Waiting)) (k : ℕ) (c : List ℕ) (l : List Waiting)
     → Sim c (bookWith hs bs ss k l) → Moved (length (map entriesOf ss)) c (bookWith hs bs ss k l)
 unfolding bookStore entriesOf placedEntries
 store-sim hs bs ss k c [] s = halted drained (next-none c (map entriesOf ss) k) refl
 store-sim hs bs ss k c (w ∷ ws) s = go (home (length ess) (endOf ess) e) refl
   where
-    ess : List (List (Entry Content))
+    ess : List (List (Entry Written))
     ess = map entriesOf ss
 
-    e : Entry Content
+    e : Entry Written
     e = w .entry
 
-    q : List (Entry Content)
+    q : List (Entry Written)
     q = entriesOf ws
 
     -- the book's own place is the same
@@ -129,9 +129,9 @@ store-sim hs bs ss k c (w ∷ ws) s = go (home (length ess) (endOf ess) e) refl
             let l : suc k ≡ length (entryStores p e) = eqb-true (suc k) (length (entryStores p e)) f in
             let m : map entriesOf (moveTo (p .segment) w ss) ≡ addTo (p .segment) e ess = move-entries (p .segment) w ss in
             moved c′ (bookWith hs bs (moveTo (p .segment) w ss) 0 ws)
-            (next-last c ess e q k s p h l ∙ ap (λ (x : List (List (Entry Content))). stored (flowFor c′ x q 0)) (sym m))
+            (next-last c ess e q k s p h l ∙ ap (λ (x : List (List (Entry Written))). stored (flowFor c′ x q 0)) (sym m))
             (rw (same h, bookStore) (rw (rw costs at f)))
-            (subst (λ (x : List (List (Entry Content))). Flows c′ x q 0) (sym m) (store-last c ess e q k s p h l))
+            (subst (λ (x : List (List (Entry Written))). Flows c′ x q 0) (sym m) (store-last c ess e q k s p h l))
             (record {
               history = refl;
               batches = refl;

@@ -12,7 +12,7 @@ use Rattle.lists.specs.Change.{Change}
 use Rattle.lists.proofs.Basic.{bind-some, joined-nils}
 use Rattle.log.specs.Entry.{Entry}
 use Rattle.log.specs.Reader.{Reader, start, replay}
-use Rattle.log.specs.Card.{Content}
+use Rattle.log.specs.Card.{Written}
 use Rattle.log.proofs.Replay.{replay-append}
 use Rattle.crash.specs.Book.{Book, Waiting, Act, longest, closingOnCard, onCard, settle, keepFirst, bookFormat, withBatch, emptyBook}
 use Rattle.crash.proofs.History.{tell, tell-append, runAfter, label, label-append, label-take, on-card}
@@ -20,22 +20,22 @@ use Rattle.crash.proofs.Book.{joined-keep}
 
 -- the log and the line behind it tell the history, and replay
 pub record Told (b : Book) : Type 0 where
-  pub entries : List (Entry Content)
+  pub entries : List (Entry Written)
   pub log : joined (b .segs) ++ b .line ≡ label 0 entries
   pub history : b .history ≡ tell [] entries
-  pub reader : Reader Content
+  pub reader : Reader Written
   pub replays : replay start entries ≡ some reader
 
 -- what is placed on segments tells the longest prefix whose closing stores are there, and replays
 pub record Shown (ss : List (List Waiting)) (hs : List Act) : Type 0 where
-  pub entries : List (Entry Content)
+  pub entries : List (Entry Written)
   pub log : joined ss ≡ label 0 entries
   pub prefix : longest (closingOnCard ss) 0 hs ≡ tell [] entries
-  pub reader : Reader Content
+  pub reader : Reader Written
   pub replays : replay start entries ≡ some reader
 
 -- some first entries of what replays
-shown : (ss : List (List Waiting)) (more : List Waiting) (es : List (Entry Content)) (hs : List Act) (z : Reader Content)
+shown : (ss : List (List Waiting)) (more : List Waiting) (es : List (Entry Written)) (hs : List Act) (z : Reader Written)
     → joined ss ++ more ≡ label 0 es → hs ≡ tell [] es → replay start es ≡ some z → Shown ss hs
 shown ss more es hs z h k r = record {
   entries = p;
@@ -48,10 +48,10 @@ shown ss more es hs z h k r = record {
     n : ℕ
     n = length (joined ss)
 
-    p : List (Entry Content)
+    p : List (Entry Written)
     p = take n es
 
-    q : List (Entry Content)
+    q : List (Entry Written)
     q = drop n es
 
     split : p ++ q ≡ es
@@ -60,7 +60,7 @@ shown ss more es hs z h k r = record {
     here : joined ss ≡ label 0 p
     here = sym (take-at (joined ss) more n refl) ∙ ap (take n) h ∙ sym (label-take 0 n es)
 
-    first : (y : Reader Content) × (replay start p ≡ some y) × (replay y q ≡ some z)
+    first : (y : Reader Written) × (replay start p ≡ some y) × (replay y q ≡ some z)
     first = bind-some (replay start p) (λ y. replay y q) z (sym (replay-append start p q) ∙ ap (replay start) split ∙ r)
 
 pub told-shown : (b : Book) → Told b → Shown (b .segs) (b .history)
@@ -91,12 +91,12 @@ pub empty-told : (n : ℕ) → Told (emptyBook n)
 unfolding emptyBook label tell replay
 empty-told n = record { entries = []; log = append-nil (joined (replicate n [])) ∙ joined-nils n; history = refl; reader = start; replays = refl }
 
-pub withBatch-told : (b : Book) (u : ℕ) (cs : List (Change Content)) → Told b → Told (withBatch b u cs)
+pub withBatch-told : (b : Book) (u : ℕ) (cs : List (Change Written)) → Told b → Told (withBatch b u cs)
 unfolding withBatch
 withBatch-told b u cs t = record { entries = t .entries; log = t .log; history = t .history; reader = t .reader; replays = t .replays }
 
 -- entries join the line, and what they tell joins the history
-pub told-add : (b : Book) (t : Told b) (ws : List Waiting) (hs : List Act) (es : List (Entry Content)) (z : Reader Content)
+pub told-add : (b : Book) (t : Told b) (ws : List Waiting) (hs : List Act) (es : List (Entry Written)) (z : Reader Written)
     → ws ≡ label (length (b .history)) es → hs ≡ tell (runAfter [] (t .entries)) es → replay (t .reader) es ≡ some z
     → (b′ : Book) → b′ .segs ≡ b .segs → b′ .line ≡ b .line ++ ws → b′ .history ≡ b .history ++ hs → Told b′
 told-add b t ws hs es z w h r b′ s l k = record {

@@ -17,7 +17,7 @@ use Rattle.lists.proofs.Count.{puts}
 use Rattle.lists.proofs.Distinct.{Distinct, empty-distinct, apply-distinct}
 use Rattle.lists.proofs.Placed.{placed-changed}
 use Rattle.lists.proofs.Written.{writes, written-changed, written-put}
-use Rattle.log.specs.Card.{Content}
+use Rattle.log.specs.Card.{Written}
 use Rattle.disk.specs.Record.{freshRecord}
 use Rattle.disk.specs.Disk.{Disk, persistent, view}
 use Rattle.disk.specs.Call.{mount}
@@ -29,21 +29,21 @@ use Rattle.crash.specs.Demand3.{Lent, Kept, play, begun}
 use Rattle.crash.specs.Unwritten.{changesOf, tells, lastTold, WrittenByHistory}
 use Rattle.crash.proofs.Demand3.{demand3}
 
-all-append : (xs ys : List (Change Content)) (s : State Content) → applyAll (xs ++ ys) s ≡ bind (applyAll xs s) (λ t. applyAll ys t)
+all-append : (xs ys : List (Change Written)) (s : State Written) → applyAll (xs ++ ys) s ≡ bind (applyAll xs s) (λ t. applyAll ys t)
 unfolding applyAll
 all-append [] ys s = refl
 all-append (x ∷ xs) ys s =
     bind-ext (apply x s) _ _ (λ t. all-append xs ys t) ∙ sym (bind-bind (apply x s) (λ t. applyAll xs t) (λ t. applyAll ys t))
 
 -- a history acts as its changes do
-pub acts-all : (hs : List Act) (s : State Content) → acts hs s ≡ applyAll (changesOf hs) s
+pub acts-all : (hs : List Act) (s : State Written) → acts hs s ≡ applyAll (changesOf hs) s
 unfolding acts act changesOf applyAll
 acts-all [] s = refl
 acts-all (simple c ∷ hs) s = bind-ext (apply c s) _ _ (λ t. acts-all hs t)
 acts-all (whole cs ∷ hs) s = bind-ext (applyAll cs s) _ _ (λ t. acts-all hs t) ∙ sym (all-append cs (changesOf hs) s)
 
 -- One change: a block that is on some list behind it is written as the change tells, or as before.
-tells-by : (b : ℕ) (c : Change Content) → tells b c ≡ cond (puts c b) (some false) (cond (writes c b) (some true) none)
+tells-by : (b : ℕ) (c : Change Written) → tells b c ≡ cond (puts c b) (some false) (cond (writes c b) (some true) none)
 tells-by b (takeList l) = refl
 tells-by b (putFirst n l) = refl
 tells-by b (putAfter n l p) = refl
@@ -52,15 +52,15 @@ tells-by b (delBlock n) = refl
 tells-by b (delList l) = refl
 
 -- what holds of a block that is on some list at the end: the last word o on it, or as it was at the start
-abbrev Says : Option Bool → ℕ → List (Row Content) → List (Row Content) → Type 0
+abbrev Says : Option Bool → ℕ → List (Row Written) → List (Row Written) → Type 0
 Says none b rs qs = (placed b rs ≡ true) × (written b qs ≡ written b rs)
 Says (some t) b rs qs = written b qs ≡ t
 
-says-same : (o : Option Bool) (b : ℕ) (rs qs ps : List (Row Content)) → Says o b rs qs → written b ps ≡ written b qs → Says o b rs ps
+says-same : (o : Option Bool) (b : ℕ) (rs qs ps : List (Row Written)) → Says o b rs qs → written b ps ≡ written b qs → Says o b rs ps
 says-same none b rs qs ps w e = (w .0, e ∙ w .1)
 says-same (some t) b rs qs ps w e = e ∙ w
 
-change-says : (b : ℕ) (c : Change Content) (rs : List (Row Content)) → Distinct rs → applies c rs ≡ true → placed b (changed c rs) ≡ true
+change-says : (b : ℕ) (c : Change Written) (rs : List (Row Written)) → Distinct rs → applies c rs ≡ true → placed b (changed c rs) ≡ true
     → Says (tells b c) b rs (changed c rs)
 change-says b c rs d a h = rw (tells-by b c) (go (puts c b) refl (writes c b) refl)
   where
@@ -73,7 +73,7 @@ change-says b c rs d a h = rw (tells-by b c) (go (puts c b) refl (writes c b) re
     )
 
 -- changes in order
-changes-say : (b : ℕ) (cs : List (Change Content)) (s t : State Content) → Distinct (s .lists) → applyAll cs s ≡ some t → placed b (t .lists) ≡ true
+changes-say : (b : ℕ) (cs : List (Change Written)) (s t : State Written) → Distinct (s .lists) → applyAll cs s ≡ some t → placed b (t .lists) ≡ true
     → Says (lastTold b cs) b (s .lists) (t .lists)
 unfolding applyAll lastTold
 changes-say b [] s t d e h = let q : s ≡ t = Option·some-injective _ _ e in rw q (h, refl)
@@ -82,12 +82,12 @@ changes-say b (c ∷ cs) s t d e h =
     let (a, k) = apply-some c s u f in
     go u (lastTold b cs) (changes-say b cs u t (apply-distinct c s u f d) g h) (λ p. rw k (change-says b c (s .lists) d a (rw k at p)))
   where
-    go : (u : State Content) (o : Option Bool) → Says o b (u .lists) (t .lists) → (placed b (u .lists) ≡ true → Says (tells b c) b (s .lists) (u .lists))
+    go : (u : State Written) (o : Option Bool) → Says o b (u .lists) (t .lists) → (placed b (u .lists) ≡ true → Says (tells b c) b (s .lists) (u .lists))
         → Says (elim o [ none ↦ tells b c | some x ↦ some x ]) b (s .lists) (t .lists)
     go u none w k = says-same (tells b c) b (s .lists) (u .lists) (t .lists) (k (w .0)) (w .1)
     go u (some x) w k = w
 
-pub written-told : (b : ℕ) (cs : List (Change Content)) (s : State Content) → applyAll cs (state []) ≡ some s → placed b (s .lists) ≡ true
+pub written-told : (b : ℕ) (cs : List (Change Written)) (s : State Written) → applyAll cs (state []) ≡ some s → placed b (s .lists) ≡ true
     → lastTold b cs ≡ some (written b (s .lists))
 unfolding placed
 written-told b cs s e h = go (lastTold b cs) (changes-say b cs (state []) s empty-distinct e h)

@@ -9,7 +9,7 @@ use Rattle.lists.specs.Basic.{bind, any}
 use Rattle.lists.specs.Change.{Change}
 use Rattle.lists.specs.State.{State, apply, applyAll}
 use Rattle.log.specs.Entry.{Entry, plain, member, commit, carried, entryLength}
-use Rattle.log.specs.Card.{Content, usedBy, slotBytes}
+use Rattle.log.specs.Card.{Written, usedBy, slotBytes}
 use Rattle.log.specs.Store.{opened, afterAll, home}
 use Rattle.log.specs.declared.place.Place.{Place}
 use Rattle.disk.specs.Record.{unitCount}
@@ -19,12 +19,12 @@ use Rattle.crash.specs.Event.{Event, called, cutBetween, cutFlush, cutFo
 
 -- an entry of the serial history: a simple change, or a unit's changes as one
 pub data Act : Type 0 where
-  simple : Change Content → Act
-  whole : List (Change Content) → Act
+  simple : Change Written → Act
+  whole : List (Change Written) → Act
 
 -- a log entry that waits or is placed, with the number of the history's entry that its last store closes
 pub record Waiting : Type 0 where
-  pub entry : Entry Content
+  pub entry : Entry Written
   pub closes : Option ℕ
 
 -- the serial history, the waiting line, the stores done of its first entry, each unit's batch, and what each segment holds
@@ -32,14 +32,14 @@ pub record Book : Type 0 where
   pub history : List Act
   pub line : List Waiting
   pub done : ℕ
-  pub batches : List (List (Change Content))
+  pub batches : List (List (Change Written))
   pub segs : List (List Waiting)
 
 unfoldable pub emptyBook : ℕ → Book
 emptyBook n = record { history = []; line = []; done = 0; batches = replicate unitCount []; segs = replicate n [] }
 
 -- "An accepted simple change or NewList joins the serial history, and its log entry the waiting line."
-unfoldable pub joinPlain : Change Content → Book → Book
+unfoldable pub joinPlain : Change Written → Book → Book
 joinPlain c b = record {
   history = b .history ++ simple c ∷ [];
   line = b .line ++ record { entry = plain c; closes = some (length (b .history)) } ∷ [];
@@ -48,17 +48,17 @@ joinPlain c b = record {
   segs = b .segs;
 }
 
-unfoldable pub batchOf : Book → ℕ → List (Change Content)
+unfoldable pub batchOf : Book → ℕ → List (Change Written)
 batchOf b u = getD (b .batches) (u - 1) []
 
-unfoldable pub withBatch : Book → ℕ → List (Change Content) → Book
+unfoldable pub withBatch : Book → ℕ → List (Change Written) → Book
 withBatch b u cs = record { history = b .history; line = b .line; done = b .done; batches = set (b .batches) (u - 1) cs; segs = b .segs }
 
 -- "Other accepted changes in a unit join that unit's batch"
-unfoldable pub join : ℕ → Change Content → Book → Book
+unfoldable pub join : ℕ → Change Written → Book → Book
 join s c b = elim s [ zero ↦ joinPlain c b | suc u ↦ withBatch b (suc u) (batchOf b (suc u) ++ c ∷ []) ]
 
-unfoldable pub memberOf : Change Content → Waiting
+unfoldable pub memberOf : Change Written → Waiting
 memberOf c = record { entry = member c; closes = none }
 
 -- "An accepted End joins the history as one entry; its batch as members, then the commit, goes to the line."
@@ -74,23 +74,23 @@ joinUnit u b =
     }) u []
 
 -- "each entry takes one store more than its length, a write 256 besides"
-unfoldable pub cost : Entry Content → ℕ
+unfoldable pub cost : Entry Written → ℕ
 cost e = suc (entryLength e) + slotBytes * usedBy (carried e)
 
-unfoldable pub entriesOf : List Waiting → List (Entry Content)
+unfoldable pub entriesOf : List Waiting → List (Entry Written)
 entriesOf ws = map (λ (w : Waiting). w .entry) ws
 
-unfoldable pub placedEntries : Book → List (List (Entry Content))
+unfoldable pub placedEntries : Book → List (List (Entry Written))
 placedEntries b = map entriesOf (b .segs)
 
 -- "the last segment in use, 0 if none is": of segments from g on, l being the last before them
-unfoldable pub lastInUse : ℕ → ℕ → List (List (Entry Content)) → ℕ
+unfoldable pub lastInUse : ℕ → ℕ → List (List (Entry Written)) → ℕ
 lastInUse l g [] = l
 lastInUse l g ([] ∷ ss) = lastInUse l (suc g) ss
 lastInUse l g ((e ∷ es) ∷ ss) = lastInUse g (suc g) ss
 
 -- the place behind its entries
-unfoldable pub placeOf : List (List (Entry Content)) → Place
+unfoldable pub placeOf : List (List (Entry Written)) → Place
 placeOf ess = afterAll (opened (lastInUse 0 0 ess)) (getD ess (lastInUse 0 0 ess) [])
 
 unfoldable pub moveTo : ℕ → Waiting → List (List Waiting) → List (List Waiting)
@@ -175,10 +175,10 @@ bookStep b (cutFlush m k x) a = settle (bookFlush k b)
 bookStep b (cutFormat k x) a = settle (bookFormat k b)
 
 -- "A prefix acts on the empty state, an End's changes in order."
-unfoldable pub act : Act → State Content → Option (State Content)
+unfoldable pub act : Act → State Written → Option (State Written)
 act (simple c) s = apply c s
 act (whole cs) s = applyAll cs s
 
-unfoldable pub acts : List Act → State Content → Option (State Content)
+unfoldable pub acts : List Act → State Written → Option (State Written)
 acts [] s = some s
 acts (h ∷ hs) s = bind (act h s) (λ t. acts hs t)

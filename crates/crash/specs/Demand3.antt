@@ -9,7 +9,7 @@ use mathlib.Core.List.{List, [], _∷_}
 use Prim.Native.Nat.{ℕ}
 use lib.ListN.{length}
 use Rattle.lists.specs.State.{State, state as stateOf}
-use Rattle.log.specs.Card.{Content, segmentsIn}
+use Rattle.log.specs.Card.{Written, segmentsIn}
 use Rattle.disk.specs.Disk.{Disk, view}
 use Rattle.disk.specs.Call.{format, mount}
 use Rattle.disk.specs.Questions.{refusal}
@@ -48,7 +48,7 @@ Lent x = (length (x .queueData) ≡ 8192) × (length (x .journalData) ≡ 15360)
 -- A card keeps what the book says: the history's longest prefix acts, every mounting is accepted, and what it then shows, in whatever view, is the
 -- prefix's state.
 pub record Kept (c : List ℕ) (b : Book) : Type 0 where
-  pub state : State Content
+  pub state : State Written
   pub prefix : acts (onCard b) (stateOf []) ≡ some state
   pub mounts : (x : Rest) → Lent x → refusal mount (leaves c x) ≡ 0
   pub shows : (x : Rest) → Lent x → (v : ℕ) → view (perform mount (leaves c x) .disk) v ≡ state

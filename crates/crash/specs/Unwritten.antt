@@ -8,7 +8,7 @@ use lib.Dec.{eqb}
 use Rattle.lists.specs.Change.{Change, takeList, putFirst, putAfter, write, delBlock, delList}
 use Rattle.lists.specs.State.{placed}
 use Rattle.lists.specs.Lookup.{written}
-use Rattle.log.specs.Card.{Content}
+use Rattle.log.specs.Card.{Written}
 use Rattle.disk.specs.Disk.{Disk, persistent}
 use Rattle.disk.specs.Call.{format}
 use Rattle.disk.specs.Questions.{refusal}
@@ -16,13 +16,13 @@ use Rattle.crash.specs.Event.{Event}
 use Rattle.crash.specs.Book.{Act, simple, whole, onCard}
 use Rattle.crash.specs.Demand3.{play, valid, begun}
 
-unfoldable pub changesOf : List Act → List (Change Content)
+unfoldable pub changesOf : List Act → List (Change Written)
 changesOf [] = []
 changesOf (simple c ∷ hs) = c ∷ changesOf hs
 changesOf (whole cs ∷ hs) = cs ++ changesOf hs
 
 -- is block b written by this change? true of a write of it, false of its put; none of every other change
-abbrev pub tells : ℕ → Change Content → Option Bool
+abbrev pub tells : ℕ → Change Written → Option Bool
 tells b (takeList l) = none
 tells b (putFirst n l) = cond (eqb n b) (some false) none
 tells b (putAfter n l p) = cond (eqb n b) (some false) none
@@ -31,7 +31,7 @@ tells b (delBlock n) = none
 tells b (delList l) = none
 
 -- what the last of its puts and writes tells
-unfoldable pub lastTold : ℕ → List (Change Content) → Option Bool
+unfoldable pub lastTold : ℕ → List (Change Written) → Option Bool
 lastTold b [] = none
 lastTold b (c ∷ cs) = elim (lastTold b cs) [ none ↦ tells b c | some t ↦ some t ]
 

@@ -8,7 +8,7 @@ use native.Mathlib.Omega.{arith}
 use native.Mathlib.Decide.{decLt}
 use lib.ListN.{length, drop, take, getD, length-append, length-drop, List·getD-append}
 use lib.Seq.{getD-take, getD-drop, getD-append-add, length-take-le}
-use Rattle.log.specs.Card.{Content, slot, splice}
+use Rattle.log.specs.Card.{Content, Written, slot, splice}
 use Rattle.log.proofs.Segment.{Sized}
 use Rattle.log.proofs.Slot.{Stands, same-getD, length-slot, getD-slot, slot-stands}
 use Rattle.disk.specs.Perform.{spliceSome}
@@ -58,22 +58,22 @@ slot-other l i j v z h m d =
     side k o (no b) = inr (omega arith)
 
 -- Data put in, if there is any.
-abbrev pub FillsWith : Content → Option Content → Type 0
+abbrev pub FillsWith : Content → Option Written → Type 0
 FillsWith x none = Unit {0}
-FillsWith x (some d) = x ≡ d
+FillsWith x (some d) = x ≡ d .body
 
-pub length-spliced : (l : List ℕ) (i : ℕ) (o : Option Content) → i + 256 ≤ length l → Sized o → length (spliceSome l i o) ≡ length l
+pub length-spliced : (l : List ℕ) (i : ℕ) (o : Option Written) → i + 256 ≤ length l → Sized o → length (spliceSome l i o) ≡ length l
 unfolding spliceSome
 length-spliced l i none h z = refl
-length-spliced l i (some v) h z = length-splice l i v (omega arith)
+length-spliced l i (some v) h z = length-splice l i (v .body) (omega arith)
 
-pub filled-place : (l : List ℕ) (i : ℕ) (o : Option Content) → 256 * i + 256 ≤ length l → Sized o → FillsWith (slot (spliceSome l (256 * i) o) i) o
+pub filled-place : (l : List ℕ) (i : ℕ) (o : Option Written) → 256 * i + 256 ≤ length l → Sized o → FillsWith (slot (spliceSome l (256 * i) o) i) o
 unfolding spliceSome
 filled-place l i none h z = tt
-filled-place l i (some d) h z = slot-same l i d z h
+filled-place l i (some d) h z = slot-same l i (d .body) z h
 
-pub other-place : (l : List ℕ) (i j : ℕ) (o : Option Content) → 256 * i + 256 ≤ length l → 256 * j + 256 ≤ length l → Sized o → i ≢ j
+pub other-place : (l : List ℕ) (i j : ℕ) (o : Option Written) → 256 * i + 256 ≤ length l → 256 * j + 256 ≤ length l → Sized o → i ≢ j
     → slot (spliceSome l (256 * i) o) j ≡ slot l j
 unfolding spliceSome
 other-place l i j none h m z d = refl
-other-place l i j (some v) h m z d = slot-other l i j v z h m d
+other-place l i j (some v) h m z d = slot-other l i j (v .body) z h m d

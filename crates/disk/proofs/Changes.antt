@@ -1,7 +1,7 @@
 -- The changes that accepted calls make: each may be placed on the card, one that is queued applies to the committed state, and what it puts is free
 -- (`edit-makes`). The entries of a unit's end may be placed too, and act as one.
 use mathlib.Core.Path.{_≡_, refl, sym, ap, _∙_, subst}
-use mathlib.Core.Bool.{Bool, true, false, cond, false≢true}
+use mathlib.Core.Bool.{Bool, true, false, _&&_, cond, false≢true}
 use mathlib.Core.Option.{some}
 use mathlib.Core.List.{List, [], _∷_, _++_, map, append-assoc, append-nil}
 use Prim.Native.Nat.{ℕ, zero, suc, _-_, _≤_}
@@ -14,9 +14,10 @@ use Rattle.lists.specs.Change.{Change, takeList, write, delBlock, delList, mapC
 use Rattle.lists.specs.State.{Row, State, state, taken, placed, applies, changed, apply, applyAll}
 use Rattle.lists.proofs.Basic.{and-true, not-true, eqb-true, leb-true, le-true, guard-true, all-append}
 use Rattle.lists.proofs.Count.{puts}
-use Rattle.log.specs.Entry.{Entry, plain, member, commit, mapEntry, carried, raw, legal, legalChange, hasMember, isBlock, isList}
+use Rattle.log.specs.Raced.{raced}
+use Rattle.log.specs.Entry.{Entry, plain, member, commit, mapEntry, carried, raw, legal, legalChange, hasMember, isBlock, isList, isRace}
 use Rattle.log.specs.Reader.{Reader, reader, settled, lastOf, read, replay}
-use Rattle.log.specs.Card.{Content}
+use Rattle.log.specs.Card.{Content, Written}
 use Rattle.log.proofs.Places.{Good}
 use Rattle.log.proofs.Flows.{AllGood}
 use Rattle.disk.specs.Record.{Record, holderOf}
@@ -38,9 +39,9 @@ unfolding putAt legal raw mapEntry mapChange legalChange carried carriedBy
 put-good b l zero x y z = record { lawful = rw (x, y); sized = tt }
 put-good b l (suc p) x y z = record { lawful = rw (x, y) (in-range 64 (suc p) (omega arith) z); sized = tt }
 
-write-good : (b : ℕ) (x : Content) → isBlock b ≡ true → length x ≡ 256 → Good (plain (write b x))
+write-good : (b n : ℕ) (x : Content) → isBlock b ≡ true → isRace n ≡ true → length x ≡ 256 → Good (plain (write b (raced x n)))
 unfolding legal raw mapEntry mapChange legalChange carried carriedBy
-write-good b x h z = record { lawful = rw h; sized = z }
+write-good b n x h r z = record { lawful = rw (h, r); sized = z }
 
 delBlock-good : (b : ℕ) → isBlock b ≡ true → Good (plain (delBlock b))
 unfolding legal raw mapEntry mapChange legalChange carried carriedBy
@@ -51,21 +52,21 @@ unfolding legal raw mapEntry mapChange legalChange carried carriedBy
 delList-good l h = record { lawful = h; sized = tt }
 
 -- Changes that apply.
-pub apply-applies : (c : Change Content) (s : State Content) → applies c (s .lists) ≡ true → apply c s ≡ some (state (changed c (s .lists)))
+pub apply-applies : (c : Change Written) (s : State Written) → applies c (s .lists) ≡ true → apply c s ≡ some (state (changed c (s .lists)))
 unfolding apply
 apply-applies c s h = guard-true (applies c (s .lists)) _ h
 
-take-applies : (l : ℕ) (rs : List (Row Content)) → taken l rs ≡ false → applies {D = Content} (takeList l) rs ≡ true
+take-applies : (l : ℕ) (rs : List (Row Written)) → taken l rs ≡ false → applies {D = Written} (takeList l) rs ≡ true
 unfolding applies
 take-applies l rs h = not-true (taken l rs) h
 
-put-applies : (b l p : ℕ) (rs : List (Row Content)) → taken l rs ≡ true → placed b rs ≡ false → predecessorRight rs l p ≡ true → applies (putAt b l p) rs ≡ true
+put-applies : (b l p : ℕ) (rs : List (Row Written)) → taken l rs ≡ true → placed b rs ≡ false → predecessorRight rs l p ≡ true → applies (putAt b l p) rs ≡ true
 unfolding putAt applies predecessorRight
 put-applies b l zero rs t n h = rw (t, n)
 put-applies b l (suc p) rs t n h = rw (t, n) (rw (eqb·suc-zero p) at h)
 
 -- a change on stream 0 is judged in the committed state
-at-zero : (P : State Content → Type 0) (s : ℕ) (d : Disk) → s ≡ 0 → P (view d s) → P (committed d)
+at-zero : (P : State Written → Type 0) (s : ℕ) (d : Disk) → s ≡ 0 → P (view d s) → P (committed d)
 unfolding view
 at-zero P s d e h = subst (λ (n : ℕ). P (view d n)) e h
 
@@ -84,7 +85,7 @@ unfolding putAt
 put-puts b l zero n h = eqb-true b n h
 put-puts b l (suc p) n h = eqb-true b n h
 
-pub stream-open : (s : ℕ) (c : Change Content) (d : Disk) → streamOpen d s ≡ true → streamOpen d (streamFor s c) ≡ true
+pub stream-open : (s : ℕ) (c : Change Written) (d : Disk) → streamOpen d s ≡ true → streamOpen d (streamFor s c) ≡ true
 unfolding streamFor streamOpen
 stream-open s c d h = go (hasMember c)
   where
@@ -93,7 +94,7 @@ stream-open s c d h = go (hasMember c)
     go false = refl
 
 -- a change made on stream s of disk d: it goes to a queue or a journal that has room
-pub record Makes (s : ℕ) (c : Change Content) (d : Disk) : Type 0 where
+pub record Makes (s : ℕ) (c : Change Written) (d : Disk) : Type 0 where
   pub journal : journalRoom d (streamFor s c) ≡ true
   pub queue : streamRoom d (streamFor s c) ≡ true
   pub good : Good (plain c)
@@ -122,15 +123,16 @@ edit-makes s (newBlock l p) d h =
           (at-zero (λ x. taken l (x .lists) ≡ true) s d (sym w ∙ e) (y 4)) n (at-zero (λ x. predecessorRight (x .lists) l p ≡ true) s d (sym w ∙ e) (y 5));
       free = λ x e. rw (← (put-puts b l p x e)) (z, n);
     }
-edit-makes s (writeBlock b x) d h =
-    let y = yes-all (onStream s (writeBlock b x)) d h in
-    let (a, c) = and-true (isBlock b) (eqb (length x) 256) (y 3) in
+edit-makes s (writeBlock b n x) d h =
+    let y = yes-all (onStream s (writeBlock b n x)) d h in
+    let (a, c) = and-true (isBlock b && isRace n) (eqb (length x) 256) (y 3) in
+    let (i, r) = and-true (isBlock b) (isRace n) a in
     record {
       journal = y 5;
       queue = y 6;
-      good = write-good b x a (eqb-true (length x) 256 c);
+      good = write-good b n x i r (eqb-true (length x) 256 c);
       applying = λ e. at-zero (λ t. placed b (t .lists) ≡ true) s d e (y 4);
-      free = λ n e. absurd (false≢true e);
+      free = λ m e. absurd (false≢true e);
     }
 edit-makes s (deleteBlock b) d h =
     let y = yes-all (onStream s (deleteBlock b)) d h in
@@ -140,34 +142,34 @@ edit-makes s (deleteList l) d h =
     record { journal = y 5; queue = y 6; good = delList-good l (y 3); applying = λ e. at-zero (λ t. taken l (t .lists) ≡ true) s d e (y 4); free = λ n e. absurd (false≢true e) }
 
 -- The entries of a unit's end.
-pub good-all : (es : List (Entry Content)) → all (λ e. legal (raw 0 e)) es ≡ true → AllSized es → AllGood es
+pub good-all : (es : List (Entry Written)) → all (λ e. legal (raw 0 e)) es ≡ true → AllSized es → AllGood es
 unfolding all
 good-all [] h z = tt
 good-all (e ∷ es) h z =
     let (a, b) = and-true (legal (raw 0 e)) (all (λ x. legal (raw 0 x)) es) h in
     (record { lawful = a; sized = z .0 }, good-all es b (z .1))
 
-journal-legal : (r : Record) (u : ℕ) (cs : List (Change Content)) → all (journalSound r u) cs ≡ true → all (λ e. legal (raw 0 e)) (map member cs) ≡ true
+journal-legal : (r : Record) (u : ℕ) (cs : List (Change Written)) → all (journalSound r u) cs ≡ true → all (λ e. legal (raw 0 e)) (map member cs) ≡ true
 unfolding all journalSound
 journal-legal r u [] h = refl
 journal-legal r u (c ∷ cs) h =
     let (a, b) = and-true (journalSound r u c) (all (journalSound r u) cs) h in
     rw (and-true (legal (raw 0 (member c))) _ a .0) (journal-legal r u cs b)
 
-pub unit-good : (r : Record) (u : ℕ) (cs : List (Change Content)) → all (journalSound r u) cs ≡ true → length cs ≤ 15 → AllSized (unitEntries cs) → AllGood (unitEntries cs)
+pub unit-good : (r : Record) (u : ℕ) (cs : List (Change Written)) → all (journalSound r u) cs ≡ true → length cs ≤ 15 → AllSized (unitEntries cs) → AllGood (unitEntries cs)
 unfolding unitEntries all legal raw mapEntry
 unit-good r u cs h l z =
     good-all (unitEntries cs) (all-append (λ e. legal (raw 0 e)) (map member cs) (commit (length cs) ∷ []) (journal-legal r u cs h) (rw (le-true (length cs) 15 l))) z
 
-replay-members : (r : Reader Content) (n : ℕ) (cs : List (Change Content))
+replay-members : (r : Reader Written) (n : ℕ) (cs : List (Change Written))
     → replay r (map member cs ++ commit n ∷ []) ≡ replay (reader (r .run ++ cs) (r .state)) (commit n ∷ [])
 unfolding replay read
-replay-members r n [] = ap (λ (x : List (Change Content)). replay (reader x (r .state)) (commit n ∷ [])) (sym (append-nil (r .run)))
+replay-members r n [] = ap (λ (x : List (Change Written)). replay (reader x (r .state)) (commit n ∷ [])) (sym (append-nil (r .run)))
 replay-members r n (c ∷ cs) =
     replay-members (reader (r .run ++ c ∷ []) (r .state)) n cs
-    ∙ ap (λ (x : List (Change Content)). replay (reader x (r .state)) (commit n ∷ [])) (append-assoc (r .run) (c ∷ []) cs)
+    ∙ ap (λ (x : List (Change Written)). replay (reader x (r .state)) (commit n ∷ [])) (append-assoc (r .run) (c ∷ []) cs)
 
-pub replay-unit : (r : Reader Content) (cs : List (Change Content)) (s : State Content) → applyAll cs (r .state) ≡ some s
+pub replay-unit : (r : Reader Written) (cs : List (Change Written)) (s : State Written) → applyAll cs (r .state) ≡ some s
     → replay r (unitEntries cs) ≡ some (settled s)
 unfolding unitEntries replay read lastOf
 replay-unit r cs s a =

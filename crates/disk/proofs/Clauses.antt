@@ -12,14 +12,14 @@ use Rattle.lists.specs.State.{State, placed}
 use Rattle.lists.proofs.Basic.{and-true, or-cases, not-false, eqb-true, leb-true, ltb-true, le-true, lt-true, eq-true, some-of, is-some, each-at, all-from, from-all}
 use Rattle.log.specs.Entry.{legal, raw, isBlock, isList}
 use Rattle.log.specs.Reader.{Reader}
-use Rattle.log.specs.Card.{Content, cardLength}
+use Rattle.log.specs.Card.{Written, cardLength}
 use Rattle.disk.specs.Record.{Record, unitAt, holderOf, shaped, isOpen}
 use Rattle.disk.specs.Disk.{Disk, queued, unitOf, journalOf, committedReader, stateOf, committed}
 use Rattle.disk.specs.Sound.{lengthsRight, isOpenUnit, journalSound, unitSound, holderSound, headStanding, recordSound}
 use Rattle.disk.proofs.Questions.{card-length, queue-data, journal-data}
 
 -- the card, and the queue behind it, which replays to z
-pub record LogRight (d : Disk) (z : Reader Content) : Type 0 where
+pub record LogRight (d : Disk) (z : Reader Written) : Type 0 where
   pub card : cardLength (d .card) ≡ true
   pub queueData : length (d .queueData) ≡ 8192
   pub places : length (d .rec .ring .queue) ≡ 32
@@ -38,18 +38,18 @@ pub record UnitRight (d : Disk) (u : ℕ) : Type 0 where
   pub sound : all (journalSound (d .rec) u) (journalOf d u) ≡ true
 
 -- block b is held by no unit, or by an open one and stands on no list of s
-abbrev pub HolderRight : Disk → State Content → ℕ → Type 0
+abbrev pub HolderRight : Disk → State Written → ℕ → Type 0
 HolderRight d s b = (holderOf (d .rec) b ≡ 0) ⊎ ((isOpenUnit d (holderOf (d .rec) b) ≡ true) × (placed b (s .lists) ≡ false))
 
 -- the units, over the committed state s
-pub record UnitsRight (d : Disk) (s : State Content) : Type 0 where
+pub record UnitsRight (d : Disk) (s : State Written) : Type 0 where
   pub four : length (d .rec .held .units) ≡ 4
   pub table : length (d .rec .held .holder) ≡ 64
   pub units : (u : ℕ) → 1 ≤ u → u ≤ 4 → UnitRight d u
   pub holders : (b : ℕ) → 1 ≤ b → b ≤ 64 → HolderRight d s b
 
 pub record Right (d : Disk) : Type 0 where
-  pub reader : Reader Content
+  pub reader : Reader Written
   pub log : LogRight d reader
   pub units : UnitsRight d (reader .state)
   pub journalData : length (d .journalData) ≡ 15360
@@ -57,9 +57,9 @@ pub record Right (d : Disk) : Type 0 where
   pub lastList : isList (d .rec .tally .lastList) ≡ true
   pub conflicts : length (d .rec .tally .conflicts) ≡ 16
 
-pub committed-is : (d : Disk) (z : Reader Content) → committedReader d ≡ some z → committed d ≡ z .state
+pub committed-is : (d : Disk) (z : Reader Written) → committedReader d ≡ some z → committed d ≡ z .state
 unfolding committed stateOf
-committed-is d z e = ap {B = State Content} (λ o. stateOf o) e
+committed-is d z e = ap {B = State Written} (λ o. stateOf o) e
 
 -- Clauses of the shape.
 record Shape (r : Record) : Type 0 where
@@ -129,7 +129,7 @@ unfolding unitSound each
 right-unit d u r = rw (le-true (unitOf d u .len) 15 (r .room), le-true (unitOf d u .window) 16 (r .window), closed-unit (isOpen (unitOf d u)) (unitOf d u .len) (r .closed), r .sound)
 
 -- Clauses of a block's holder.
-holder-right : (d : Disk) (s : State Content) (b : ℕ) → committed d ≡ s → holderSound d b ≡ true → HolderRight d s b
+holder-right : (d : Disk) (s : State Written) (b : ℕ) → committed d ≡ s → holderSound d b ≡ true → HolderRight d s b
 unfolding holderSound
 holder-right d s b e h = go (or-cases (eqb (holderOf (d .rec) b) 0) _ h)
   where
@@ -139,13 +139,13 @@ holder-right d s b e h = go (or-cases (eqb (holderOf (d .rec) b) 0) _ h)
         let (o, n) = and-true (isOpenUnit d (holderOf (d .rec) b)) _ h in
         inr (o, rw (← e) (not-false (placed b (committed d .lists)) n))
 
-right-holder : (d : Disk) (s : State Content) (b : ℕ) → committed d ≡ s → HolderRight d s b → holderSound d b ≡ true
+right-holder : (d : Disk) (s : State Written) (b : ℕ) → committed d ≡ s → HolderRight d s b → holderSound d b ≡ true
 unfolding holderSound
 right-holder d s b e (inl h) = rw h
 right-holder d s b e (inr h) = rw (e, h .0, h .1) (or-true (eqb (holderOf (d .rec) b) 0))
 
 -- Clauses of the units and the holders' table.
-units-right : (d : Disk) (s : State Content) → committed d ≡ s → shaped (d .rec) ≡ true
+units-right : (d : Disk) (s : State Written) → committed d ≡ s → shaped (d .rec) ≡ true
     → all (unitSound d) (from (λ u. u) 1 4) ≡ true → all (holderSound d) (from (λ b. b) 1 64) ≡ true → UnitsRight d s
 unfolding unitOf
 units-right d s e h us hs =
@@ -157,14 +157,14 @@ units-right d s e h us hs =
       holders = λ b p q. holder-right d s b e (all-from (holderSound d) (λ b. b) 1 64 hs b p (omega arith));
     }
 
-right-shaped : (d : Disk) (s : State Content) → length (d .rec .ring .queue) ≡ 32 → UnitsRight d s → length (d .rec .tally .conflicts) ≡ 16 → shaped (d .rec) ≡ true
+right-shaped : (d : Disk) (s : State Written) → length (d .rec .ring .queue) ≡ 32 → UnitsRight d s → length (d .rec .tally .conflicts) ≡ 16 → shaped (d .rec) ≡ true
 unfolding unitOf
 right-shaped d s q k n = shape-shaped (d .rec) (record { queue = q; units = k .four; holder = k .table; counts = n; journals = λ u a b. k .units u a b .places })
 
-right-units : (d : Disk) (s : State Content) → UnitsRight d s → all (unitSound d) (from (λ u. u) 1 4) ≡ true
+right-units : (d : Disk) (s : State Written) → UnitsRight d s → all (unitSound d) (from (λ u. u) 1 4) ≡ true
 right-units d s k = from-all (unitSound d) (λ u. u) 1 4 (λ u p q. right-unit d u (k .units u p (omega arith)))
 
-right-holders : (d : Disk) (s : State Content) → committed d ≡ s → UnitsRight d s → all (holderSound d) (from (λ b. b) 1 64) ≡ true
+right-holders : (d : Disk) (s : State Written) → committed d ≡ s → UnitsRight d s → all (holderSound d) (from (λ b. b) 1 64) ≡ true
 right-holders d s e k = from-all (holderSound d) (λ b. b) 1 64 (λ b p q. right-holder d s b e (k .holders b p (omega arith)))
 
 -- The questions.

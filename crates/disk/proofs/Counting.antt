@@ -12,7 +12,7 @@ use lib.ListN.{length, getD, set}
 use lib.Seq.{getD-set-same, getD-set-other}
 use Rattle.lists.specs.Change.{Change, takeList, putFirst, putAfter, write, delBlock, delList}
 use Rattle.lists.proofs.Basic.{and-true, leb-true, eqb-same, eqb-false, eqb-true, getD-same}
-use Rattle.log.specs.Card.{Content}
+use Rattle.log.specs.Card.{Written}
 use Rattle.disk.specs.Record.{Record, freshRecord, countOf}
 use Rattle.disk.specs.Disk.{Disk, unitOf, journalOf}
 use Rattle.disk.specs.Call.{Call, format, mount, conflictCount, onStream, inView, begin, end, flush, ends, resets}
@@ -28,7 +28,7 @@ abbrev counts : Disk → List ℕ
 counts d = d .rec .tally .conflicts
 
 -- A change on a stream.
-change-counts : (s : ℕ) (c : Change Content) (d : Disk) → counts (change s c d) ≡ counts d
+change-counts : (s : ℕ) (c : Change Written) (d : Disk) → counts (change s c d) ≡ counts d
 unfolding change enqueue journalAdd
 change-counts zero c d = refl
 change-counts (suc u) c d = refl
@@ -38,7 +38,7 @@ unfolding hold
 hold-counts zero b d = refl
 hold-counts (suc u) b d = refl
 
-noted-counts : (s : ℕ) (c : Change Content) (d : Disk) → counts (noted s c d) ≡ counts d
+noted-counts : (s : ℕ) (c : Change Written) (d : Disk) → counts (noted s c d) ≡ counts d
 unfolding noted gaveBlock gaveList
 noted-counts s (takeList l) d = refl
 noted-counts s (putFirst b l) d = hold-counts s b d
@@ -47,7 +47,7 @@ noted-counts s (write b x) d = refl
 noted-counts s (delBlock b) d = refl
 noted-counts s (delList l) d = refl
 
-made-counts : (s : ℕ) (c : Change Content) (d : Disk) → counts (made s c d) ≡ counts d
+made-counts : (s : ℕ) (c : Change Written) (d : Disk) → counts (made s c d) ≡ counts d
 unfolding made
 made-counts s c d = noted-counts s c (change (streamFor s c) c d) ∙ change-counts (streamFor s c) c d
 

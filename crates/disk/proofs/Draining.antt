@@ -10,7 +10,7 @@ use Rattle.lists.specs.Basic.{joined}
 use Rattle.lists.proofs.Basic.{bind-some, all-drop}
 use Rattle.log.specs.Entry.{Entry, legal, raw}
 use Rattle.log.specs.Reader.{Reader, start, replay}
-use Rattle.log.specs.Card.{Content, segmentsIn, Outcome, sound, fault, mounted}
+use Rattle.log.specs.Card.{Written, segmentsIn, Outcome, sound, fault, mounted}
 use Rattle.log.specs.Flush.{Flow}
 use Rattle.log.proofs.CardLength.{card-size, same-length}
 use Rattle.log.proofs.Replay.{replay-append}
@@ -30,21 +30,21 @@ use Rattle.disk.proofs.Units.{units-same}
 use Rattle.disk.proofs.KeepsSound.{sound-reader}
 use Rattle.disk.proofs.Standing.{standing-head, head-standing}
 
-outcome-sound : (o : Outcome Content) (r : Reader Content) → readerOf o ≡ some r → o ≡ sound r
+outcome-sound : (o : Outcome Written) (r : Reader Written) → readerOf o ≡ some r → o ≡ sound r
 unfolding readerOf
 outcome-sound (sound x) r e = ap sound (Option·some-injective _ _ e)
 outcome-sound (fault g i) r e = absurd (Option·none-ne-some _ e)
 
 -- The segments that a sound disk's card carries, with the queue behind them.
-pub record Open (d : Disk) (z : Reader Content) : Type 0 where
-  pub segs : List (List (Entry Content))
+pub record Open (d : Disk) (z : Reader Written) : Type 0 where
+  pub segs : List (List (Entry Written))
   pub flows : Flows (d .card) segs (queued d) (d .rec .ring .done)
-  pub reader : Reader Content
+  pub reader : Reader Written
   pub walks : readerOf (mounted (d .card)) ≡ some reader
   pub first : replay start (joined segs) ≡ some reader
   pub onward : replay reader (queued d) ≡ some z
 
-pub open-log : (d : Disk) (z : Reader Content) → LogRight d z → Open d z
+pub open-log : (d : Disk) (z : Reader Written) → LogRight d z → Open d z
 unfolding committedReader
 open-log d z l =
     let (r, p, u) = bind-some (readerOf (mounted (d .card))) (λ r. replay r (queued d)) z (l .replays) in
@@ -64,24 +64,24 @@ open-log d z l =
 abbrev pub left : ℕ → Disk → Disk
 left a d = afterFlush d (flushed a d .flow)
 
-pub flow-of : (d : Disk) (ess : List (List (Entry Content))) → Carries (d .card) ess → flowOf d ≡ flowFor (d .card) ess (queued d) (d .rec .ring .done)
+pub flow-of : (d : Disk) (ess : List (List (Entry Written))) → Carries (d .card) ess → flowOf d ≡ flowFor (d .card) ess (queued d) (d .rec .ring .done)
 unfolding flowOf flowFor
 flow-of d ess h i = record { card = d .card; place = tail-end (d .card) ess h i; queue = queued d; done = d .rec .ring .done }
 
-flush-flow : (a : ℕ) (d : Disk) (z : Reader Content) (o : Open d z) → Flushes (flushed a d .flow) (o .segs) (queued d)
+flush-flow : (a : ℕ) (d : Disk) (z : Reader Written) (o : Open d z) → Flushes (flushed a d .flow) (o .segs) (queued d)
 unfolding flushed
 flush-flow a d z o =
     let c = o .flows .carries in
     rw (flow-of d (o .segs) c, carries-segments (d .card) (o .segs) c) (flush-flows a 0 (d .card) (o .segs) (queued d) (d .rec .ring .done) (o .flows))
 
-pub record Turn (a : ℕ) (d : Disk) (z : Reader Content) : Type 0 where
+pub record Turn (a : ℕ) (d : Disk) (z : Reader Written) : Type 0 where
   pub before : Open d z
   pub after : Flushes (flushed a d .flow) (before .segs) (queued d)
   pub card : left a d .card ≡ after .card
   pub queue : queued (left a d) ≡ after .queue
   pub done : left a d .rec .ring .done ≡ after .done
 
-module _ (d : Disk) (f : Flow) (c : List ℕ) (ess : List (List (Entry Content))) (q : List (Entry Content)) (k : ℕ) (e : f ≡ flowFor c ess q k) where
+module _ (d : Disk) (f : Flow) (c : List ℕ) (ess : List (List (Entry Written))) (q : List (Entry Written)) (k : ℕ) (e : f ≡ flowFor c ess q k) where
   flow-card : afterFlush d f .card ≡ c
   unfolding afterFlush flowFor
   flow-card = ap (λ (x : Flow). x .card) e
@@ -94,7 +94,7 @@ module _ (d : Disk) (f : Flow) (c : List ℕ) (ess : List (List (Entry Content))
   unfolding afterFlush flowFor
   flow-done = ap (λ (x : Flow). x .done) e
 
-pub turn : (a : ℕ) (d : Disk) (z : Reader Content) → LogRight d z → Turn a d z
+pub turn : (a : ℕ) (d : Disk) (z : Reader Written) → LogRight d z → Turn a d z
 turn a d z l =
     let o = open-log d z l in
     let f = flush-flow a d z o in
@@ -115,14 +115,14 @@ left-queue a d k =
     t .queue ∙ sym (flow-queue d (flushed a d .flow) (f .card) (f .segs) (f .queue) (f .done) (f .flow))
 
 -- The log that a flush leaves: the card's reader, and the queue behind it.
-pub record Onward (a : ℕ) (d : Disk) (z : Reader Content) : Type 0 where
+pub record Onward (a : ℕ) (d : Disk) (z : Reader Written) : Type 0 where
   pub turned : Turn a d z
-  pub now : Reader Content
+  pub now : Reader Written
   pub walks : readerOf (mounted (left a d .card)) ≡ some now
   pub first : replay start (joined (turned .after .segs)) ≡ some now
   pub onward : replay now (queued (left a d)) ≡ some z
 
-pub onward-log : (a : ℕ) (d : Disk) (z : Reader Content) → LogRight d z → Onward a d z
+pub onward-log : (a : ℕ) (d : Disk) (z : Reader Written) → LogRight d z → Onward a d z
 onward-log a d z l =
     let t = turn a d z l in
     let o = t .before in
@@ -138,20 +138,20 @@ onward-log a d z l =
       onward = rw (t .queue) u;
     }
 
-flush-reader : (a : ℕ) (d : Disk) (z : Reader Content) → Onward a d z → committedReader (left a d) ≡ some z
+flush-reader : (a : ℕ) (d : Disk) (z : Reader Written) → Onward a d z → committedReader (left a d) ≡ some z
 unfolding committedReader
 flush-reader a d z o = rw (o .walks) (o .onward)
 
-pub flush-size : (a : ℕ) (d : Disk) (z : Reader Content) → Turn a d z → length (left a d .card) ≡ length (d .card)
+pub flush-size : (a : ℕ) (d : Disk) (z : Reader Written) → Turn a d z → length (left a d .card) ≡ length (d .card)
 flush-size a d z t =
     ap length (t .card) ∙ t .after .flows .carries .size ∙ ap (λ (n : ℕ). 4096 * n) (t .after .size) ∙ sym (t .before .flows .carries .size)
 
-flush-stands : (a : ℕ) (d : Disk) (z : Reader Content) → Turn a d z → headStanding (left a d .card) (left a d .rec .ring .done) (queued (left a d)) ≡ true
+flush-stands : (a : ℕ) (d : Disk) (z : Reader Written) → Turn a d z → headStanding (left a d .card) (left a d .rec .ring .done) (queued (left a d)) ≡ true
 flush-stands a d z t =
     let f = t .after in
     rw (t .queue, t .card, t .done) (head-standing (f .card) (f .segs) (f .flows .carries) (f .queue) (f .done) (f .flows .good) (f .flows .head))
 
-pub flush-log : (a : ℕ) (d : Disk) (z : Reader Content) → LogRight d z → LogRight (left a d) z
+pub flush-log : (a : ℕ) (d : Disk) (z : Reader Written) → LogRight d z → LogRight (left a d) z
 unfolding afterFlush
 flush-log a d z l =
     let o = onward-log a d z l in

@@ -9,7 +9,7 @@ use lib.ListN.{getD, replicate}
 use Rattle.lists.specs.Basic.{bind, from}
 use Rattle.lists.specs.State.{overlay}
 use Rattle.log.specs.Reader.{Reader, replay}
-use Rattle.log.specs.Card.{Content, mounted}
+use Rattle.log.specs.Card.{Written, mounted}
 use Rattle.disk.specs.Record.{Record, noUnit, freshUnit, freshRecord, unitCount}
 use Rattle.disk.specs.Disk.{Disk, queuedAt, queued, unitOf, journalAt, journalOf, readerOf, committedReader, persistent, committed, view}
 
@@ -19,7 +19,7 @@ fresh-length zero i = refl
 fresh-length (suc n) zero = refl
 fresh-length (suc n) (suc i) = fresh-length n i
 
-replay-none : (o : Option (Reader Content)) → bind o (λ r. replay r []) ≡ o
+replay-none : (o : Option (Reader Written)) → bind o (λ r. replay r []) ≡ o
 unfolding replay
 replay-none none = refl
 replay-none (some r) = refl

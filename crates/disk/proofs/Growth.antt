@@ -10,7 +10,7 @@ use Rattle.lists.specs.Basic.{all}
 use Rattle.lists.proofs.Basic.{bind-some, lt-true, eqb-true, all-append}
 use Rattle.log.specs.Entry.{Entry, legal, raw}
 use Rattle.log.specs.Reader.{Reader, read, replay}
-use Rattle.log.specs.Card.{Content, segmentsIn, mounted}
+use Rattle.log.specs.Card.{Written, segmentsIn, mounted}
 use Rattle.log.specs.Store.{standing, home, tail, entryStores, headAt}
 use Rattle.log.specs.declared.place.Place.{Place}
 use Rattle.log.proofs.Replay.{replay-append}
@@ -24,7 +24,7 @@ use Rattle.disk.proofs.Queue.{enqueue-length, enqueue-places, enqueue-d
 use Rattle.disk.proofs.Clauses.{LogRight}
 
 -- The log followed by the queue and more entries.
-reader-more : (d e : Disk) (z y : Reader Content) (es : List (Entry Content)) → e .card ≡ d .card → queued e ≡ queued d ++ es
+reader-more : (d e : Disk) (z y : Reader Written) (es : List (Entry Written)) → e .card ≡ d .card → queued e ≡ queued d ++ es
     → committedReader d ≡ some z → replay z es ≡ some y → committedReader e ≡ some y
 unfolding committedReader
 reader-more d e z y es c q h k =
@@ -32,23 +32,23 @@ reader-more d e z y es c q h k =
     rw (q, c, p) (replay-append r (queued d) es ∙ rw u k)
 
 -- Stores of the head: none done stand anywhere, and those done do not change as the queue grows behind it.
-head-none : (c : List ℕ) (o : Option Place) (e : Entry Content) → headAt c 0 o e ≡ true
+head-none : (c : List ℕ) (o : Option Place) (e : Entry Written) → headAt c 0 o e ≡ true
 unfolding headAt standing
 head-none c none e = refl
 head-none c (some p) e = rw (lt-true 0 (length (entryStores p e)) (omega (arith, entry-stores-length p e)))
 
-queue-none : (c : List ℕ) (q : List (Entry Content)) → headStanding c 0 q ≡ true
+queue-none : (c : List ℕ) (q : List (Entry Written)) → headStanding c 0 q ≡ true
 unfolding headStanding
 queue-none c [] = refl
 queue-none c (e ∷ q) = head-none c (home (segmentsIn c) (tail c) e) e
 
-head-more : (c : List ℕ) (k : ℕ) (q es : List (Entry Content)) → headStanding c k q ≡ true → headStanding c k (q ++ es) ≡ true
+head-more : (c : List ℕ) (k : ℕ) (q es : List (Entry Written)) → headStanding c k q ≡ true → headStanding c k (q ++ es) ≡ true
 unfolding headStanding
 head-more c k [] es h = subst (λ (n : ℕ). headStanding c n es ≡ true) (sym (eqb-true k 0 h)) (queue-none c es)
 head-more c k (e ∷ q) es h = h
 
 -- The entry joins the queue.
-pub enqueue-log : (e : Entry Content) (d : Disk) (z y : Reader Content) → LogRight d z → d .rec .ring .len < 32 → Good e → read z e ≡ some y → LogRight (enqueue e d) y
+pub enqueue-log : (e : Entry Written) (d : Disk) (z y : Reader Written) → LogRight d z → d .rec .ring .len < 32 → Good e → read z e ≡ some y → LogRight (enqueue e d) y
 unfolding all replay
 enqueue-log e d z y l m g r =
     let b = beside-one e d in
@@ -64,7 +64,7 @@ enqueue-log e d z y l m g r =
       stands = rw (q, b .card, b .done) (head-more (d .card) (d .rec .ring .done) (queued d) (e ∷ []) (l .stands));
     }
 
-pub enqueueAll-log : (es : List (Entry Content)) (d : Disk) (z y : Reader Content) → LogRight d z → d .rec .ring .len + length es ≤ 32 → AllGood es
+pub enqueueAll-log : (es : List (Entry Written)) (d : Disk) (z y : Reader Written) → LogRight d z → d .rec .ring .len + length es ≤ 32 → AllGood es
     → replay z es ≡ some y → LogRight (enqueueAll es d) y
 unfolding enqueueAll replay
 enqueueAll-log [] d z y l m g r = subst (LogRight d) (Option·some-injective _ _ r) l
@@ -73,7 +73,7 @@ enqueueAll-log (e ∷ es) d z y l m g r =
     enqueueAll-log es (enqueue e d) x y (enqueue-log e d z x l (omega arith) (g .0) p) (omega (arith, enqueue-length e d)) (g .1) q
 
 -- Another disk with the same card and queue.
-pub log-same : (d e : Disk) (z : Reader Content) → e .card ≡ d .card → e .queueData ≡ d .queueData → e .rec .ring .queue ≡ d .rec .ring .queue
+pub log-same : (d e : Disk) (z : Reader Written) → e .card ≡ d .card → e .queueData ≡ d .queueData → e .rec .ring .queue ≡ d .rec .ring .queue
     → e .rec .ring .head ≡ d .rec .ring .head → e .rec .ring .len ≡ d .rec .ring .len → e .rec .ring .done ≡ d .rec .ring .done → LogRight d z → LogRight e z
 log-same d e z c x q h n k l =
     let s : queued e ≡ queued d = queued-same d e x q h n in

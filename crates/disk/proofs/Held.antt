@@ -13,7 +13,7 @@ use Rattle.lists.specs.Change.{Change, takeList, putFirst, putAfter, write, del
 use Rattle.lists.proofs.Basic.{and-true, eqb-same, eqb-true, eqb-false, eq-true, all-each}
 use Rattle.lists.proofs.Count.{puts}
 use Rattle.log.specs.Entry.{member, raw, legal}
-use Rattle.log.specs.Card.{Content}
+use Rattle.log.specs.Card.{Written}
 use Rattle.disk.specs.Record.{Record, holderOf, released}
 use Rattle.disk.specs.Disk.{Disk}
 use Rattle.disk.specs.Sound.{putBy, journalSound}
@@ -73,24 +73,24 @@ module _ {D : Type 0} (p : ℕ → Bool) where
   all-puts (delList l) h b e = absurd (false≢true e)
 
 -- A journal's change, sound for unit u: what it puts is held by u.
-journal-held : (r : Record) (u : ℕ) (c : Change Content) (b : ℕ) → journalSound r u c ≡ true → puts c b ≡ true → holderOf r b ≡ u
+journal-held : (r : Record) (u : ℕ) (c : Change Written) (b : ℕ) → journalSound r u c ≡ true → puts c b ≡ true → holderOf r b ≡ u
 unfolding journalSound
 journal-held r u c b h e =
     eqb-true (holderOf r b) u (all-puts (λ x. eqb (holderOf r x) u) c (and-true (legal (raw 0 (member c))) _ h .1) b e)
 
-journal-more : (r t : Record) (u : ℕ) (c : Change Content) → ((b : ℕ) → holderOf r b ≡ u → holderOf t b ≡ u)
+journal-more : (r t : Record) (u : ℕ) (c : Change Written) → ((b : ℕ) → holderOf r b ≡ u → holderOf t b ≡ u)
     → journalSound r u c ≡ true → journalSound t u c ≡ true
 unfolding journalSound
 journal-more r t u c f h =
     let (a, b) = and-true (legal (raw 0 (member c))) (all (λ x. eqb (holderOf r x) u) (putBy c)) h in
     rw a (all-each (λ x. eqb (holderOf r x) u) (λ x. eqb (holderOf t x) u) (putBy c) (λ x e. eq-true (holderOf t x) u (f x (eqb-true (holderOf r x) u e))) b)
 
-pub journals-more : (r t : Record) (u : ℕ) (cs : List (Change Content)) → ((b : ℕ) → holderOf r b ≡ u → holderOf t b ≡ u)
+pub journals-more : (r t : Record) (u : ℕ) (cs : List (Change Written)) → ((b : ℕ) → holderOf r b ≡ u → holderOf t b ≡ u)
     → all (journalSound r u) cs ≡ true → all (journalSound t u) cs ≡ true
 journals-more r t u cs f h = all-each (journalSound r u) (journalSound t u) cs (λ c. journal-more r t u c f) h
 
 -- no change of unit u's journal puts a block that u does not hold
-pub journals-apart : (r : Record) (u : ℕ) (cs : List (Change Content)) (b : ℕ) → holderOf r b ≢ u → all (journalSound r u) cs ≡ true
+pub journals-apart : (r : Record) (u : ℕ) (cs : List (Change Written)) (b : ℕ) → holderOf r b ≢ u → all (journalSound r u) cs ≡ true
     → any (λ c. puts c b) cs ≡ false
 unfolding all
 journals-apart r u [] b n h = refl

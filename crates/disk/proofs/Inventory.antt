@@ -12,9 +12,10 @@ use Rattle.lists.specs.State.{Row, State, overlay}
 use Rattle.lists.proofs.Basic.{and-true, eqb-true, all-each}
 use Rattle.lists.proofs.Distinct.{Distinct, empty-distinct, overlay-distinct}
 use Rattle.lists.proofs.Numbers.{mayTake, numbered, overlay-numbered, lists-few}
+use Rattle.log.specs.Raced.{withBody}
 use Rattle.log.specs.Entry.{Entry, member, mapEntry, hasMember, raw, legal, isList}
 use Rattle.log.specs.Reader.{start}
-use Rattle.log.specs.Card.{Content}
+use Rattle.log.specs.Card.{Written}
 use Rattle.log.proofs.Distinct.{replay-distinct}
 use Rattle.log.proofs.Numbers.{mayEnter, legal-enters, InRange, start-range, replay-range, carries-enters}
 use Rattle.disk.specs.Record.{Record}
@@ -31,16 +32,16 @@ use Rattle.disk.proofs.Performing.{perform-accepted}
 use Rattle.disk.proofs.Draining.{Open, open-log}
 
 -- each list once, and numbered in range
-pub record Listed (s : State Content) : Type 0 where
+pub record Listed (s : State Written) : Type 0 where
   pub distinct : Distinct (s .lists)
   pub range : numbered isList (s .lists) ≡ true
 
 -- A unit's journal takes no list.
-journal-takes : (r : Record) (u : ℕ) (cs : List (Change Content)) → all (journalSound r u) cs ≡ true → all (mayTake isList) cs ≡ true
+journal-takes : (r : Record) (u : ℕ) (cs : List (Change Written)) → all (journalSound r u) cs ≡ true → all (mayTake isList) cs ≡ true
 unfolding journalSound mayEnter
 journal-takes r u cs h = all-each (journalSound r u) (mayTake isList) cs (λ c k. legal-enters 0 (member c) (and-true (legal (raw 0 (member c))) _ k .0)) h
 
-queue-enters : (es : List (Entry Content)) → all (λ e. legal (raw 0 e)) es ≡ true → all mayEnter es ≡ true
+queue-enters : (es : List (Entry Written)) → all (λ e. legal (raw 0 e)) es ≡ true → all mayEnter es ≡ true
 queue-enters es h = all-each (λ e. legal (raw 0 e)) mayEnter es (λ e. legal-enters 0 e) h
 
 module _ (d : Disk) (k : Right d) where
@@ -78,7 +79,7 @@ module _ (d : Disk) (k : Right d) where
   view-listed v h = open-views d Listed persistent-listed committed-listed unit-listed v h
 
 -- A unit's journal takes no list at all: there is no member map for it.
-member-takes : (c : Change Content) → hasMember {D = ℕ} (mapChange (λ x. 0) c) ≡ true → mayTake (λ l. false) c ≡ true
+member-takes : (c : Change Written) → hasMember (mapChange (withBody {B = ℕ} 0) c) ≡ true → mayTake (λ l. false) c ≡ true
 unfolding hasMember mapChange
 member-takes (takeList l) h = h
 member-takes (putFirst b l) h = refl
@@ -92,20 +93,20 @@ unfolding journalSound legal raw mapEntry
 unit-takes-none d k u h =
     let (p, q, o) = unit-range d u h in
     all-each (journalSound (d .rec) u) (mayTake (λ l. false)) (journalOf d u)
-    (λ c e. member-takes c (and-true (hasMember {D = ℕ} (mapChange (λ x. 0) c)) _ (and-true (legal (raw 0 (member c))) _ e .0) .0)) (k .units .units u p q .sound)
+    (λ c e. member-takes c (and-true (hasMember (mapChange (withBody {B = ℕ} 0) c)) _ (and-true (legal (raw 0 (member c))) _ e .0) .0)) (k .units .units u p q .sound)
 
 -- The lists of a state in the destination: they are at most 16.
-listed-fills : (s : State Content) (x : List ℕ) → Listed s → length x ≡ 16 → Fills (listNums (s .lists)) (length (listNums (s .lists))) x (listNums (s .lists) ++ drop (length (listNums (s .lists))) x)
+listed-fills : (s : State Written) (x : List ℕ) → Listed s → length x ≡ 16 → Fills (listNums (s .lists)) (length (listNums (s .lists))) x (listNums (s .lists) ++ drop (length (listNums (s .lists))) x)
 unfolding listNums
 listed-fills s x k e = record {
   many = refl;
   first = take-at ls (drop (length ls) x) (length ls) refl;
   others = drop-at ls (drop (length ls) x) (length ls) refl;
-  size = omega (arith, length-map (s .lists) (λ (r : Row Content). r .num), lists-few 16 (s .lists) (k .distinct) (k .range), length-append ls (drop (length ls) x), length-drop (length ls) x);
+  size = omega (arith, length-map (s .lists) (λ (r : Row Written). r .num), lists-few 16 (s .lists) (k .distinct) (k .range), length-append ls (drop (length ls) x), length-drop (length ls) x);
 }
   where
     ls : List ℕ
-    ls = map (λ (r : Row Content). r .num) (s .lists)
+    ls = map (λ (r : Row Written). r .num) (s .lists)
 
 pub inventory-fills : InventoryFills
 unfolding questions lookQuestions accepted found

@@ -13,9 +13,10 @@ use lib.Seq.{getD-set-same, getD-set-other}
 use Rattle.lists.specs.Basic.{from}
 use Rattle.lists.specs.Change.{Change, mapChange, carriedBy}
 use Rattle.lists.proofs.Basic.{from-length, from-ext, from-snoc}
+use Rattle.log.specs.Raced.{withBody}
 use Rattle.log.specs.Entry.{Entry, plain, member, commit, carried, asChange}
 use Rattle.log.specs.Cell.{cellOf, entryIn}
-use Rattle.log.specs.Card.{Content, slot}
+use Rattle.log.specs.Card.{Written, slot}
 use Rattle.log.specs.Flush.{Flow}
 use Rattle.log.proofs.Segment.{Sized}
 use Rattle.log.proofs.Slot.{length-slot}
@@ -30,7 +31,7 @@ pub unit-same : (d e : Disk) (u : ℕ) → e .rec .held .units ≡ d .rec .held 
 unfolding unitOf
 unit-same d e u h = ap (λ (us : List Unit). getD us (u - 1) noUnit) h
 
-pub unit-added : (u : ℕ) (c : Change Content) (d : Disk) → 1 ≤ u → u ≤ 4 → length (d .rec .held .units) ≡ 4
+pub unit-added : (u : ℕ) (c : Change Written) (d : Disk) → 1 ≤ u → u ≤ 4 → length (d .rec .held .units) ≡ 4
     → unitOf (journalAdd u c d) u ≡ journaled (unitOf d u) (cellOf (plain c))
 unfolding unitOf journalAdd
 unit-added u c d p q n = getD-set-same (d .rec .held .units) (u - 1) _ noUnit (omega arith)
@@ -47,7 +48,7 @@ module _ (u v : ℕ) (p : 1 ≤ u) (q : 1 ≤ v) (n : u ≢ v) where
   unit-other : (us : List Unit) (x : Unit) → getD (set us (u - 1) x) (v - 1) noUnit ≡ getD us (v - 1) noUnit
   unit-other us x = getD-set-other us (u - 1) (v - 1) x noUnit (omega arith)
 
-  pub unit-added-other : (c : Change Content) (d : Disk) → unitOf (journalAdd u c d) v ≡ unitOf d v
+  pub unit-added-other : (c : Change Written) (d : Disk) → unitOf (journalAdd u c d) v ≡ unitOf d v
   unfolding unitOf journalAdd
   unit-added-other c d = unit-other (d .rec .held .units) _
 
@@ -70,10 +71,10 @@ journal-none d u h = ap (from (journalAt d u) 0) h
 
 pub journal-same : (d e : Disk) (u : ℕ) → e .journalData ≡ d .journalData → unitOf e u ≡ unitOf d u → journalOf e u ≡ journalOf d u
 unfolding journalOf journalAt
-journal-same d e u a b i = from (λ k. mapChange (λ s. slot (a i) (journalPlace u k)) (asChange (entryIn (getD (b i .journal) k noCell)))) 0 (b i .len)
+journal-same d e u a b i = from (λ k. mapChange (withBody (slot (a i) (journalPlace u k))) (asChange (entryIn (getD (b i .journal) k noCell)))) 0 (b i .len)
 
 -- A change that joins unit u's journal.
-module _ (u : ℕ) (c : Change Content) (d : Disk) (p : 1 ≤ u) (q : u ≤ 4) (l : length (d .journalData) ≡ 15360) (m : unitOf d u .len < 15) (z : Sized (carriedBy c)) where
+module _ (u : ℕ) (c : Change Written) (d : Disk) (p : 1 ≤ u) (q : u ≤ 4) (l : length (d .journalData) ≡ 15360) (m : unitOf d u .len < 15) (z : Sized (carriedBy c)) where
   pub journal-data-add : length (journalAdd u c d .journalData) ≡ 15360
   unfolding journalAdd
   journal-data-add = length-spliced (d .journalData) _ (carriedBy c) (omega arith) z ∙ l
@@ -97,10 +98,10 @@ module _ (u : ℕ) (c : Change Content) (d : Disk) (p : 1 ≤ u) (q : u ≤ 4) (
   journal-add n k =
       ap (from f 0) (ap (λ (x : Unit). x .len) (unit-added u c d p q n) ∙ add-one (unitOf d u .len))
       ∙ from-snoc f 0 (unitOf d u .len)
-      ∙ ap (λ (x : Change Content). from f 0 (unitOf d u .len) ++ x ∷ []) (ap f (zero-add (unitOf d u .len)) ∙ journal-new n k)
-      ∙ ap (λ (r : List (Change Content)). r ++ c ∷ []) (from-ext f (journalAt d u) (unitOf d u .len) (λ j h. journal-old n j h))
+      ∙ ap (λ (x : Change Written). from f 0 (unitOf d u .len) ++ x ∷ []) (ap f (zero-add (unitOf d u .len)) ∙ journal-new n k)
+      ∙ ap (λ (r : List (Change Written)). r ++ c ∷ []) (from-ext f (journalAt d u) (unitOf d u .len) (λ j h. journal-old n j h))
     where
-      f : ℕ → Change Content
+      f : ℕ → Change Written
       f = journalAt (journalAdd u c d) u
 
   journal-apart : (v : ℕ) → 1 ≤ v → v ≤ 4 → u ≢ v → (k : ℕ) → k < 15 → journalPlace u (unitOf d u .len) ≢ journalPlace v k
@@ -152,7 +153,7 @@ journal-opening u v w d h = go (ℕ-discrete (v - 1) (u - 1))
     go (no e) = journal-same d (opening u w d) v refl (getD-set-other (d .rec .held .units) (u - 1) (v - 1) _ noUnit e)
 
 -- The entries that a unit's end queues, and their data.
-pub unit-entries : (cs : List (Change Content)) → length (unitEntries cs) ≡ suc (length cs)
+pub unit-entries : (cs : List (Change Written)) → length (unitEntries cs) ≡ suc (length cs)
 unfolding unitEntries
 unit-entries cs = length-append (map member cs) (commit (length cs) ∷ []) ∙ omega (arith, length-map cs (λ c. member c))
 
@@ -160,7 +161,7 @@ journal-sized-at : (d : Disk) (u k : ℕ) → 1 ≤ u → u ≤ 4 → k < 15 →
 unfolding journalAt
 journal-sized-at d u k p q h l = change-sized _ _ (length-slot (d .journalData) (journalPlace u k) (omega arith))
 
-members-sized : (f : ℕ → Change Content) (k n m : ℕ) → ((j : ℕ) → j < k + n → Sized (carriedBy (f j))) → AllSized (map member (from f k n) ++ commit m ∷ [])
+members-sized : (f : ℕ → Change Written) (k n m : ℕ) → ((j : ℕ) → j < k + n → Sized (carriedBy (f j))) → AllSized (map member (from f k n) ++ commit m ∷ [])
 unfolding from carried
 members-sized f k zero m h = (tt, tt)
 members-sized f k (suc n) m h = (h k (omega arith), members-sized f (suc k) n m (λ j l. h j (omega arith)))
@@ -170,10 +171,10 @@ unfolding unitEntries journalOf
 unit-sized d u p q l m = members-sized (journalAt d u) 0 (unitOf d u .len) _ (λ j h. journal-sized-at d u j p q (omega arith) l)
 
 -- What leaves the journals alone.
-pub journal-enqueue : (e : Entry Content) (d : Disk) (u : ℕ) → journalOf (enqueue e d) u ≡ journalOf d u
+pub journal-enqueue : (e : Entry Written) (d : Disk) (u : ℕ) → journalOf (enqueue e d) u ≡ journalOf d u
 journal-enqueue e d u = let b = beside-one e d in journal-same d (enqueue e d) u (b .journalData) (unit-same d (enqueue e d) u (b .units))
 
-pub journal-enqueueAll : (es : List (Entry Content)) (d : Disk) (u : ℕ) → journalOf (enqueueAll es d) u ≡ journalOf d u
+pub journal-enqueueAll : (es : List (Entry Written)) (d : Disk) (u : ℕ) → journalOf (enqueueAll es d) u ≡ journalOf d u
 journal-enqueueAll es d u = let b = beside-all es d in journal-same d (enqueueAll es d) u (b .journalData) (unit-same d (enqueueAll es d) u (b .units))
 
 pub journal-hold : (s b : ℕ) (d : Disk) (u : ℕ) → journalOf (hold s b d) u ≡ journalOf d u

@@ -18,7 +18,7 @@ use Rattle.lists.proofs.Count.{puts}
 use Rattle.lists.proofs.Placed.{placed-changed, placed-all}
 use Rattle.log.specs.Entry.{Entry, plain, member, mapEntry, carried, raw, legal, legalChange, hasMember, isBlock, isList}
 use Rattle.log.specs.Reader.{Reader, settled, start, read, replay}
-use Rattle.log.specs.Card.{Content, cardLength, segmentsIn, sound, mounted}
+use Rattle.log.specs.Card.{Written, cardLength, segmentsIn, sound, mounted}
 use Rattle.log.specs.Store.{formatStores}
 use Rattle.log.proofs.CardLength.{card-size, same-length}
 use Rattle.log.proofs.Segment.{Sized, Carries, carries-walk}
@@ -120,7 +120,7 @@ hold-right (suc u) b d o i z n k =
     }
 
 -- A change in a unit; what it puts is held by the unit.
-member-legal : (c : Change Content) → hasMember c ≡ true → Good (plain c) → legal (raw 0 (member c)) ≡ true
+member-legal : (c : Change Written) → hasMember c ≡ true → Good (plain c) → legal (raw 0 (member c)) ≡ true
 unfolding legal raw mapEntry mapChange hasMember
 member-legal (takeList l) m g = absurd (false≢true m)
 member-legal (putFirst b l) m g = g .lawful
@@ -129,11 +129,11 @@ member-legal (write b d) m g = g .lawful
 member-legal (delBlock b) m g = g .lawful
 member-legal (delList l) m g = g .lawful
 
-plain-sized : (c : Change Content) → Good (plain c) → Sized (carriedBy c)
+plain-sized : (c : Change Written) → Good (plain c) → Sized (carriedBy c)
 unfolding carried
 plain-sized c g = g .sized
 
-journal-right : (u : ℕ) (c : Change Content) (d : Disk) → isOpenUnit d u ≡ true → unitOf d u .len < 15 → hasMember c ≡ true → Good (plain c)
+journal-right : (u : ℕ) (c : Change Written) (d : Disk) → isOpenUnit d u ≡ true → unitOf d u .len < 15 → hasMember c ≡ true → Good (plain c)
     → ((b : ℕ) → puts c b ≡ true → holderOf (d .rec) b ≡ u) → Right d → Right (journalAdd u c d)
 unfolding journalAdd
 journal-right u c d o m x g f k =
@@ -149,7 +149,7 @@ journal-right u c d o m x g f k =
     }
 
 -- Entries that join the queue.
-enqueueAll-right : (es : List (Entry Content)) (d : Disk) (k : Right d) (z : Reader Content) → d .rec .ring .len + length es ≤ 32 → AllGood es
+enqueueAll-right : (es : List (Entry Written)) (d : Disk) (k : Right d) (z : Reader Written) → d .rec .ring .len + length es ≤ 32 → AllGood es
     → replay (k .reader) es ≡ some z → UnitsRight d (z .state) → Right (enqueueAll es d)
 enqueueAll-right es d k z m g r u =
     let b = beside-all es d in
@@ -163,12 +163,12 @@ enqueueAll-right es d k z m g r u =
       conflicts = rw (b .conflicts) (k .conflicts);
     }
 
-plain-read : (z : Reader Content) (c : Change Content) (s : State Content) → apply c (z .state) ≡ some s → read z (plain c) ≡ some (settled s)
+plain-read : (z : Reader Written) (c : Change Written) (s : State Written) → apply c (z .state) ≡ some s → read z (plain c) ≡ some (settled s)
 unfolding read
 plain-read z c s a = rw a
 
 -- a change on stream 0; what it puts is held by no unit
-plain-right : (c : Change Content) (d : Disk) → d .rec .ring .len < 32 → Good (plain c) → applies c (committed d .lists) ≡ true
+plain-right : (c : Change Written) (d : Disk) → d .rec .ring .len < 32 → Good (plain c) → applies c (committed d .lists) ≡ true
     → ((b : ℕ) → puts c b ≡ true → holderOf (d .rec) b ≡ 0) → Right d → Right (enqueue (plain c) d)
 plain-right c d m g a f k =
     let b = beside-one (plain c) d in
@@ -182,10 +182,10 @@ plain-right c d m g a f k =
       conflicts = rw (b .conflicts) (k .conflicts);
     }
   where
-    s : State Content
+    s : State Written
     s = k .reader .state
 
-    t : State Content
+    t : State Written
     t = state (changed c (s .lists))
 
     e : committed d ≡ s
@@ -196,14 +196,14 @@ plain-right c d m g a f k =
     apart n o false x = x
 
 -- A change on a stream: what it puts is held by that unit, or by none on stream 0.
-change-right : (s : ℕ) (c : Change Content) (d : Disk) → streamOpen d s ≡ true → journalRoom d s ≡ true → streamRoom d s ≡ true → (1 ≤ s → hasMember c ≡ true) → Good (plain c)
+change-right : (s : ℕ) (c : Change Written) (d : Disk) → streamOpen d s ≡ true → journalRoom d s ≡ true → streamRoom d s ≡ true → (1 ≤ s → hasMember c ≡ true) → Good (plain c)
     → (s ≡ 0 → applies c (committed d .lists) ≡ true) → ((b : ℕ) → puts c b ≡ true → holderOf (d .rec) b ≡ s) → Right d → Right (change s c d)
 unfolding change streamOpen
 change-right zero c d o j r m g a f k = plain-right c d (stream-room d r) g (a refl) f k
 change-right (suc u) c d o j r m g a f k = journal-right (suc u) c d (rw (eqb·suc-zero u) at o) (journal-room d u j) (m (omega arith)) g f k
 
 -- the block is held first
-hold-change : (s b : ℕ) (c : Change Content) (d : Disk) → hold s b (change s c d) ≡ change s c (hold s b d)
+hold-change : (s b : ℕ) (c : Change Written) (d : Disk) → hold s b (change s c d) ≡ change s c (hold s b d)
 unfolding hold change journalAdd unitOf
 hold-change zero b c d = refl
 hold-change (suc u) b c d = refl
@@ -229,7 +229,7 @@ hold-zero zero b d e = refl
 hold-zero (suc u) b d e = absurd (omega arith)
 
 -- a change that goes to a journal has a member map
-stream-member : (s : ℕ) (c : Change Content) → 1 ≤ streamFor s c → hasMember c ≡ true
+stream-member : (s : ℕ) (c : Change Written) → 1 ≤ streamFor s c → hasMember c ≡ true
 unfolding streamFor
 stream-member s c h = go (hasMember c) h
   where
@@ -238,7 +238,7 @@ stream-member s c h = go (hasMember c) h
     go false h = absurd (omega arith)
 
 -- What an accepted edit makes, as the record notes it.
-module _ (s : ℕ) (c : Change Content) (d : Disk) (o : streamOpen d s ≡ true) (m : Makes s c d) (k : Right d) where
+module _ (s : ℕ) (c : Change Written) (d : Disk) (o : streamOpen d s ≡ true) (m : Makes s c d) (k : Right d) where
   quiet : ((b : ℕ) → puts c b ≡ false) → Right (change (streamFor s c) c d)
   quiet n =
       change-right (streamFor s c) c d (stream-open s c d o) (m .journal) (m .queue) (stream-member s c) (m .good) (m .applying) (λ b e. absurd (false≢true (sym (n b) ∙ e))) k
@@ -258,7 +258,7 @@ module _ (s : ℕ) (c : Change Content) (d : Disk) (o : streamOpen d s ≡ true)
       (λ x p. subst (λ (y : ℕ). holderOf (hold s b d .rec) y ≡ s) (eqb-true b x (sym (w x) ∙ p)) q)
       (hold-right s b d o i z n k))))
 
-made-right : (s : ℕ) (c : Change Content) (d : Disk) → streamOpen d s ≡ true → Makes s c d → Right d → Right (made s c d)
+made-right : (s : ℕ) (c : Change Written) (d : Disk) → streamOpen d s ≡ true → Makes s c d → Right d → Right (made s c d)
 unfolding made noted hasMember legal raw mapEntry mapChange legalChange
 made-right s (takeList l) d o m k = gave-list l (change (streamFor s (takeList l)) (takeList l) d) (m .good .lawful) (quiet s (takeList l) d o m k (λ b. refl))
 made-right s (putFirst b l) d o m k = put-right s (putFirst b l) d o m k b refl (and-true (isBlock b) (isList l) (m .good .lawful) .0) (λ n. refl)
@@ -291,11 +291,11 @@ conflict-right u d h =
     conflicted-right (unitOf d u .window) (closing u d) (closing-right u d p q (right d (y 0 (omega arith)) (y 1 (omega arith))))
 
 -- End: the unit closes first, and then its journal and the commit join the queue.
-closing-enqueue : (u : ℕ) (e : Entry Content) (d : Disk) → closing u (enqueue e d) ≡ enqueue e (closing u d)
+closing-enqueue : (u : ℕ) (e : Entry Written) (d : Disk) → closing u (enqueue e d) ≡ enqueue e (closing u d)
 unfolding closing enqueue unitOf
 closing-enqueue u e d = refl
 
-closing-enqueueAll : (u : ℕ) (es : List (Entry Content)) (d : Disk) → closing u (enqueueAll es d) ≡ enqueueAll es (closing u d)
+closing-enqueueAll : (u : ℕ) (es : List (Entry Written)) (d : Disk) → closing u (enqueueAll es d) ≡ enqueueAll es (closing u d)
 unfolding enqueueAll
 closing-enqueueAll u [] d = refl
 closing-enqueueAll u (e ∷ es) d = closing-enqueueAll u es (enqueue e d) ∙ ap (enqueueAll es) (closing-enqueue u e d)
@@ -305,7 +305,7 @@ unfolding closing
 closing-len u d = refl
 
 -- the other units hold nothing that this one's journal puts
-ended-units : (u : ℕ) (d : Disk) (s t : State Content) → 1 ≤ u → u ≤ 4 → applyAll (journalOf d u) s ≡ some t → UnitsRight d s → UnitsRight (closing u d) t
+ended-units : (u : ℕ) (d : Disk) (s t : State Written) → 1 ≤ u → u ≤ 4 → applyAll (journalOf d u) s ≡ some t → UnitsRight d s → UnitsRight (closing u d) t
 ended-units u d s t p q a k =
     units-state (closing u d) s t
     (λ b x y o n. placed-all (journalOf d u) s t b (journals-apart (d .rec) u (journalOf d u) b (other b o) (k .units u p q .sound)) n a)
@@ -336,7 +336,7 @@ module _ (d : Disk) (r : d .rec ≡ freshRecord) where
   unfolding unitOf freshRecord
   fresh-unit u p q = rw r (getD-replicate 4 (u - 1) freshUnit noUnit (omega arith))
 
-  fresh-units : (s : State Content) → UnitsRight d s
+  fresh-units : (s : State Written) → UnitsRight d s
   unfolding freshRecord freshUnit all
   fresh-units s = record {
     four = rw r;
@@ -345,7 +345,7 @@ module _ (d : Disk) (r : d .rec ≡ freshRecord) where
     holders = λ b p q. inl (rw r (getD-same 64 (b - 1) 0));
   }
 
-  fresh-right : (z : Reader Content) → cardLength (d .card) ≡ true → length (d .queueData) ≡ 8192 → length (d .journalData) ≡ 15360
+  fresh-right : (z : Reader Written) → cardLength (d .card) ≡ true → length (d .queueData) ≡ 8192 → length (d .journalData) ≡ 15360
       → readerOf (mounted (d .card)) ≡ some z → Right d
   unfolding freshRecord all headStanding
   fresh-right z c q j w = record {
@@ -375,7 +375,7 @@ mount-right d h =
     fresh-right (withRecord d freshRecord) refl z (card-length d (y 0)) (queue-data d (y 0)) (journal-data d (y 0)) e
 
 -- a formatted card holds nothing
-pub sound-reader : (c : List ℕ) (z : Reader Content) → mounted c ≡ sound z → readerOf (mounted c) ≡ some z
+pub sound-reader : (c : List ℕ) (z : Reader Written) → mounted c ≡ sound z → readerOf (mounted c) ≡ some z
 unfolding readerOf
 sound-reader c z e = rw e
 

@@ -11,9 +11,10 @@ use Rattle.lists.specs.Basic.{bind, all, joined, orElse}
 use Rattle.lists.specs.Change.{Change, mapChange}
 use Rattle.lists.specs.State.{State, state, apply, applyAll, overlay}
 use Rattle.lists.proofs.Basic.{and-true, guard-some, bind-some, all-append, all-drop, all-each}
+use Rattle.log.specs.Raced.{withBody}
 use Rattle.log.specs.Entry.{Entry, plain, member, commit, mapEntry, carried, raw, legal, legalChange, hasMember}
 use Rattle.log.specs.Reader.{Reader, settled, start, lastOf, read, replay}
-use Rattle.log.specs.Card.{Content, usedBy}
+use Rattle.log.specs.Card.{Written, usedBy}
 use Rattle.log.proofs.Segment.{Fine}
 use Rattle.disk.specs.Disk.{Disk, queued, journalOf, stateOf, persistent, committed, view}
 use Rattle.disk.specs.Sound.{isOpenUnit, journalSound}
@@ -28,10 +29,10 @@ all-joined p [] f = refl
 all-joined p (xs ∷ xss) f = all-append p xs (joined xss) (f 0 (omega arith)) (all-joined p xss (λ h l. f (suc h) (omega arith)))
 
 -- Q is what is kept, by the changes that pass the test.
-module _ (Q : State Content → Type 0) (ok : Change Content → Bool) (empty : Q (state []))
-    (lawful : (k : ℕ) (c : Change Content) → legalChange (mapChange (λ x. k) c) ≡ true → ok c ≡ true)
-    (keeps : (c : Change Content) (s t : State Content) → ok c ≡ true → apply c s ≡ some t → Q s → Q t) where
-  all-keeps : (cs : List (Change Content)) (s t : State Content) → all ok cs ≡ true → applyAll cs s ≡ some t → Q s → Q t
+module _ (Q : State Written → Type 0) (ok : Change Written → Bool) (empty : Q (state []))
+    (lawful : (k : ℕ) (c : Change Written) → legalChange (mapChange (withBody k) c) ≡ true → ok c ≡ true)
+    (keeps : (c : Change Written) (s t : State Written) → ok c ≡ true → apply c s ≡ some t → Q s → Q t) where
+  all-keeps : (cs : List (Change Written)) (s t : State Written) → all ok cs ≡ true → applyAll cs s ≡ some t → Q s → Q t
   unfolding applyAll all
   all-keeps [] s t m e h = subst Q (Option·some-injective _ _ e) h
   all-keeps (c ∷ cs) s t m e h =
@@ -39,31 +40,31 @@ module _ (Q : State Content → Type 0) (ok : Change Content → Bool) (empty : 
       let (a, b) = and-true (ok c) (all ok cs) m in
       all-keeps cs u t b g (keeps c s u a f h)
 
-  overlay-keeps : (cs : List (Change Content)) (s : State Content) → all ok cs ≡ true → Q s → Q (overlay cs s)
+  overlay-keeps : (cs : List (Change Written)) (s : State Written) → all ok cs ≡ true → Q s → Q (overlay cs s)
   unfolding overlay orElse all
   overlay-keeps [] s m h = h
   overlay-keeps (c ∷ cs) s m h =
       let (a, b) = and-true (ok c) (all ok cs) m in
       overlay-keeps cs (orElse s (apply c s)) b (go a (apply c s) refl)
     where
-      go : ok c ≡ true → (o : Option (State Content)) → apply c s ≡ o → Q (orElse s o)
+      go : ok c ≡ true → (o : Option (State Written)) → apply c s ≡ o → Q (orElse s o)
       go a none e = h
       go a (some t) e = keeps c s t a e h
 
   -- does the entry's change pass?
-  passes : Entry Content → Bool
+  passes : Entry Written → Bool
   passes (plain c) = ok c
   passes (member c) = ok c
   passes (commit n) = true
 
-  legal-passes : (k : ℕ) (e : Entry Content) → legal (raw k e) ≡ true → passes e ≡ true
+  legal-passes : (k : ℕ) (e : Entry Written) → legal (raw k e) ≡ true → passes e ≡ true
   unfolding legal raw mapEntry passes
   legal-passes k (plain c) h = lawful k c h
-  legal-passes k (member c) h = lawful k c (and-true (hasMember (mapChange (λ x. k) c)) (legalChange (mapChange (λ x. k) c)) h .1)
+  legal-passes k (member c) h = lawful k c (and-true (hasMember (mapChange (withBody k) c)) (legalChange (mapChange (withBody k) c)) h .1)
   legal-passes k (commit n) h = refl
 
   -- between two entries: the state, and the run's changes
-  record Kept (r : Reader Content) : Type 0 where
+  record Kept (r : Reader Written) : Type 0 where
     state : Q (r .state)
     run : all ok (r .run) ≡ true
 
@@ -71,13 +72,13 @@ module _ (Q : State Content → Type 0) (ok : Change Content → Bool) (empty : 
   unfolding all
   start-kept = record { state = empty; run = refl }
 
-  settled-kept : (o : Option (State Content)) (q : Reader Content) → bind o (λ s. some (settled s)) ≡ some q → ((t : State Content) → o ≡ some t → Q t) → Kept q
+  settled-kept : (o : Option (State Written)) (q : Reader Written) → bind o (λ s. some (settled s)) ≡ some q → ((t : State Written) → o ≡ some t → Q t) → Kept q
   unfolding all
   settled-kept o q e f =
       let (t, a, b) = bind-some o (λ s. some (settled s)) q e in
       subst Kept (Option·some-injective _ _ b) (record { state = f t a; run = refl })
 
-  read-kept : (r q : Reader Content) (e : Entry Content) → passes e ≡ true → read r e ≡ some q → Kept r → Kept q
+  read-kept : (r q : Reader Written) (e : Entry Written) → passes e ≡ true → read r e ≡ some q → Kept r → Kept q
   unfolding read passes lastOf all
   read-kept r q (plain c) m h i = settled-kept (apply c (r .state)) q h (λ t e. keeps c (r .state) t m e (i .state))
   read-kept r q (member c) m h i = subst Kept (Option·some-injective _ _ h) (record { state = i .state; run = all-append ok (r .run) (c ∷ []) (i .run) (rw m) })
@@ -86,7 +87,7 @@ module _ (Q : State Content → Type 0) (ok : Change Content → Bool) (empty : 
       settled-kept (applyAll (lastOf n (r .run)) (r .state)) q b
       (λ t e. all-keeps (lastOf n (r .run)) (r .state) t (all-drop ok (length (r .run) - n) (r .run) (i .run)) e (i .state))
 
-  replay-kept : (r q : Reader Content) (es : List (Entry Content)) → all passes es ≡ true → replay r es ≡ some q → Kept r → Kept q
+  replay-kept : (r q : Reader Written) (es : List (Entry Written)) → all passes es ≡ true → replay r es ≡ some q → Kept r → Kept q
   unfolding replay all
   replay-kept r q [] m h i = subst Kept (Option·some-injective _ _ h) i
   replay-kept r q (e ∷ es) m h i =
@@ -95,7 +96,7 @@ module _ (Q : State Content → Type 0) (ok : Change Content → Bool) (empty : 
       replay-kept x q es v b (read-kept r x e u a i)
 
   -- The entries of a card, of a queue and of a journal are legal.
-  fine-passes : (k : ℕ) (es : List (Entry Content)) → Fine k es → all passes es ≡ true
+  fine-passes : (k : ℕ) (es : List (Entry Written)) → Fine k es → all passes es ≡ true
   unfolding all
   fine-passes k [] f = refl
   fine-passes k (e ∷ es) f = rw (legal-passes k e (f .0)) (fine-passes (k + usedBy (carried e)) es (f .2))

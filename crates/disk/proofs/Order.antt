@@ -8,7 +8,7 @@ use lib.Dec.{eqb, ltb}
 use Rattle.lists.specs.Basic.{all, any}
 use Rattle.lists.specs.State.{Row}
 use Rattle.lists.proofs.Basic.{and-true, ltb-true, lt-true, eqb-false}
-use Rattle.log.specs.Card.{Content}
+use Rattle.log.specs.Card.{Written}
 use Rattle.disk.specs.Disk.{Disk, view}
 use Rattle.disk.specs.Call.{Edit, newList, newBlock, writeBlock, deleteBlock, deleteList, Look, readBlock, blockAfter, inventory, page, Call, format, mount, conflictCount, onStream, inView, begin, end, flush}
 use Rattle.disk.specs.Questions.{editQuestions, lookQuestions, questions}
@@ -31,11 +31,11 @@ pub edit-behind : (s : ℕ) (e : Edit) (d : Disk) → Behind (editQuestions s e 
 unfolding rising editQuestions
 edit-behind s newList d = record { rises = refl; ends-none = refl }
 edit-behind s (newBlock l p) d = record { rises = refl; ends-none = refl }
-edit-behind s (writeBlock b x) d = record { rises = refl; ends-none = refl }
+edit-behind s (writeBlock b n x) d = record { rises = refl; ends-none = refl }
 edit-behind s (deleteBlock b) d = record { rises = refl; ends-none = refl }
 edit-behind s (deleteList l) d = record { rises = refl; ends-none = refl }
 
-pub look-behind : (k : Look) (rs : List (Row Content)) → Behind (lookQuestions k rs)
+pub look-behind : (k : Look) (rs : List (Row Written)) → Behind (lookQuestions k rs)
 unfolding rising lookQuestions
 look-behind (readBlock b x) rs = record { rises = refl; ends-none = refl }
 look-behind (blockAfter l p) rs = record { rises = refl; ends-none = refl }

@@ -3,7 +3,7 @@ use mathlib.Core.Path.{_≡_, refl}
 use mathlib.Core.Bool.{Bool, true, false}
 use Prim.Native.Nat.{ℕ, suc}
 use lib.Dec.{eqb}
-use Rattle.log.specs.Card.{Content, Outcome, sound, fault, mounted}
+use Rattle.log.specs.Card.{Written, Outcome, sound, fault, mounted}
 use Rattle.disk.specs.Disk.{Disk}
 use Rattle.disk.specs.Call.{Call, format, mount, conflictCount, onStream, inView, begin, end, flush, destination}
 use Rattle.disk.specs.Questions.{refusal}
@@ -31,7 +31,7 @@ accepted-code (begin u w) d = refl
 accepted-code (end u) d = refl
 accepted-code (flush a) d = refl
 
-fault-code : (o : Outcome Content) (n : ℕ) → faultAt o n .code ≡ n
+fault-code : (o : Outcome Written) (n : ℕ) → faultAt o n .code ≡ n
 unfolding faultAt
 fault-code (sound r) n = refl
 fault-code (fault g i) n = refl

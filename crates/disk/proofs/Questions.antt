@@ -13,7 +13,7 @@ use Rattle.lists.specs.Basic.{isSome, orElse, all}
 use Rattle.lists.specs.State.{State, taken, placed, overlay}
 use Rattle.lists.proofs.Basic.{and-true, or-both, false-not, eqb-same, eqb-true, leb-true, ltb-true, le-true, some-of}
 use Rattle.log.specs.Entry.{isBlock, isList}
-use Rattle.log.specs.Card.{Content, cardLength}
+use Rattle.log.specs.Card.{Written, cardLength}
 use Rattle.disk.specs.Record.{holderOf, isOpen}
 use Rattle.disk.specs.Disk.{Disk, unitOf, journalOf, persistent, committed, view}
 use Rattle.disk.specs.Sound.{lengthsRight, isOpenUnit}
@@ -114,7 +114,7 @@ unfolding streamOpen
 open-range d u h = unit-range d (suc u) (rw (eqb·suc-zero u) at h)
 
 -- what holds of the persistent state, of the committed one and of each open unit's view holds of every open view
-pub open-views : (d : Disk) (P : State Content → Type 0) → P (persistent d) → P (committed d)
+pub open-views : (d : Disk) (P : State Written → Type 0) → P (persistent d) → P (committed d)
     → ((u : ℕ) → isOpenUnit d u ≡ true → P (overlay (journalOf d u) (committed d))) → (v : ℕ) → viewOpen d v ≡ true → P (view d v)
 unfolding view viewOpen streamOpen
 open-views d P p c f v h = go (eqb v 5) refl (eqb v 0) refl

@@ -12,10 +12,11 @@ use lib.Seq.{getD-set-same, getD-set-other}
 use Rattle.lists.specs.Basic.{bind, from}
 use Rattle.lists.specs.Change.{Change, takeList, putFirst, putAfter, write, delBlock, delList, mapChange, carriedBy}
 use Rattle.lists.proofs.Basic.{from-length, from-shift, from-ext, from-snoc, from-drop}
+use Rattle.log.specs.Raced.{Raced, withBody}
 use Rattle.log.specs.Entry.{Entry, plain, member, commit, mapEntry, carried, asEntry, asChange, raw}
 use Rattle.log.specs.Cell.{cellOf, memberIn, entryIn}
 use Rattle.log.specs.Reader.{replay}
-use Rattle.log.specs.Card.{Content, slot, mounted}
+use Rattle.log.specs.Card.{Content, Written, slot, mounted}
 use Rattle.log.specs.Flush.{Flow}
 use Rattle.log.proofs.Cells.{cell-entry, cell-change}
 use Rattle.log.proofs.Segment.{Sized}
@@ -26,26 +27,26 @@ use Rattle.disk.specs.Perform.{spliceSome, enqueue, enqueueAll, afterFlu
 use Rattle.disk.proofs.Buffer.{FillsWith, length-spliced, filled-place, other-place}
 
 -- An entry with its data taken out and put in again.
-change-filled : (x : Content) (c : Change Content) → FillsWith x (carriedBy c) → mapChange (λ s. x) (mapChange {E = ℕ} (λ d. 0) c) ≡ c
+change-filled : (x : Content) (c : Change Written) → FillsWith x (carriedBy c) → mapChange (withBody x) (mapChange (withBody {B = ℕ} 0) c) ≡ c
 unfolding mapChange carriedBy
 change-filled x (takeList l) h = refl
 change-filled x (putFirst b l) h = refl
 change-filled x (putAfter b l p) h = refl
-change-filled x (write b d) h = ap (write b) h
+change-filled x (write b d) h = ap (λ (y : Content). write b (withBody y d)) h
 change-filled x (delBlock b) h = refl
 change-filled x (delList l) h = refl
 
-pub change-fill : (x : Content) (c : Change Content) → FillsWith x (carriedBy c) → mapChange (λ s. x) (asChange (entryIn (cellOf (plain c)))) ≡ c
-change-fill x c h = ap (mapChange (λ s. x)) (cell-change c) ∙ change-filled x c h
+pub change-fill : (x : Content) (c : Change Written) → FillsWith x (carriedBy c) → mapChange (withBody x) (asChange (entryIn (cellOf (plain c)))) ≡ c
+change-fill x c h = ap (mapChange (withBody x)) (cell-change c) ∙ change-filled x c h
 
-entry-filled : (x : Content) (e : Entry Content) → FillsWith x (carried e) → mapEntry (λ s. x) (raw 0 e) ≡ e
+entry-filled : (x : Content) (e : Entry Written) → FillsWith x (carried e) → mapEntry (withBody x) (raw 0 e) ≡ e
 unfolding raw carried mapEntry
 entry-filled x (plain c) h = ap plain (change-filled x c h)
 entry-filled x (member c) h = ap member (change-filled x c h)
 entry-filled x (commit n) h = refl
 
-pub entry-fill : (x : Content) (e : Entry Content) → FillsWith x (carried e) → mapEntry (λ s. x) (asEntry (memberIn (cellOf e)) (entryIn (cellOf e))) ≡ e
-entry-fill x e h = ap (mapEntry (λ s. x)) (cell-entry e) ∙ entry-filled x e h
+pub entry-fill : (x : Content) (e : Entry Written) → FillsWith x (carried e) → mapEntry (withBody x) (asEntry (memberIn (cellOf e)) (entryIn (cellOf e))) ≡ e
+entry-fill x e h = ap (mapEntry (withBody x)) (cell-entry e) ∙ entry-filled x e h
 
 -- Places of the ring.
 ring-apart : (h k n : ℕ) → k < n → n < 32 → (h + k) % 32 ≢ (h + n) % 32
@@ -58,15 +59,15 @@ ring-fits : (n : ℕ) → 256 * (n % 32) + 256 ≤ 8192
 ring-fits n = omega arith
 
 -- The entry joins the queue.
-pub enqueue-length : (e : Entry Content) (d : Disk) → enqueue e d .rec .ring .len ≡ suc (d .rec .ring .len)
+pub enqueue-length : (e : Entry Written) (d : Disk) → enqueue e d .rec .ring .len ≡ suc (d .rec .ring .len)
 unfolding enqueue
 enqueue-length e d = add-one (d .rec .ring .len)
 
-pub enqueue-places : (e : Entry Content) (d : Disk) → length (enqueue e d .rec .ring .queue) ≡ length (d .rec .ring .queue)
+pub enqueue-places : (e : Entry Written) (d : Disk) → length (enqueue e d .rec .ring .queue) ≡ length (d .rec .ring .queue)
 unfolding enqueue
 enqueue-places e d = length-set (d .rec .ring .queue) _ (cellOf e)
 
-pub enqueue-data : (e : Entry Content) (d : Disk) → length (d .queueData) ≡ 8192 → Sized (carried e) → length (enqueue e d .queueData) ≡ 8192
+pub enqueue-data : (e : Entry Written) (d : Disk) → length (d .queueData) ≡ 8192 → Sized (carried e) → length (enqueue e d .queueData) ≡ 8192
 unfolding enqueue
 enqueue-data e d l z = length-spliced (d .queueData) _ (carried e) (omega (arith, l, ring-fits (d .rec .ring .head + d .rec .ring .len))) z ∙ l
 
@@ -74,7 +75,7 @@ pub queue-length : (d : Disk) → length (queued d) ≡ d .rec .ring .len
 unfolding queued
 queue-length d = from-length (queuedAt d) 0 (d .rec .ring .len)
 
-queued-new : (e : Entry Content) (d : Disk) → length (d .queueData) ≡ 8192 → length (d .rec .ring .queue) ≡ 32 → Sized (carried e) → queuedAt (enqueue e d) (d .rec .ring .len) ≡ e
+queued-new : (e : Entry Written) (d : Disk) → length (d .queueData) ≡ 8192 → length (d .rec .ring .queue) ≡ 32 → Sized (carried e) → queuedAt (enqueue e d) (d .rec .ring .len) ≡ e
 unfolding queuedAt enqueue
 queued-new e d l q z =
     rw (getD-set-same (d .rec .ring .queue) p (cellOf e) noCell (omega (arith, ring-small (d .rec .ring .head + d .rec .ring .len))))
@@ -83,7 +84,7 @@ queued-new e d l q z =
     p : ℕ
     p = ringPlace (d .rec) (d .rec .ring .len)
 
-queued-old : (e : Entry Content) (d : Disk) (k : ℕ) → length (d .queueData) ≡ 8192 → d .rec .ring .len < 32 → Sized (carried e) → k < d .rec .ring .len
+queued-old : (e : Entry Written) (d : Disk) (k : ℕ) → length (d .queueData) ≡ 8192 → d .rec .ring .len < 32 → Sized (carried e) → k < d .rec .ring .len
     → queuedAt (enqueue e d) k ≡ queuedAt d k
 unfolding queuedAt enqueue
 queued-old e d k l m z a =
@@ -97,44 +98,44 @@ queued-old e d k l m z a =
     j : ℕ
     j = ringPlace (d .rec) k
 
-pub queued-add : (e : Entry Content) (d : Disk) → length (d .queueData) ≡ 8192 → length (d .rec .ring .queue) ≡ 32 → d .rec .ring .len < 32 → Sized (carried e)
+pub queued-add : (e : Entry Written) (d : Disk) → length (d .queueData) ≡ 8192 → length (d .rec .ring .queue) ≡ 32 → d .rec .ring .len < 32 → Sized (carried e)
     → queued (enqueue e d) ≡ queued d ++ e ∷ []
 unfolding queued
 queued-add e d l q m z =
     ap (from f 0) (enqueue-length e d)
     ∙ from-snoc f 0 (d .rec .ring .len)
-    ∙ ap (λ (x : Entry Content). from f 0 (d .rec .ring .len) ++ x ∷ []) (ap f (zero-add (d .rec .ring .len)) ∙ queued-new e d l q z)
-    ∙ ap (λ (r : List (Entry Content)). r ++ e ∷ []) (from-ext f (queuedAt d) (d .rec .ring .len) (λ k a. queued-old e d k l m z a))
+    ∙ ap (λ (x : Entry Written). from f 0 (d .rec .ring .len) ++ x ∷ []) (ap f (zero-add (d .rec .ring .len)) ∙ queued-new e d l q z)
+    ∙ ap (λ (r : List (Entry Written)). r ++ e ∷ []) (from-ext f (queuedAt d) (d .rec .ring .len) (λ k a. queued-old e d k l m z a))
   where
-    f : ℕ → Entry Content
+    f : ℕ → Entry Written
     f = queuedAt (enqueue e d)
 
 -- several entries
-abbrev pub AllSized : List (Entry Content) → Type 0
+abbrev pub AllSized : List (Entry Written) → Type 0
 AllSized [] = Unit {0}
 AllSized (e ∷ es) = Sized (carried e) × AllSized es
 
-pub queued-all : (es : List (Entry Content)) (d : Disk) → length (d .queueData) ≡ 8192 → length (d .rec .ring .queue) ≡ 32 → d .rec .ring .len + length es ≤ 32 → AllSized es
+pub queued-all : (es : List (Entry Written)) (d : Disk) → length (d .queueData) ≡ 8192 → length (d .rec .ring .queue) ≡ 32 → d .rec .ring .len + length es ≤ 32 → AllSized es
     → queued (enqueueAll es d) ≡ queued d ++ es
 unfolding enqueueAll
 queued-all [] d l q m z = sym (append-nil (queued d))
 queued-all (e ∷ es) d l q m z =
     queued-all es (enqueue e d) (enqueue-data e d l (z .0)) (enqueue-places e d ∙ q) (omega (arith, enqueue-length e d)) (z .1)
-    ∙ ap (λ (x : List (Entry Content)). x ++ es) (queued-add e d l q (omega arith) (z .0))
+    ∙ ap (λ (x : List (Entry Written)). x ++ es) (queued-add e d l q (omega arith) (z .0))
     ∙ append-assoc (queued d) (e ∷ []) es
 
-pub enqueueAll-data : (es : List (Entry Content)) (d : Disk) → length (d .queueData) ≡ 8192 → AllSized es → length (enqueueAll es d .queueData) ≡ 8192
+pub enqueueAll-data : (es : List (Entry Written)) (d : Disk) → length (d .queueData) ≡ 8192 → AllSized es → length (enqueueAll es d .queueData) ≡ 8192
 unfolding enqueueAll
 enqueueAll-data [] d l z = l
 enqueueAll-data (e ∷ es) d l z = enqueueAll-data es (enqueue e d) (enqueue-data e d l (z .0)) (z .1)
 
-pub enqueueAll-length : (es : List (Entry Content)) (d : Disk) → enqueueAll es d .rec .ring .len ≡ d .rec .ring .len + length es
+pub enqueueAll-length : (es : List (Entry Written)) (d : Disk) → enqueueAll es d .rec .ring .len ≡ d .rec .ring .len + length es
 unfolding enqueueAll
 enqueueAll-length [] d = omega arith
 enqueueAll-length (e ∷ es) d = omega (arith, enqueueAll-length es (enqueue e d), enqueue-length e d)
 
 -- the data of the entries that stand in the queue
-pub change-sized : (x : Content) (c : Change ℕ) → length x ≡ 256 → Sized (carriedBy (mapChange (λ s. x) c))
+pub change-sized : {A : Type 0} (x : Content) (c : Change (Raced A)) → length x ≡ 256 → Sized (carriedBy (mapChange (withBody x) c))
 unfolding mapChange carriedBy
 change-sized x (takeList l) z = tt
 change-sized x (putFirst b l) z = tt
@@ -143,13 +144,13 @@ change-sized x (write b s) z = z
 change-sized x (delBlock b) z = tt
 change-sized x (delList l) z = tt
 
-entry-sized : (x : Content) (e : Entry ℕ) → length x ≡ 256 → Sized (carried (mapEntry (λ s. x) e))
+entry-sized : {A : Type 0} (x : Content) (e : Entry (Raced A)) → length x ≡ 256 → Sized (carried (mapEntry (withBody x) e))
 unfolding mapEntry carried
 entry-sized x (plain c) z = change-sized x c z
 entry-sized x (member c) z = change-sized x c z
 entry-sized x (commit n) z = tt
 
-sized-from : (f : ℕ → Entry Content) (k n : ℕ) → ((j : ℕ) → Sized (carried (f j))) → AllSized (from f k n)
+sized-from : (f : ℕ → Entry Written) (k n : ℕ) → ((j : ℕ) → Sized (carried (f j))) → AllSized (from f k n)
 unfolding from
 sized-from f k zero h = tt
 sized-from f k (suc n) h = (h k, sized-from f (suc k) n h)
@@ -175,7 +176,7 @@ pub record Beside (d e : Disk) : Type 0 where
   pub lastList : e .rec .tally .lastList ≡ d .rec .tally .lastList
   pub conflicts : e .rec .tally .conflicts ≡ d .rec .tally .conflicts
 
-pub beside-one : (e : Entry Content) (d : Disk) → Beside d (enqueue e d)
+pub beside-one : (e : Entry Written) (d : Disk) → Beside d (enqueue e d)
 unfolding enqueue
 beside-one e d =
     record {
@@ -191,7 +192,7 @@ beside-one e d =
       conflicts = refl;
     }
 
-pub beside-all : (es : List (Entry Content)) (d : Disk) → Beside d (enqueueAll es d)
+pub beside-all : (es : List (Entry Written)) (d : Disk) → Beside d (enqueueAll es d)
 unfolding enqueueAll
 beside-all [] d =
     record {
@@ -255,9 +256,9 @@ pub queued-same : (d e : Disk) → e .queueData ≡ d .queueData → e .rec .rin
     → queued e ≡ queued d
 unfolding queued queuedAt
 queued-same d e a b c n i =
-    from (λ k. let q = getD (b i) ((c i + k) % 32) noCell in mapEntry (λ s. slot (a i) ((c i + k) % 32)) (asEntry (memberIn q) (entryIn q))) 0 (n i)
+    from (λ k. let q = getD (b i) ((c i + k) % 32) noCell in mapEntry (withBody (slot (a i) ((c i + k) % 32))) (asEntry (memberIn q) (entryIn q))) 0 (n i)
 
-pub queued-journal : (u : ℕ) (c : Change Content) (d : Disk) → queued (journalAdd u c d) ≡ queued d
+pub queued-journal : (u : ℕ) (c : Change Written) (d : Disk) → queued (journalAdd u c d) ≡ queued d
 unfolding journalAdd
 queued-journal u c d = queued-same d (journalAdd u c d) refl refl refl refl
 

@@ -8,8 +8,9 @@ use Rattle.lists.specs.State.{placed}
 use Rattle.lists.proofs.Basic.{and-true, not-false, not-true, eqb-false}
 use Rattle.lists.proofs.Count.{puts}
 use Rattle.lists.proofs.Placed.{placed-apply}
+use Rattle.log.specs.Raced.{withBody}
 use Rattle.log.specs.Entry.{legalChange, isBlock, isList}
-use Rattle.log.specs.Card.{Content}
+use Rattle.log.specs.Card.{Written}
 use Rattle.disk.specs.Disk.{Disk, view}
 use Rattle.disk.specs.Questions.{viewOpen}
 use Rattle.disk.proofs.Clauses.{Right}
@@ -19,7 +20,7 @@ module _ (b : ℕ) (far : isBlock b ≡ false) where
   other : (n : ℕ) → isBlock n ≡ true → not (eqb n b) ≡ true
   other n h = not-true (eqb n b) (eqb-false n b (λ e. absurd (false≢true (sym far ∙ ap isBlock (sym e) ∙ h))))
 
-  legal-spares : (k : ℕ) (c : Change Content) → legalChange (mapChange (λ x. k) c) ≡ true → not (puts c b) ≡ true
+  legal-spares : (k : ℕ) (c : Change Written) → legalChange (mapChange (withBody k) c) ≡ true → not (puts c b) ≡ true
   unfolding legalChange mapChange
   legal-spares k (takeList l) h = refl
   legal-spares k (putFirst n l) h = other n (and-true (isBlock n) (isList l) h .0)

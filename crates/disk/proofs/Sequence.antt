@@ -13,8 +13,9 @@ use Rattle.lists.specs.Basic.{from}
 use Rattle.lists.specs.Change.{Change, takeList, putFirst, putAfter, write, delBlock, delList, mapChange, carriedBy}
 use Rattle.lists.proofs.Basic.{and-true, eqb-true, ltb-true}
 use Rattle.log.specs.declared.place.Place.{Place}
+use Rattle.log.specs.Raced.{Raced, withBody}
 use Rattle.log.specs.Entry.{Entry, plain, member, commit, mapEntry, carried}
-use Rattle.log.specs.Card.{Content, segmentsIn}
+use Rattle.log.specs.Card.{Content, Written, segmentsIn}
 use Rattle.log.specs.Store.{Store, doStores, standing, home, tail, entryStores, headAt}
 use Rattle.log.proofs.Flows.{flowFor}
 use Rattle.log.specs.Flush.{ahead, rest}
@@ -28,12 +29,12 @@ use Rattle.disk.specs.Statements.{todo}
 use Rattle.disk.proofs.Clauses.{Right}
 use Rattle.disk.proofs.Draining.{left, open-log, flow-of, flush-size, turn}
 
-head-ready : (c : List ℕ) (k : ℕ) (o : Option Place) (e : Entry Content) → headAt c k o e ≡ true → ReadyHead o e k
+head-ready : (c : List ℕ) (k : ℕ) (o : Option Place) (e : Entry Written) → headAt c k o e ≡ true → ReadyHead o e k
 unfolding headAt
 head-ready c k none e h = eqb-true k 0 h
 head-ready c k (some p) e h = ltb-true k (length (entryStores p e)) (and-true (ltb k (length (entryStores p e))) (standing (take k (entryStores p e)) c) h .0)
 
-queue-ready : (c : List ℕ) (k : ℕ) (q : List (Entry Content)) → headStanding c k q ≡ true → Ready (segmentsIn c) (tail c) q k
+queue-ready : (c : List ℕ) (k : ℕ) (q : List (Entry Written)) → headStanding c k q ≡ true → Ready (segmentsIn c) (tail c) q k
 unfolding headStanding
 queue-ready c k [] h = eqb-true k 0 h
 queue-ready c k (e ∷ q) h = head-ready c k (home (segmentsIn c) (tail c) e) e h
@@ -76,7 +77,7 @@ cut-left a k d r l =
     ap (λ (ss : List Store). doStores ss (d .card)) (take-take k a (todo d) (omega (arith, h .stores))) ∙ sym (flush-stored k d r .card)
 
 -- Where the queue's data are bytes, every store to do lies on the card and stores a byte.
-change-data : (x : Content) (c : Change ℕ) → AllBytes x → DataBytes (carriedBy (mapChange (λ s. x) c))
+change-data : {A : Type 0} (x : Content) (c : Change (Raced A)) → AllBytes x → DataBytes (carriedBy (mapChange (withBody x) c))
 unfolding mapChange carriedBy
 change-data x (takeList l) h = tt
 change-data x (putFirst b l) h = tt
@@ -85,13 +86,13 @@ change-data x (write b s) h = h
 change-data x (delBlock b) h = tt
 change-data x (delList l) h = tt
 
-entry-data : (x : Content) (e : Entry ℕ) → AllBytes x → DataBytes (carried (mapEntry (λ s. x) e))
+entry-data : {A : Type 0} (x : Content) (e : Entry (Raced A)) → AllBytes x → DataBytes (carried (mapEntry (withBody x) e))
 unfolding mapEntry carried
 entry-data x (plain c) h = change-data x c h
 entry-data x (member c) h = change-data x c h
 entry-data x (commit n) h = tt
 
-data-from : (f : ℕ → Entry Content) (k n : ℕ) → ((j : ℕ) → DataBytes (carried (f j))) → AllDataBytes (from f k n)
+data-from : (f : ℕ → Entry Written) (k n : ℕ) → ((j : ℕ) → DataBytes (carried (f j))) → AllDataBytes (from f k n)
 unfolding from
 data-from f k zero h = tt
 data-from f k (suc n) h = (h k, data-from f (suc k) n h)

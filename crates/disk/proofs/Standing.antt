@@ -10,7 +10,7 @@ use lib.ListN.{length, take, getD}
 use Rattle.lists.proofs.Basic.{and-true, eqb-true, ltb-true, eq-true, lt-true, any-default}
 use Rattle.log.specs.declared.place.Place.{Place}
 use Rattle.log.specs.Entry.{Entry}
-use Rattle.log.specs.Card.{Content, segmentsIn}
+use Rattle.log.specs.Card.{Written, segmentsIn}
 use Rattle.log.specs.Store.{Store, standing, home, tail, entryStores, headAt}
 use Rattle.log.proofs.Segment.{Carries, carries-segments}
 use Rattle.log.proofs.EntryStores.{which, storeOf}
@@ -36,15 +36,15 @@ standing-all (x ∷ ss) zero c m f = refl
 standing-all (x ∷ ss) (suc k) c m f =
     rw (eq-true (getD c (x .0) 256) (x .1) (f 0 (omega arith))) (standing-all ss k c (omega arith) (λ j l. f (suc j) (omega arith)))
 
-module _ (c : List ℕ) (ess : List (List (Entry Content))) (h : Carries c ess) where
-  pub home-same : (e : Entry Content) → home (segmentsIn c) (tail c) e ≡ home (length ess) (endOf ess) e
+module _ (c : List ℕ) (ess : List (List (Entry Written))) (h : Carries c ess) where
+  pub home-same : (e : Entry Written) → home (segmentsIn c) (tail c) e ≡ home (length ess) (endOf ess) e
   home-same e i = home (carries-segments c ess h i) (tail-end c ess h i) e
 
-  store-on : (p : Place) (e : Entry Content) (j : ℕ) → home (length ess) (endOf ess) e ≡ some p → Good e → j < length (entryStores p e) → storeOf p e j .0 < length c
+  store-on : (p : Place) (e : Entry Written) (j : ℕ) → home (length ess) (endOf ess) e ≡ some p → Good e → j < length (entryStores p e) → storeOf p e j .0 < length c
   store-on p e j q g l =
       store-inside (home-at ess e p (h .packed) (h .some-segment) q) (g .sized) c j (storeOf p e j .0) (storeOf p e j .1) (h .size) (which p e j l)
 
-  pub standing-head : (q : List (Entry Content)) (k : ℕ) → AllGood q → headStanding c k q ≡ true → Head c ess q k
+  pub standing-head : (q : List (Entry Written)) (k : ℕ) → AllGood q → headStanding c k q ≡ true → Head c ess q k
   unfolding headStanding headAt
   standing-head [] k g s = eqb-true k 0 s
   standing-head (e ∷ q) k g s = (
@@ -56,7 +56,7 @@ module _ (c : List ℕ) (ess : List (List (Entry Content))) (h : Carries c ess) 
     λ v. eqb-true k 0 (ap (λ (o : Option Place). headAt c k o e) (sym (home-same e ∙ v)) ∙ s),
   )
 
-  pub head-standing : (q : List (Entry Content)) (k : ℕ) → AllGood q → Head c ess q k → headStanding c k q ≡ true
+  pub head-standing : (q : List (Entry Written)) (k : ℕ) → AllGood q → Head c ess q k → headStanding c k q ≡ true
   unfolding headStanding headAt
   head-standing [] k g s = eq-true k 0 s
   head-standing (e ∷ q) k g s = ap (λ (o : Option Place). headAt c k o e) (home-same e) ∙ go (home (length ess) (endOf ess) e) refl

@@ -13,7 +13,7 @@ use lib.Seq.{getD-set-same, getD-set-other}
 use Rattle.lists.proofs.Basic.{eqb-true, eqb-neq}
 use Rattle.log.specs.declared.place.Place.{Place}
 use Rattle.log.specs.Entry.{Entry}
-use Rattle.log.specs.Card.{Content, cardLength, segmentsIn, count}
+use Rattle.log.specs.Card.{Written, cardLength, segmentsIn, count}
 use Rattle.log.specs.Store.{Store, doStores, formatStores, home, tail, entryStores}
 use Rattle.log.specs.Flush.{Flow, Flushed, Ending, stopped, nextStore, flushFrom}
 use Rattle.log.specs.Turns.{InTurn, Clearable, storedAt, clearedAt, Steps, noStep, more, last, Clears, noClear, clear}
@@ -31,20 +31,20 @@ use Rattle.disk.proofs.Turns.{in-turn}
 use Rattle.disk.proofs.Draining.{open-log, flow-of}
 
 -- A flush with allowance a from segments ess that the card carries, m stores being counted before.
-abbrev flushOf : ℕ → ℕ → List ℕ → List (List (Entry Content)) → List (Entry Content) → ℕ → Flushed
+abbrev flushOf : ℕ → ℕ → List ℕ → List (List (Entry Written)) → List (Entry Written) → ℕ → Flushed
 flushOf a m c ess q k = flushFrom (length ess) a m (flowFor c ess q k)
 
 abbrev cardOf : Flushed → List ℕ
 cardOf x = x .flow .card
 
-flow-card : (c : List ℕ) (ess : List (List (Entry Content))) (q : List (Entry Content)) (k : ℕ) → flowFor c ess q k .card ≡ c
+flow-card : (c : List ℕ) (ess : List (List (Entry Written))) (q : List (Entry Written)) (k : ℕ) → flowFor c ess q k .card ≡ c
 unfolding flowFor
 flow-card c ess q k = refl
 
-flush-none : (m : ℕ) (c : List ℕ) (ess : List (List (Entry Content))) (q : List (Entry Content)) (k : ℕ) → cardOf (flushOf 0 m c ess q k) ≡ c
+flush-none : (m : ℕ) (c : List ℕ) (ess : List (List (Entry Written))) (q : List (Entry Written)) (k : ℕ) → cardOf (flushOf 0 m c ess q k) ≡ c
 flush-none m c ess q k = ap (λ (f : Flow). f .card) (none-left (length ess) m (flowFor c ess q k) .0) ∙ flow-card c ess q k
 
-module _ (c : List ℕ) (ess : List (List (Entry Content))) (e : Entry Content) (q : List (Entry Content)) (k : ℕ) (f : Flows c ess (e ∷ q) k) (p : Place)
+module _ (c : List ℕ) (ess : List (List (Entry Written))) (e : Entry Written) (q : List (Entry Written)) (k : ℕ) (f : Flows c ess (e ∷ q) k) (p : Place)
     (h : home (length ess) (endOf ess) e ≡ some p) where
   flush-more : (a m : ℕ) → suc k < length (entryStores p e) → flushOf (suc a) m c ess (e ∷ q) k ≡ flushOf a (suc m) (storedAt c p e k) ess (e ∷ q) (suc k)
   flush-more a m l = moved-flush (length ess) a m _ _ (next-more c ess e q k f p h l)
@@ -55,7 +55,7 @@ module _ (c : List ℕ) (ess : List (List (Entry Content))) (e : Entry Content) 
       moved-flush (length ess) a m _ _ (next-last c ess e q k f p h l)
       ∙ ap (λ (n : ℕ). flushFrom n a (suc m) (flowFor (storedAt c p e k) (addTo (p .segment) e ess) q 0)) (sym (add-length (p .segment) e ess))
 
-steps-only : {c c′ : List ℕ} {q : List (Entry Content)} {n a : ℕ} → Steps c q n a c′ → (m : ℕ) (ess : List (List (Entry Content))) → Flows c ess q n
+steps-only : {c c′ : List ℕ} {q : List (Entry Written)} {n a : ℕ} → Steps c q n a c′ → (m : ℕ) (ess : List (List (Entry Written))) → Flows c ess q n
     → c′ ≡ cardOf (flushOf a m c ess q n)
 steps-only {c} {c′} {q} {n} {a} noStep m ess f = sym (flush-none m c ess q n)
 steps-only {c} {c′} {q} {n} {a} (more {e = e} {q = r} {k = k} p t l s) m ess f =
@@ -69,14 +69,14 @@ steps-only {c} {c′} {q} {n} {a} (last {e = e} {q = r} {k = k} p t l s) m ess f
 stopped-short : (n a m : ℕ) (f : Flow) (x : Ending) → nextStore n f ≡ stopped x → flushFrom n (suc a) m f .stores ≡ m + suc a → ⊥
 stopped-short n a m f x h e = let z : m ≡ m + suc a = sym (ap (λ (y : Flushed). y .stores) (stopped-flush n (suc a) m f x h)) ∙ e in omega arith
 
-steps-each : (a m : ℕ) (c : List ℕ) (ess : List (List (Entry Content))) (q : List (Entry Content)) (n : ℕ) → Flows c ess q n
+steps-each : (a m : ℕ) (c : List ℕ) (ess : List (List (Entry Written))) (q : List (Entry Written)) (n : ℕ) → Flows c ess q n
     → flushOf a m c ess q n .stores ≡ m + a → Steps c q n a (cardOf (flushOf a m c ess q n))
 steps-each zero m c ess q n f e = rw (flush-none m c ess q n) noStep
 steps-each (suc a) m c ess [] n f e = absurd (stopped-short (length ess) a m _ _ (next-none c ess n) e)
 steps-each (suc a) m c ess (x ∷ q) n f e = go (λ c′ ess′ q′ n′ f′ e′. steps-each a (suc m) c′ ess′ q′ n′ f′ e′) (home (length ess) (endOf ess) x) refl
   where
     Later : Type 0
-    Later = (c′ : List ℕ) (ess′ : List (List (Entry Content))) (q′ : List (Entry Content)) (n′ : ℕ) → Flows c′ ess′ q′ n′
+    Later = (c′ : List ℕ) (ess′ : List (List (Entry Written))) (q′ : List (Entry Written)) (n′ : ℕ) → Flows c′ ess′ q′ n′
         → flushOf a (suc m) c′ ess′ q′ n′ .stores ≡ suc m + a → Steps c′ q′ n′ a (cardOf (flushOf a (suc m) c′ ess′ q′ n′))
 
     go : Later → (o : Option Place) → home (length ess) (endOf ess) x ≡ o → Steps c (x ∷ q) n (suc a) (cardOf (flushOf (suc a) m c ess (x ∷ q) n))

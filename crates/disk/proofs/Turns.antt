@@ -17,7 +17,7 @@ use Rattle.lists.proofs.Basic.{and-true, lt-true, bind-some}
 use Rattle.log.specs.declared.place.Place.{Place}
 use Rattle.log.specs.Entry.{Entry}
 use Rattle.log.specs.Reader.{Reader, start, read, replay}
-use Rattle.log.specs.Card.{Content, cardLength, segmentsIn, count, sound, mounted}
+use Rattle.log.specs.Card.{Written, cardLength, segmentsIn, count, sound, mounted}
 use Rattle.log.specs.Store.{Store, standing, home, tail, entryStores, headAt}
 use Rattle.log.specs.Turns.{InTurn, Clearable}
 use Rattle.log.proofs.CardLength.{card-size}
@@ -35,8 +35,8 @@ use Rattle.disk.proofs.Standing.{home-same, standing-head, head-standin
 abbrev pub storedOn : List ℕ → Store → List ℕ
 storedOn c x = set c (x .0) (x .1)
 
-module _ (c : List ℕ) (ess : List (List (Entry Content))) (e : Entry Content) (p : Place) (k : ℕ) where
-  pub in-turn : (q : List (Entry Content)) → Flows c ess (e ∷ q) k → home (length ess) (endOf ess) e ≡ some p → InTurn c p e k
+module _ (c : List ℕ) (ess : List (List (Entry Written))) (e : Entry Written) (p : Place) (k : ℕ) where
+  pub in-turn : (q : List (Entry Written)) → Flows c ess (e ∷ q) k → home (length ess) (endOf ess) e ≡ some p → InTurn c p e k
   unfolding headStanding headAt
   in-turn q f h =
       let v : home (segmentsIn c) (tail c) e ≡ some p = home-same c ess (f .carries) e ∙ h in
@@ -68,20 +68,20 @@ module _ (c : List ℕ) (ess : List (List (Entry Content))) (e : Entry Content) 
     turn-joined : joined (addTo (p .segment) e ess) ≡ joined ess ++ e ∷ []
     turn-joined = let a = head-at c ess e [] k turn-flows p turn-home in joined-add (p .segment) e ess (a .inside) (a .edge) (h .packed)
 
-read-behind : (es : List (Entry Content)) (e : Entry Content) (r r′ : Reader Content) → replay start es ≡ some r → read r e ≡ some r′
+read-behind : (es : List (Entry Written)) (e : Entry Written) (r r′ : Reader Written) → replay start es ≡ some r → read r e ≡ some r′
     → replay start (es ++ e ∷ []) ≡ some r′
 unfolding replay
 read-behind es e r r′ h k = replay-append start es (e ∷ []) ∙ rw h (rw k)
 
-pub turn-mounts : (c : List ℕ) (r : Reader Content) (e : Entry Content) (p : Place) (k : ℕ) → cardLength c ≡ true → mounted c ≡ sound r
+pub turn-mounts : (c : List ℕ) (r : Reader Written) (e : Entry Written) (p : Place) (k : ℕ) → cardLength c ≡ true → mounted c ≡ sound r
     → Good e → k < length (entryStores p e) → InTurn c p e k
-    → (let c′ = storedOn c (getD (entryStores p e) k (0, 0)) in (mounted c′ ≡ sound r) ⊎ ((r′ : Reader Content) → read r e ≡ some r′ → mounted c′ ≡ sound r′))
+    → (let c′ = storedOn c (getD (entryStores p e) k (0, 0)) in (mounted c′ ≡ sound r) ⊎ ((r′ : Reader Written) → read r e ≡ some r′ → mounted c′ ≡ sound r′))
 turn-mounts c r e p k s m g l t = go (turn-carries c ess e p k h g l t)
   where
-    regained : (ess : List (List (Entry Content))) × Carries c ess × (replay start (joined ess) ≡ some r)
+    regained : (ess : List (List (Entry Written))) × Carries c ess × (replay start (joined ess) ≡ some r)
     regained = let (a, b) = card-size c s in carries-read (segmentsIn c) c r b a m
 
-    ess : List (List (Entry Content))
+    ess : List (List (Entry Written))
     ess = regained .0
 
     h : Carries c ess
@@ -90,7 +90,7 @@ turn-mounts c r e p k s m g l t = go (turn-carries c ess e p k h g l t)
     c′ : List ℕ
     c′ = storedOn c (getD (entryStores p e) k (0, 0))
 
-    go : Carries c′ ess ⊎ Carries c′ (addTo (p .segment) e ess) → (mounted c′ ≡ sound r) ⊎ ((r′ : Reader Content) → read r e ≡ some r′ → mounted c′ ≡ sound r′)
+    go : Carries c′ ess ⊎ Carries c′ (addTo (p .segment) e ess) → (mounted c′ ≡ sound r) ⊎ ((r′ : Reader Written) → read r e ≡ some r′ → mounted c′ ≡ sound r′)
     go (inl x) = inl (carries-walk c′ ess r x (regained .2))
     go (inr x) = inr (λ r′ y. carries-walk c′ (addTo (p .segment) e ess) r′ x
         (ap (replay start) (turn-joined c ess e p k h g l t) ∙ read-behind (joined ess) e r r′ (regained .2) y))
@@ -126,14 +126,14 @@ module _ {A : Type 0} where
   joined-clear (suc g) (s ∷ ss) z =
       ap (λ (l : List A). s ++ l) (joined-clear g ss (λ h l. z (suc h) (omega arith))) ∙ sym (append-assoc s (joined (set ss g [])) (getD ss g []))
 
-module _ (c : List ℕ) (ess : List (List (Entry Content))) (g : ℕ) (k : Carries c ess) (t : Clearable c g) where
+module _ (c : List ℕ) (ess : List (List (Entry Written))) (g : ℕ) (k : Carries c ess) (t : Clearable c g) where
   abbrev c₀ : List ℕ
   c₀ = set c (4096 * g + 3584) 0
 
   within : g < length ess
   within = rw (carries-segments c ess k) at (t .inside)
 
-  no-entries : (es : List (Entry Content)) → length es ≡ 0 → es ≡ []
+  no-entries : (es : List (Entry Written)) → length es ≡ 0 → es ≡ []
   no-entries [] q = refl
   no-entries (e ∷ es) q = absurd (omega arith)
 
@@ -163,8 +163,8 @@ module _ (c : List ℕ) (ess : List (List (Entry Content))) (g : ℕ) (k : Carri
     holds = λ h m. clear-holds h (rw (length-set ess g []) at m) (ℕ-discrete h g);
   }
 
-pub clear-mounts : (c : List ℕ) (r : Reader Content) (g : ℕ) → cardLength c ≡ true → mounted c ≡ sound r → Clearable c g
-    → (r′ : Reader Content) × (mounted (set c (4096 * g + 3584) 0) ≡ sound r′)
+pub clear-mounts : (c : List ℕ) (r : Reader Written) (g : ℕ) → cardLength c ≡ true → mounted c ≡ sound r → Clearable c g
+    → (r′ : Reader Written) × (mounted (set c (4096 * g + 3584) 0) ≡ sound r′)
 clear-mounts c r g s m t =
     let (a, b) = card-size c s in
     let (ess, k, v) = carries-read (segmentsIn c) c r b a m in

@@ -17,7 +17,7 @@ use Rattle.lists.proofs.Basic.{le-true, eq-true, all-append, eqb-false}
 use Rattle.lists.proofs.Count.{puts}
 use Rattle.log.specs.Entry.{plain, member, raw, legal}
 use Rattle.log.specs.Cell.{cellOf}
-use Rattle.log.specs.Card.{Content}
+use Rattle.log.specs.Card.{Written}
 use Rattle.log.proofs.Segment.{Sized}
 use Rattle.disk.specs.Record.{Unit, holderOf, journaled, emptied, released, isOpen}
 use Rattle.disk.specs.Disk.{Disk, unitOf, journalOf}
@@ -47,13 +47,13 @@ unit-kept d e u x j f k = record {
   sound = rw j (journals-more (d .rec) (e .rec) u (journalOf d u) f (k .sound));
 }
 
-holder-kept : (d e : Disk) (s : State Content) (b : ℕ) → holderOf (e .rec) b ≡ holderOf (d .rec) b
+holder-kept : (d e : Disk) (s : State Written) (b : ℕ) → holderOf (e .rec) b ≡ holderOf (d .rec) b
     → ((u : ℕ) → holderOf (d .rec) b ≡ u → isOpenUnit d u ≡ true → isOpenUnit e u ≡ true) → HolderRight d s b → HolderRight e s b
 holder-kept d e s b h f (inl z) = inl (h ∙ z)
 holder-kept d e s b h f (inr (o, n)) = inr (rw h (f (holderOf (d .rec) b) refl o), n)
 
 -- The same units, over another state that places no held block.
-pub units-state : (d : Disk) (s t : State Content) → ((b : ℕ) → 1 ≤ b → b ≤ 64 → isOpenUnit d (holderOf (d .rec) b) ≡ true → placed b (s .lists) ≡ false → placed b (t .lists) ≡ false)
+pub units-state : (d : Disk) (s t : State Written) → ((b : ℕ) → 1 ≤ b → b ≤ 64 → isOpenUnit d (holderOf (d .rec) b) ≡ true → placed b (s .lists) ≡ false → placed b (t .lists) ≡ false)
     → UnitsRight d s → UnitsRight d t
 units-state d s t f k = record { four = k .four; table = k .table; units = k .units; holders = λ b p q. go b p q (k .holders b p q) }
   where
@@ -62,7 +62,7 @@ units-state d s t f k = record { four = k .four; table = k .table; units = k .un
     go b p q (inr (o, n)) = inr (o, f b p q o n)
 
 -- Another disk with the same units and holders.
-pub units-same : (d e : Disk) (s : State Content) → e .journalData ≡ d .journalData → e .rec .held .units ≡ d .rec .held .units → e .rec .held .holder ≡ d .rec .held .holder → UnitsRight d s → UnitsRight e s
+pub units-same : (d e : Disk) (s : State Written) → e .journalData ≡ d .journalData → e .rec .held .units ≡ d .rec .held .units → e .rec .held .holder ≡ d .rec .held .holder → UnitsRight d s → UnitsRight e s
 units-same d e s j u h k = record {
   four = rw u (k .four);
   table = rw h (k .table);
@@ -77,7 +77,7 @@ units-same d e s j u h k = record {
     holder b = ap (λ (hs : List ℕ). getD hs (b - 1) 0) h
 
 -- A free block is taken to hold.
-pub hold-units : (u b : ℕ) (d : Disk) (s : State Content) → isOpenUnit d (suc u) ≡ true → 1 ≤ b → b ≤ 64 → holderOf (d .rec) b ≡ 0 → placed b (s .lists) ≡ false
+pub hold-units : (u b : ℕ) (d : Disk) (s : State Written) → isOpenUnit d (suc u) ≡ true → 1 ≤ b → b ≤ 64 → holderOf (d .rec) b ≡ 0 → placed b (s .lists) ≡ false
     → UnitsRight d s → UnitsRight (hold (suc u) b d) s
 unfolding hold
 hold-units u b d s o p q z n k = record {
@@ -102,7 +102,7 @@ hold-units u b d s o p q z n k = record {
         holder-kept d e s c (getD-set-other (d .rec .held .holder) (b - 1) (c - 1) (suc u) 0 (omega arith)) (λ v h. still v) (k .holders c x y)
 
 -- A change joins unit u's journal: what it puts is held by u.
-module _ (u : ℕ) (c : Change Content) (d : Disk) (s : State Content) (o : isOpenUnit d u ≡ true) (l : length (d .journalData) ≡ 15360) (m : unitOf d u .len < 15)
+module _ (u : ℕ) (c : Change Written) (d : Disk) (s : State Written) (o : isOpenUnit d u ≡ true) (l : length (d .journalData) ≡ 15360) (m : unitOf d u .len < 15)
     (z : Sized (carriedBy c)) (w : legal (raw 0 (member c)) ≡ true) (f : (b : ℕ) → puts c b ≡ true → holderOf (d .rec) b ≡ u) where
   abbrev added : Disk
   added = journalAdd u c d
@@ -162,7 +162,7 @@ module _ (u : ℕ) (c : Change Content) (d : Disk) (s : State Content) (o : isOp
           unit-kept d added v (unit-added-other u v p a n c d) (journal-other u c d p q l m z v a b n (k .units v a b .room)) (λ x h. holder x ∙ h) (k .units v a b)
 
 -- A closed unit opens, for a window.
-module _ (u w : ℕ) (d : Disk) (s : State Content) (p : 1 ≤ u) (q : u ≤ 4) (m : 1 ≤ w) (n : w ≤ 16) (k : UnitsRight d s) where
+module _ (u w : ℕ) (d : Disk) (s : State Written) (p : 1 ≤ u) (q : u ≤ 4) (m : 1 ≤ w) (n : w ≤ 16) (k : UnitsRight d s) where
   abbrev begun : Disk
   begun = opening u w d
 
@@ -212,7 +212,7 @@ module _ (u w : ℕ) (d : Disk) (s : State Content) (p : 1 ≤ u) (q : u ≤ 4) 
           unit-kept d begun v (unit-opening-other u v p a n w d) (journal-opening u v w d (k .units u p q .closed c)) (λ x h. holder x ∙ h) (k .units v a b)
 
 -- A unit closes, and gives up what it holds.
-module _ (u : ℕ) (d : Disk) (s : State Content) (p : 1 ≤ u) (q : u ≤ 4) (k : UnitsRight d s) where
+module _ (u : ℕ) (d : Disk) (s : State Written) (p : 1 ≤ u) (q : u ≤ 4) (k : UnitsRight d s) where
   abbrev ended : Disk
   ended = closing u d
 

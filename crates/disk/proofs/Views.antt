@@ -15,7 +15,7 @@ use Rattle.lists.specs.State.{overlay}
 use Rattle.lists.proofs.Basic.{eqb-false}
 use Rattle.log.specs.Entry.{Entry}
 use Rattle.log.specs.Reader.{Reader, start, replay}
-use Rattle.log.specs.Card.{Content, segmentsIn, mounted}
+use Rattle.log.specs.Card.{Written, segmentsIn, mounted}
 use Rattle.log.specs.Flush.{drained}
 use Rattle.log.proofs.Replay.{replay-append}
 use Rattle.log.proofs.Sequence.{drained-empty}
@@ -41,26 +41,26 @@ cancel xs ys z e =
     let n : length xs ≡ length ys = omega (arith, length-append xs z, length-append ys z, ap length e) in
     sym (take-at xs z (length xs) refl) ∙ ap (take (length xs)) e ∙ take-at ys z (length xs) (sym n)
 
-turn-segs : (a : ℕ) (d : Disk) (z : Reader Content) (t : Turn a d z) → joined (t .after .segs) ≡ joined (t .before .segs) ++ take (t .after .gone) (queued d)
+turn-segs : (a : ℕ) (d : Disk) (z : Reader Written) (t : Turn a d z) → joined (t .after .segs) ≡ joined (t .before .segs) ++ take (t .after .gone) (queued d)
 turn-segs a d z t =
     let f = t .after in
     let q = queued d in
     cancel (joined (f .segs)) (joined (t .before .segs) ++ take (f .gone) q) (drop (f .gone) q)
-    (ap (λ (l : List (Entry Content)). joined (f .segs) ++ l) (sym (f .rest)) ∙ f .log
-    ∙ ap (λ (l : List (Entry Content)). joined (t .before .segs) ++ l) (sym (take-append-drop (f .gone) q))
+    (ap (λ (l : List (Entry Written)). joined (f .segs) ++ l) (sym (f .rest)) ∙ f .log
+    ∙ ap (λ (l : List (Entry Written)). joined (t .before .segs) ++ l) (sym (take-append-drop (f .gone) q))
     ∙ sym (append-assoc (joined (t .before .segs)) (take (f .gone) q) (drop (f .gone) q)))
 
 -- n entries left the queue, and the card's reader went on by these
 pub record Moved (a : ℕ) (d : Disk) : Type 0 where
-  pub before : Reader Content
+  pub before : Reader Written
   pub walked : readerOf (mounted (d .card)) ≡ some before
   pub gone : ℕ
-  pub now : Reader Content
+  pub now : Reader Written
   pub walks : readerOf (mounted (left a d .card)) ≡ some now
   pub steps : replay before (take gone (queued d)) ≡ some now
   pub rest : queued (left a d) ≡ drop gone (queued d)
 
-moved-steps : (r q : Reader Content) (x y es : List (Entry Content)) → replay start x ≡ some r → y ≡ x ++ es → replay start y ≡ some q → replay r es ≡ some q
+moved-steps : (r q : Reader Written) (x y es : List (Entry Written)) → replay start x ≡ some r → y ≡ x ++ es → replay start y ≡ some q → replay r es ≡ some q
 moved-steps r q x y es h e k = rw h at (sym (replay-append start x es) ∙ ap (replay start) (sym e) ∙ k)
 
 pub flush-moves : (a : ℕ) (d : Disk) → Right d → Moved a d
@@ -83,7 +83,7 @@ queue-none : (d : Disk) → queued d ≡ [] → committedReader d ≡ readerOf (
 unfolding committedReader replay
 queue-none d e = rw e (same (readerOf (mounted (d .card))))
   where
-    same : (o : Option (Reader Content)) → bind o (λ r. some r) ≡ o
+    same : (o : Option (Reader Written)) → bind o (λ r. some r) ≡ o
     same none = refl
     same (some r) = refl
 

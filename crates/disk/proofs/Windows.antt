@@ -12,7 +12,7 @@ use lib.ListN.{length, getD, set}
 use lib.Seq.{getD-set-other}
 use Rattle.lists.specs.Change.{Change, takeList, putFirst, putAfter, write, delBlock, delList}
 use Rattle.lists.proofs.Basic.{and-true, leb-true}
-use Rattle.log.specs.Card.{Content}
+use Rattle.log.specs.Card.{Written}
 use Rattle.disk.specs.Record.{Unit, Record, noUnit, freshUnit, freshRecord, unitAt, emptied, journaled}
 use Rattle.disk.specs.Disk.{Disk, unitOf, journalOf}
 use Rattle.disk.specs.Call.{Call, format, mount, conflictCount, onStream, inView, begin, end, flush, ends, resets}
@@ -40,7 +40,7 @@ set-closed (y ∷ us) (suc i) zero x e = inr refl
 set-closed (y ∷ us) (suc i) (suc j) x e = set-closed us i j x e
 
 -- A change on a stream.
-change-window : (s : ℕ) (c : Change Content) (d : Disk) (u : ℕ) → unitOf (change s c d) u .window ≡ unitOf d u .window
+change-window : (s : ℕ) (c : Change Written) (d : Disk) (u : ℕ) → unitOf (change s c d) u .window ≡ unitOf d u .window
 unfolding change enqueue journalAdd unitOf
 change-window zero c d u = refl
 change-window (suc v) c d u = set-same (d .rec .held .units) (suc v - 1) (u - 1) _ refl
@@ -50,7 +50,7 @@ unfolding hold unitOf
 hold-window zero b d u = refl
 hold-window (suc v) b d u = refl
 
-noted-window : (s : ℕ) (c : Change Content) (d : Disk) (u : ℕ) → unitOf (noted s c d) u .window ≡ unitOf d u .window
+noted-window : (s : ℕ) (c : Change Written) (d : Disk) (u : ℕ) → unitOf (noted s c d) u .window ≡ unitOf d u .window
 unfolding noted gaveBlock gaveList unitOf
 noted-window s (takeList l) d u = refl
 noted-window s (putFirst b l) d u = hold-window s b d u
@@ -59,7 +59,7 @@ noted-window s (write b x) d u = refl
 noted-window s (delBlock b) d u = refl
 noted-window s (delList l) d u = refl
 
-made-window : (s : ℕ) (c : Change Content) (d : Disk) (u : ℕ) → unitOf (made s c d) u .window ≡ unitOf d u .window
+made-window : (s : ℕ) (c : Change Written) (d : Disk) (u : ℕ) → unitOf (made s c d) u .window ≡ unitOf d u .window
 unfolding made
 made-window s c d u = noted-window s c (change (streamFor s c) c d) u ∙ change-window (streamFor s c) c d u
 

@@ -7,6 +7,7 @@ use Rattle.disk.specs.declared.answer.Refusal.the-variants.{WrongLength,
 use Rattle.disk.specs.declared.answer.Reply as R
 use Rattle.disk.specs.declared.answer.MountReply as M
 use Rattle.disk.specs.declared.answer.NumberReply as N
+use Rattle.disk.specs.declared.answer.ReadReply as D
 use Rattle.disk.specs.declared.answer.FlushReply as F
 
 unfoldable pub number : Refusal → ℕ
@@ -46,6 +47,11 @@ mountAnswer (M.the-variants.Refused x) = refusedAnswer x
 unfoldable pub numberAnswer : N.NumberReply → Answer
 numberAnswer (N.the-variants.Number n) = acceptedAnswer n 0
 numberAnswer (N.the-variants.Refused x) = refusedAnswer x
+
+-- "Read returns the race"
+unfoldable pub readAnswer : D.ReadReply → Answer
+readAnswer (D.the-variants.Race n) = acceptedAnswer n 0
+readAnswer (D.the-variants.Refused x) = refusedAnswer x
 
 unfoldable pub flushAnswer : F.FlushReply → Answer
 flushAnswer (F.the-variants.Drained n) = acceptedAnswer n (endingNumber drained)

@@ -1,5 +1,5 @@
 -- The calls and the look-ups, with their arguments: what changes comes on a stream, what is looked up in a view. S is a stream, V a view, B a block,
--- L a list, P a predecessor, U a unit, W a window.
+-- L a list, P a predecessor, U a unit, W a window, R a race.
 use mathlib.Core.Bool.{Bool, true, false}
 use mathlib.Core.Option.{Option, none, some}
 use mathlib.Core.List.{List, []}
@@ -9,7 +9,7 @@ use Prim.Native.Nat.{ℕ}
 pub data Edit : Type 0 where
   newList : Edit
   newBlock : ℕ → ℕ → Edit  -- L P
-  writeBlock : ℕ → List ℕ → Edit  -- B, the data lent
+  writeBlock : ℕ → ℕ → List ℕ → Edit  -- B R, the data lent
   deleteBlock : ℕ → Edit  -- B
   deleteList : ℕ → Edit  -- L
 

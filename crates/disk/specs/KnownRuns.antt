@@ -6,7 +6,7 @@ use Prim.Native.Nat.{ℕ}
 use lib.ListN.{length, take, drop, replicate}
 use Rattle.lists.specs.Basic.{from, joined}
 use Rattle.log.specs.Entry.{Entry, encode, raw}
-use Rattle.log.specs.Card.{Content, countOffset}
+use Rattle.log.specs.Card.{Content, Written, countOffset}
 use Rattle.log.specs.Flush.{Ending, drained, spent}
 use Rattle.disk.specs.Record.{freshRecord, withFlow}
 use Rattle.disk.specs.Disk.{Disk, queued}
@@ -28,7 +28,7 @@ pub record Run : Type 0 where
 abbrev pub answerOf : Result → List ℕ
 answerOf r = r .answer .code ∷ r .answer .value ∷ r .answer .second ∷ r .lent
 
-abbrev pub bytesOf : Entry Content → List ℕ
+abbrev pub bytesOf : Entry Written → List ℕ
 bytesOf e = encode (raw 0 e)
 
 -- what comes of steps, one by one
@@ -58,12 +58,15 @@ refuses c n = call c (n ∷ 0 ∷ 0 ∷ [])
 abbrev flushes : ℕ → ℕ → Ending → Step
 flushes a n e = call (flush a) (0 ∷ n ∷ endingNumber e ∷ [])
 
--- the persistent view's block b is read into bytes of 170: answered n, they hold x then
+-- the persistent view's block b is read into bytes of 170: answered n with race r, they hold x then
 abbrev untouched : Content
 untouched = replicate 256 170
 
+abbrev readsRaced : ℕ → ℕ → ℕ → Content → Step
+readsRaced b n r x = call (inView 5 (readBlock b untouched)) (n ∷ r ∷ 0 ∷ x)
+
 abbrev reads : ℕ → ℕ → Content → Step
-reads b n x = call (inView 5 (readBlock b untouched)) (n ∷ 0 ∷ 0 ∷ x)
+reads b n x = readsRaced b n 0 x
 
 abbrev run : Disk → List Step → Run
 run d ss = record { start = d; steps = ss }
@@ -87,25 +90,25 @@ ascending = from (λ k. k) 0 256
 
 -- the disks that rows start from: with the write queued; with it flushed; with unit 1 open; with unit 1 ended
 unfoldable pub written : Disk
-written = performAll (format ∷ onStream 0 newList ∷ onStream 0 (newBlock 1 0) ∷ onStream 0 (writeBlock 1 seven) ∷ []) blank
+written = performAll (format ∷ onStream 0 newList ∷ onStream 0 (newBlock 1 0) ∷ onStream 0 (writeBlock 1 0 seven) ∷ []) blank
 
 unfoldable pub stored : Disk
 stored = perform (flush 267) written .disk
 
 unfoldable pub unitOpen : Disk
-unitOpen = performAll (begin 1 1 ∷ onStream 1 (newBlock 1 1) ∷ onStream 1 (writeBlock 2 ascending) ∷ []) stored
+unitOpen = performAll (begin 1 1 ∷ onStream 1 (newBlock 1 1) ∷ onStream 1 (writeBlock 2 0 ascending) ∷ []) stored
 
 unfoldable pub unitEnded : Disk
 unitEnded = perform (end 1) unitOpen .disk
 
 -- "then unit 1: NewBlock after 1 gives 2, Write to 2, End"
 abbrev unit : List Step
-unit = accepts (begin 1 1) ∷ gives (onStream 1 (newBlock 1 1)) 2 ∷ accepts (onStream 1 (writeBlock 2 ascending)) ∷ accepts (end 1) ∷ []
+unit = accepts (begin 1 1) ∷ gives (onStream 1 (newBlock 1 1)) 2 ∷ accepts (onStream 1 (writeBlock 2 0 ascending)) ∷ accepts (end 1) ∷ []
 
 unfoldable pub runs : List Run
 runs =
     -- "From a formatted one-segment card: NewList gives 1; NewBlock first on 1 gives 1; Write to 1 of a 7 and 255 zeros."
-    run blank (accepts format ∷ gives (onStream 0 newList) 1 ∷ gives (onStream 0 (newBlock 1 0)) 1 ∷ accepts (onStream 0 (writeBlock 1 seven)) ∷ [])
+    run blank (accepts format ∷ gives (onStream 0 newList) 1 ∷ gives (onStream 0 (newBlock 1 0)) 1 ∷ accepts (onStream 0 (writeBlock 1 0 seven)) ∷ [])
     -- P "the flush takes 3+4+260 = 267 stores; the summary begins 3, 2 1, 3 1 1, 9 1 0"
     ∷ run written (flushes 65535 267 drained ∷ summary (3 ∷ 2 ∷ 1 ∷ 3 ∷ 1 ∷ 1 ∷ 9 ∷ 1 ∷ 0 ∷ []) ∷ [])
     -- P "Document 01's 266-store case now shows block 1 unwritten."
@@ -124,12 +127,16 @@ runs =
     ∷ run unitOpen (gives (inView 1 (blockAfter 1 1)) 2 ∷ [])
     -- P "unit 2 writes block 1, stream 0 deletes it, End 2: refused 12"; the unit is then closed, and the conflict counted for its window
     ∷ run stored (
-    accepts (begin 2 7) ∷ accepts (onStream 2 (writeBlock 1 ascending)) ∷ accepts (begin 3 8) ∷ accepts (onStream 0 (deleteBlock 1))
+    accepts (begin 2 7) ∷ accepts (onStream 2 (writeBlock 1 0 ascending)) ∷ accepts (begin 3 8) ∷ accepts (onStream 0 (deleteBlock 1))
     ∷ refuses (end 2) 12 ∷ refuses (end 2) 4 ∷ gives (conflictCount 7) 1 ∷ gives (conflictCount 8) 0 ∷ accepts mount ∷ gives (conflictCount 7) 0 ∷ [])
     -- "A window outside 1 to 16 is refused 5.": before question 6, behind question 4
     ∷ run stored (refuses (conflictCount 17) 5 ∷ refuses (begin 5 0) 4 ∷ accepts (begin 1 16) ∷ refuses (begin 1 0) 5 ∷ refuses (begin 1 1) 6 ∷ [])
     -- P "an empty unit's End queues 16 0"
     ∷ run stored (accepts (begin 1 1) ∷ accepts (end 1) ∷ queue (16 ∷ 0 ∷ []) ∷ [])
+    -- P "Bit 6 of the map says that a race byte follows, after the slot": 256 + 4 + 1 = 261 stores; "Read returns the race beside the content"
+    ∷ run stored (accepts (onStream 0 (writeBlock 1 24 ascending)) ∷ flushes 65535 261 drained ∷ summary (4 ∷ 2 ∷ 1 ∷ 3 ∷ 1 ∷ 1 ∷ 9 ∷ 1 ∷ 0 ∷ 73 ∷ 1 ∷ 1 ∷ 24 ∷ []) ∷ accepts mount ∷ readsRaced 1 0 24 ascending ∷ [])
+    -- P "maps 73 and 201 become legal"; "A race above 24 in a call is refused 5."
+    ∷ run stored (accepts (begin 1 1) ∷ refuses (onStream 1 (writeBlock 1 25 seven)) 5 ∷ accepts (onStream 1 (writeBlock 1 24 seven)) ∷ accepts (end 1) ∷ queue (201 ∷ 1 ∷ 0 ∷ 24 ∷ 16 ∷ 1 ∷ []) ∷ [])
     ∷ []
 
 -- each step of each run comes out as it must

@@ -9,9 +9,10 @@ use Rattle.lists.specs.Basic.{orElse}
 use Rattle.lists.specs.Change.{Change, takeList, putFirst, putAfter, write, delBlock, delList, carriedBy}
 use Rattle.lists.specs.State.{State}
 use Rattle.lists.specs.Lookup.{contentOf, nextAfter, listNums}
+use Rattle.log.specs.Raced.{raced}
 use Rattle.log.specs.Entry.{Entry, plain, member, commit, carried, hasMember}
 use Rattle.log.specs.Cell.{cellOf}
-use Rattle.log.specs.Card.{Content, slotBytes, segmentsIn, Outcome, sound, fault, mounted, splice}
+use Rattle.log.specs.Card.{Written, slotBytes, segmentsIn, Outcome, sound, fault, mounted, splice}
 use Rattle.log.specs.Store.{doStores, formatStores, tail}
 use Rattle.log.specs.Flush.{Flow, Flushed, Ending, drained, full, spent, flushFrom}
 use Rattle.listing.specs.Page.{pageText}
@@ -32,12 +33,12 @@ pub record Result : Type 0 where
   pub lent : List ℕ
 
 -- "Only the 256 bytes of a write being added change there; other entries change none."
-unfoldable pub spliceSome : List ℕ → ℕ → Option (List ℕ) → List ℕ
+unfoldable pub spliceSome : List ℕ → ℕ → Option Written → List ℕ
 spliceSome d i none = d
-spliceSome d i (some v) = splice d i v
+spliceSome d i (some v) = splice d i (v .body)
 
 -- the entry joins the queue, its data at its place
-unfoldable pub enqueue : Entry Content → Disk → Disk
+unfoldable pub enqueue : Entry Written → Disk → Disk
 enqueue e d =
     let r = d .rec in
     let p = ringPlace r (r .ring .len) in
@@ -48,12 +49,12 @@ enqueue e d =
       rec = appended (cellOf e) r;
     }
 
-unfoldable pub enqueueAll : List (Entry Content) → Disk → Disk
+unfoldable pub enqueueAll : List (Entry Written) → Disk → Disk
 enqueueAll [] d = d
 enqueueAll (e ∷ es) d = enqueueAll es (enqueue e d)
 
 -- the change joins unit u's journal, its data at its place
-unfoldable pub journalAdd : ℕ → Change Content → Disk → Disk
+unfoldable pub journalAdd : ℕ → Change Written → Disk → Disk
 journalAdd u c d =
     let x = unitOf d u in
     record {
@@ -64,7 +65,7 @@ journalAdd u c d =
     }
 
 -- "Changes come on stream 0 (simple; queued) or 1 to 4 (journalled, no log entry)."
-unfoldable pub change : ℕ → Change Content → Disk → Disk
+unfoldable pub change : ℕ → Change Written → Disk → Disk
 change s c d = elim s [ zero ↦ enqueue (plain c) d | suc u ↦ journalAdd (suc u) c d ]
 
 -- "A block made in a unit is held by it until it ends."
@@ -78,7 +79,7 @@ unfoldable pub gaveList : ℕ → Disk → Disk
 gaveList l d = withRecord d (withLastList (d .rec) l)
 
 -- what the record notes of a number given with a change
-unfoldable pub noted : ℕ → Change Content → Disk → Disk
+unfoldable pub noted : ℕ → Change Written → Disk → Disk
 noted s (takeList l) d = gaveList l d
 noted s (putFirst b l) d = gaveBlock b (hold s b d)
 noted s (putAfter b l p) d = gaveBlock b (hold s b d)
@@ -87,36 +88,41 @@ noted s (delBlock b) d = d
 noted s (delList l) d = d
 
 -- NewList "always queues a plain entry, inside a unit too": so goes what has no member map
-unfoldable pub streamFor : ℕ → Change Content → ℕ
+unfoldable pub streamFor : ℕ → Change Written → ℕ
 streamFor s c = cond (hasMember c) s 0
 
 -- a change that comes on a stream
-unfoldable pub made : ℕ → Change Content → Disk → Disk
+unfoldable pub made : ℕ → Change Written → Disk → Disk
 made s c d = noted s c (change (streamFor s c) c d)
 
 -- put first where the predecessor is 0
-unfoldable pub putAt : ℕ → ℕ → ℕ → Change Content
+unfoldable pub putAt : ℕ → ℕ → ℕ → Change Written
 putAt b l p = elim p [ zero ↦ putFirst b l | suc q ↦ putAfter b l (suc q) ]
 
 -- "NewBlock gives the first free number after the one given last", "NewList likewise with 16": the number given, 0 where none is
 unfoldable pub numberGiven : Edit → Disk → ℕ
 numberGiven newList d = orElse 0 (freeList d)
 numberGiven (newBlock l p) d = orElse 0 (freeBlock d)
-numberGiven (writeBlock b x) d = 0
+numberGiven (writeBlock b n x) d = 0
 numberGiven (deleteBlock b) d = 0
 numberGiven (deleteList l) d = 0
 
 -- the change that an edit makes, n being the number given
-unfoldable pub changeFor : Edit → ℕ → Change Content
+unfoldable pub changeFor : Edit → ℕ → Change Written
 changeFor newList n = takeList n
 changeFor (newBlock l p) n = putAt n l p
-changeFor (writeBlock b x) n = write b x
+changeFor (writeBlock b r x) n = write b (raced x r)
 changeFor (deleteBlock b) n = delBlock b
 changeFor (deleteList l) n = delList l
 
+-- "Read returns the race beside the content": the race, and the bytes that destination x holds then
+unfoldable pub readTo : List ℕ → Option Written → ℕ × List ℕ
+readTo x none = (0, x)
+readTo x (some w) = (w .race, w .body)
+
 -- what a look-up finds in a state: the number returned, and the bytes that the destination holds then
-unfoldable pub found : Look → State Content → ℕ × List ℕ
-found (readBlock b x) s = (0, orElse x (contentOf (s .lists) b))
+unfoldable pub found : Look → State Written → ℕ × List ℕ
+found (readBlock b x) s = readTo x (contentOf (s .lists) b)
 found (blockAfter l p) s = (nextAfter (s .lists) l p, [])
 -- "gives a view's lists by when the taking each has in that view stands in the serial history, earliest first": a state's lists stand in this order
 found (inventory x) s = let ls = listNums (s .lists) in (length ls, ls ++ drop (length ls) x)
@@ -135,7 +141,7 @@ unfoldable pub conflicted : ℕ → Disk → Disk
 conflicted w d = withRecord d (conflictCounted w (d .rec))
 
 -- "End queues the journal as members, then a commit"
-unfoldable pub unitEntries : List (Change Content) → List (Entry Content)
+unfoldable pub unitEntries : List (Change Written) → List (Entry Written)
 unitEntries cs = map member cs ++ commit (length cs) ∷ []
 
 -- the flow that the disk stands in, and the disk that a flow leaves
@@ -185,7 +191,7 @@ unfoldable pub refused : Call → ℕ → Disk → Disk
 refused c n d = elim (ends c) [ none ↦ d | some u ↦ elim (eqb n 12) [ true ↦ conflicted (unitOf d u .window) (closing u d) | false ↦ d ] ]
 
 -- "2, with segment and entry (from 0) of the first fault"; "other returned numbers are 0"
-unfoldable pub faultAt : Outcome Content → ℕ → Answer
+unfoldable pub faultAt : Outcome Written → ℕ → Answer
 faultAt (sound r) n = record { code = n; value = 0; second = 0 }
 faultAt (fault g i) n = record { code = n; value = g; second = i }
 

@@ -8,8 +8,8 @@ use lib.ListN.{length}
 use Rattle.lists.specs.Basic.{isSome}
 use Rattle.lists.specs.State.{Row, State, taken, placed, onList, applyAll}
 use Rattle.lists.specs.Lookup.{written}
-use Rattle.log.specs.Entry.{isBlock, isList}
-use Rattle.log.specs.Card.{Content, slotBytes, mounted}
+use Rattle.log.specs.Entry.{isBlock, isList, isRace}
+use Rattle.log.specs.Card.{Written, slotBytes, mounted}
 use Rattle.listing.specs.Page.{pageText}
 use Rattle.disk.specs.Record.{isOpen, holderOf, queuePlaces, journalPlaces, unitCount, windowCount}
 use Rattle.disk.specs.Disk.{Disk, unitOf, journalOf, readerOf, committed, view}
@@ -28,7 +28,7 @@ unfoldable pub viewOpen : Disk → ℕ → Bool
 viewOpen d v = eqb v 5 || streamOpen d v
 
 -- "9. Is the predecessor on that list?" (0 allowed)
-unfoldable pub predecessorRight : List (Row Content) → ℕ → ℕ → Bool
+unfoldable pub predecessorRight : List (Row Written) → ℕ → ℕ → Bool
 predecessorRight rs l p = eqb p 0 || onList l p rs
 
 -- "the first free number after the one given last, 1 following 64": of k numbers after the last
@@ -70,13 +70,14 @@ editQuestions s newList d = (10, isSome (freeList d)) ∷ (13, queueRoom d 1) �
 editQuestions s (newBlock l p) d =
     (5, isList l && leb p 64) ∷ (7, taken l (view d s .lists)) ∷ (9, predecessorRight (view d s .lists) l p)
     ∷ (10, isSome (freeBlock d)) ∷ (11, journalRoom d s) ∷ (13, streamRoom d s) ∷ []
-editQuestions s (writeBlock b x) d =
-    (5, isBlock b && eqb (length x) slotBytes) ∷ (8, placed b (view d s .lists)) ∷ (11, journalRoom d s) ∷ (13, streamRoom d s) ∷ []
+editQuestions s (writeBlock b n x) d =
+    -- "A race above 24 in a call is refused 5."
+    (5, isBlock b && isRace n && eqb (length x) slotBytes) ∷ (8, placed b (view d s .lists)) ∷ (11, journalRoom d s) ∷ (13, streamRoom d s) ∷ []
 editQuestions s (deleteBlock b) d = (5, isBlock b) ∷ (8, placed b (view d s .lists)) ∷ (11, journalRoom d s) ∷ (13, streamRoom d s) ∷ []
 editQuestions s (deleteList l) d = (5, isList l) ∷ (7, taken l (view d s .lists)) ∷ (11, journalRoom d s) ∷ (13, streamRoom d s) ∷ []
 
 -- what a look-up asks there, of the lists of its view
-unfoldable pub lookQuestions : Look → List (Row Content) → List (ℕ × Bool)
+unfoldable pub lookQuestions : Look → List (Row Written) → List (ℕ × Bool)
 -- "Reading a block that, by that view's state, was not written since its present put is now refused [..]. The refusal is 15, after question 9."
 lookQuestions (readBlock b x) rs = (5, isBlock b && eqb (length x) slotBytes) ∷ (8, placed b rs) ∷ (15, written b rs) ∷ []
 lookQuestions (blockAfter l p) rs = (5, isList l && leb p 64) ∷ (7, taken l rs) ∷ (9, predecessorRight rs l p) ∷ []

@@ -8,7 +8,7 @@ use Rattle.lists.specs.Basic.{isSome, all, each, from}
 use Rattle.lists.specs.Change.{Change, takeList, putFirst, putAfter, write, delBlock, delList}
 use Rattle.lists.specs.State.{placed}
 use Rattle.log.specs.Entry.{Entry, member, raw, legal, isBlock, isList}
-use Rattle.log.specs.Card.{Content, cardLength, segmentsIn}
+use Rattle.log.specs.Card.{Written, cardLength, segmentsIn}
 use Rattle.log.specs.Store.{home, tail, headAt}
 use Rattle.disk.specs.Record.{Record, shaped, isOpen, holderOf, queuePlaces, journalPlaces, unitCount, windowCount}
 use Rattle.disk.specs.Disk.{Disk, unitOf, queued, journalOf, committed, committedReader}
@@ -30,7 +30,7 @@ putBy (delBlock b) = []
 putBy (delList l) = []
 
 -- "each block a journal puts held by that unit, journals only of kinds that have a member map"
-unfoldable pub journalSound : Record → ℕ → Change Content → Bool
+unfoldable pub journalSound : Record → ℕ → Change Written → Bool
 journalSound r u c = legal (raw 0 (member c)) && all (λ b. eqb (holderOf r b) u) (putBy c)
 
 -- "counts [..] in range, closed units with empty journals"; the window of an open unit is one of 1 to 16
@@ -47,7 +47,7 @@ unfoldable pub holderSound : Disk → ℕ → Bool
 holderSound d b = eqb (holderOf (d .rec) b) 0 || isOpenUnit d (holderOf (d .rec) b) && not (placed b (committed d .lists))
 
 -- "stores already done of the head (none if it has no place) standing on the card": k of them are done
-unfoldable pub headStanding : List ℕ → ℕ → List (Entry Content) → Bool
+unfoldable pub headStanding : List ℕ → ℕ → List (Entry Written) → Bool
 headStanding c k [] = eqb k 0
 headStanding c k (e ∷ q) = headAt c k (home (segmentsIn c) (tail c) e) e
 

@@ -38,6 +38,12 @@ pub enum NumberReply {
     Refused(Refusal),
 }
 
+// Reading: the race that the block was written for, 0 for none.
+pub enum ReadReply {
+    Race(u8),
+    Refused(Refusal),
+}
+
 // A flush: the stores done, by its ending.
 pub enum FlushReply {
     Drained(usize),

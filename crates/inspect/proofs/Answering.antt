@@ -9,19 +9,20 @@ use Rattle.lists.specs.Basic.{isSome, all, each, from}
 use Rattle.lists.specs.Change.{Change, takeList, putFirst, putAfter, write, delBlock, delList, mapChange}
 use Rattle.lists.specs.State.{mapRow}
 use Rattle.lists.proofs.Naturality.{placed-map}
+use Rattle.log.specs.Raced.{Raced, withBody}
 use Rattle.log.specs.Entry.{member, raw, legal, mapEntry, isBlock, isList}
 use Rattle.log.specs.Reader.{Reader, replay}
-use Rattle.log.specs.Card.{Content, slot, sound, fault, mounted, cardLength, walkCard}
-use Rattle.log.specs.promises.Location.{cardLocation}
+use Rattle.log.specs.Card.{Content, Written, slot, sound, fault, mounted, cardLength, walkCard}
+use Rattle.log.specs.promises.Location.{cardNumber}
 use Rattle.log.proofs.Naturality.{mapReader, raw-map}
-use Rattle.disk.specs.Record.{Record, shaped, unitAt, unitCount}
+use Rattle.disk.specs.Record.{Record, shaped, unitAt, ringPlace, unitCount}
 use Rattle.disk.specs.Disk.{Disk, disk, unitOf, queuedAt, queued, journalPlace, journalAt, journalOf, readerOf, committedReader, stateOf, committed}
 use Rattle.disk.specs.Sound.{isOpenUnit, putBy, journalSound, unitSound, holderSound, headStanding, recordSound}
-use Rattle.inspect.specs.promises.Located.{contents, queueHere}
+use Rattle.inspect.specs.promises.Located.{contents, queuedSaid, queueSaid, queueHere}
 use Rattle.inspect.specs.promises.Clauses.{numbersRight, changeRight, changeIn, unitRight, unitsRight, openUnit, holderRight, holdersRight, lawful, rowsOf, settledRight}
 use Rattle.inspect.specs.promises.Inspect.{behindLog}
 use Rattle.inspect.proofs.Judging.{and-no}
-use Rattle.inspect.proofs.Locating.{queue-here, committed-here, some-map}
+use Rattle.inspect.proofs.Locating.{committed-here, some-map}
 
 -- two tests that agree
 module _ {A B : Type 0} (p : A → Bool) (q : B → Bool) where
@@ -29,11 +30,6 @@ module _ {A B : Type 0} (p : A → Bool) (q : B → Bool) where
   unfolding all from
   all-same f g k zero e = refl
   all-same f g k (suc n) e = rw (e k, all-same f g (suc k) n e)
-
-  all-map : (f : B → A) → ((x : B) → p (f x) ≡ q x) → (xs : List B) → all p (map f xs) ≡ all q xs
-  unfolding all
-  all-map f e [] = refl
-  all-map f e (x ∷ xs) = rw (e x, all-map f e xs)
 
 each-append : (xs ys : List Bool) → each (xs ++ ys) ≡ each xs && each ys
 unfolding each
@@ -63,9 +59,9 @@ putBy-map f (write b d) = refl
 putBy-map f (delBlock b) = refl
 putBy-map f (delList l) = refl
 
-change-is : (r : Record) (u : ℕ) (f : ℕ → Content) (c : Change ℕ) → journalSound r u (mapChange f c) ≡ changeRight (r .held .holder) u c
+change-is : (r : Record) (u : ℕ) (x : Content) (c : Change (Raced ℕ)) → journalSound r u (mapChange (withBody x) c) ≡ changeRight (r .held .holder) u c
 unfolding journalSound changeRight mapEntry
-change-is r u f c = rw (putBy-map f c, ← raw-map f 0 (member c), mapEntry)
+change-is r u x c = rw (putBy-map (withBody x) c, ← raw-map (withBody x) (λ s. refl) 0 (member c), mapEntry)
 
 module _ (d : Disk) where
   unit-is : (u : ℕ) → unitSound d u ≡ unitRight (d .rec .held .holder) (unitAt (d .rec) u) u
@@ -73,7 +69,7 @@ module _ (d : Disk) where
   unit-is u = rw (all-same (journalSound (d .rec) u) (changeRight (d .rec .held .holder) u) (journalAt d u) (changeIn (unitAt (d .rec) u)) 0 (unitAt (d .rec) u .len) change-at)
     where
       change-at : (k : ℕ) → journalSound (d .rec) u (journalAt d u k) ≡ changeRight (d .rec .held .holder) u (changeIn (unitAt (d .rec) u) k)
-      change-at k = change-is (d .rec) u (λ s. slot (d .journalData) (journalPlace u k)) (changeIn (unitAt (d .rec) u) k)
+      change-at k = change-is (d .rec) u (slot (d .journalData) (journalPlace u k)) (changeIn (unitAt (d .rec) u) k)
 
   units-is : all (unitSound d) (from (λ u. u) 1 unitCount) ≡ unitsRight (d .rec)
   unfolding unitsRight
@@ -99,14 +95,15 @@ module _ (d : Disk) where
   fault-behind g i e = rw e (and-no (all (λ e. legal (raw 0 e)) (queued d)))
 
   -- A card whose log leads to reader x.
-  module _ (x : Reader ℕ) (l : cardLength (d .card) ≡ true) (w : walkCard cardLocation (d .card) ≡ sound x) where
+  module _ (x : Reader ℕ) (l : cardLength (d .card) ≡ true) (w : walkCard cardNumber (d .card) ≡ sound x) where
     abbrev o : Option (Reader ℕ)
     o = replay x (queueHere (d .rec))
 
-    lawful-is : all (λ e. legal (raw 0 e)) (queued d) ≡ lawful (queueHere (d .rec))
+    lawful-is : all (λ e. legal (raw 0 e)) (queued d) ≡ lawful (queueSaid (d .rec))
+    unfolding queued queuedAt queueSaid
     lawful-is =
-        sym (ap (all (λ e. legal (raw 0 e))) (queue-here d))
-        ∙ all-map (λ e. legal (raw 0 e)) (λ e. legal (raw 0 e)) (mapEntry (contents d)) (λ e. rw (raw-map (contents d) 0 e)) (queueHere (d .rec))
+        all-same (λ e. legal (raw 0 e)) (λ e. legal (raw 0 e)) (queuedAt d) (queuedSaid (d .rec)) 0 (d .rec .ring .len)
+        (λ k. ap legal (raw-map (withBody (slot (d .queueData) (ringPlace (d .rec) k))) (λ s. refl) 0 (queuedSaid (d .rec) k)))
 
     some-is : isSome (committedReader d) ≡ isSome o
     some-is = ap isSome (committed-here d x w l) ∙ some-map (mapReader (contents d)) o
@@ -118,7 +115,7 @@ module _ (d : Disk) where
 
     rows-is : committed d .lists ≡ map (mapRow (contents d)) (rowsOf o)
     unfolding committed
-    rows-is = ap (λ (p : Option (Reader Content)). stateOf p .lists) (committed-here d x w l) ∙ rows-of o
+    rows-is = ap (λ (p : Option (Reader Written)). stateOf p .lists) (committed-here d x w l) ∙ rows-of o
 
     holder-is : (b : ℕ) → holderSound d b ≡ holderRight (d .rec) (rowsOf o) b
     unfolding holderSound holderRight isOpenUnit openUnit unitOf

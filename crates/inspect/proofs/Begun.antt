@@ -12,7 +12,7 @@ use Rattle.lists.specs.Basic.{from}
 use Rattle.lists.proofs.Basic.{from-step}
 use Rattle.log.specs.declared.place.Place.{Place}
 use Rattle.log.specs.Entry.{Entry, asEntry}
-use Rattle.log.specs.Card.{Content, slot, segmentsIn}
+use Rattle.log.specs.Card.{Content, Written, slot, segmentsIn}
 use Rattle.log.specs.Store.{home, tail, headAt}
 use Rattle.log.proofs.Within.{home-of-entry}
 use Rattle.log.proofs.LogStores.{going}
@@ -29,10 +29,10 @@ module _ (c q j : List ℕ) (r : Record) where
   abbrev headIn : Cell
   headIn = getD (r .ring .queue) (r .ring .head) noCell
 
-  abbrev headWith : Content → Entry Content
+  abbrev headWith : Content → Entry Written
   headWith d = going d (memberIn headIn) (entryIn headIn)
 
-  first : (d : Content) → r .ring .head < 32 → r .ring .len ≢ 0 → d ≡ slot q (r .ring .head) → (es : List (Entry Content)) × (queued (disk c q j r) ≡ headWith d ∷ es)
+  first : (d : Content) → r .ring .head < 32 → r .ring .len ≢ 0 → d ≡ slot q (r .ring .head) → (es : List (Entry Written)) × (queued (disk c q j r) ≡ headWith d ∷ es)
   unfolding queued queuedAt
   first d h n y =
       let f = queuedAt (disk c q j r) in
@@ -45,5 +45,5 @@ module _ (c q j : List ℕ) (r : Record) where
   unfolding headStanding
   head-some k d p o h n y t e =
       let (es, x) = first d h n y in
-      let z : home (segmentsIn c) (tail c) (headWith d) ≡ o = rw (← t) (home-of-entry (λ s. d) (memberIn headIn) (entryIn headIn) (segmentsIn c) p ∙ e) in
+      let z : home (segmentsIn c) (tail c) (headWith d) ≡ o = rw (← t) (home-of-entry d (memberIn headIn) (entryIn headIn) (segmentsIn c) p ∙ e) in
       ap (headStanding c k) x ∙ ap (λ (w : Option Place). headAt c k w (headWith d)) z

@@ -7,7 +7,7 @@ use native.Mathlib.Omega.{arith}
 use lib.ListN.{getD}
 use Rattle.log.specs.Entry.{Entry}
 use Rattle.log.specs.Reader.{Reader}
-use Rattle.log.specs.Card.{Content, cardLength, segmentsIn, sound, mounted}
+use Rattle.log.specs.Card.{Written, cardLength, segmentsIn, sound, mounted}
 use Rattle.log.specs.Store.{opened, afterAll, tail}
 use Rattle.log.specs.promises.Within.{Within}
 use Rattle.log.proofs.CardLength.{card-size}
@@ -18,7 +18,7 @@ use Rattle.log.proofs.Stores.{Sane, sane-tail}
 use Rattle.log.proofs.Regain.{carries-read}
 
 -- behind the entries that a segment holds
-within-held : (c : List ℕ) (n g : ℕ) (es : List (Entry Content)) → Holds c g es → Sane n (afterAll (opened g) es) → Within (afterAll (opened g) es)
+within-held : (c : List ℕ) (n g : ℕ) (es : List (Entry Written)) → Holds c g es → Sane n (afterAll (opened g) es) → Within (afterAll (opened g) es)
 unfolding opened
 within-held c n g es h s = record {
   entries = s .two;
@@ -26,12 +26,12 @@ within-held c n g es h s = record {
   slots = omega (arith, after-slots (opened g) es, h .few);
 }
 
-within-end : (c : List ℕ) (n : ℕ) (ess : List (List (Entry Content))) → Carries c ess → Sane n (endOf ess) → Within (endOf ess)
+within-end : (c : List ℕ) (n : ℕ) (ess : List (List (Entry Written))) → Carries c ess → Sane n (endOf ess) → Within (endOf ess)
 unfolding endOf
 within-end c n ess k s =
     within-held c n (used ess - 1) (getD ess (used ess - 1) []) (k .holds (used ess - 1) (omega (arith, used-le ess, k .some-segment))) s
 
-pub tail-within : (c : List ℕ) (z : Reader Content) → cardLength c ≡ true → mounted c ≡ sound z → Within (tail c) × (tail c .segment < segmentsIn c)
+pub tail-within : (c : List ℕ) (z : Reader Written) → cardLength c ≡ true → mounted c ≡ sound z → Within (tail c) × (tail c .segment < segmentsIn c)
 tail-within c z l h =
     let (n, p) = card-size c l in
     let (ess, k, r) = carries-read (segmentsIn c) c z p n h in

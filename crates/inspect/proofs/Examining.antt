@@ -10,8 +10,8 @@ use Rattle.lists.specs.State.{mapState}
 use Rattle.lists.specs.promises.Tables.{Tables}
 use Rattle.lists.proofs.Basic.{and-true, each-at, leb-true, ltb-true, eqb-true, some-of}
 use Rattle.log.specs.Reader.{Reader, replay}
-use Rattle.log.specs.Card.{Content, cardLength, segmentsIn, Outcome, sound, fault, walkCard}
-use Rattle.log.specs.promises.Location.{cardLocation}
+use Rattle.log.specs.Card.{Written, cardLength, segmentsIn, Outcome, sound, fault, walkCard}
+use Rattle.log.specs.promises.Location.{cardNumber}
 use Rattle.log.specs.promises.Within.{Within}
 use Rattle.log.specs.promises.Feed.{Memory}
 use Rattle.log.specs.promises.Walk.{Sounds}
@@ -68,7 +68,7 @@ module _ (v : ℕ) (d : Disk) (t : Tables) (ls : lengthsRight d ≡ true) (sh : 
 
 -- The walk and what is behind the log.
 module _ (c q j : List ℕ) (r : Record) (l : cardLength c ≡ true) where
-  pub faulty : (v g i : ℕ) (t : Tables) → walkCard cardLocation c ≡ fault g i → ExaminesLog v (disk c q j r) Unsound t
+  pub faulty : (v g i : ℕ) (t : Tables) → walkCard cardNumber c ≡ fault g i → ExaminesLog v (disk c q j r) Unsound t
   faulty v g i t w = fault-behind (disk c q j r) g i (fault-at c g i l w)
 
   module _ (p : Place) (n : ℕ) (m : Memory) (s : Sounds c p n m) where
@@ -88,7 +88,7 @@ module _ (c q j : List ℕ) (r : Record) (l : cardLength c ≡ true) where
     }
       where
         log-state : view (disk c q j r) 5 ≡ mapState (contents (disk c q j r)) (s .reader .state)
-        log-state = ap (λ (o : Outcome Content). stateOf (readerOf o)) (sound-at c q j (s .reader) l (s .walked))
+        log-state = ap (λ (o : Outcome Written). stateOf (readerOf o)) (sound-at c q j (s .reader) l (s .walked))
 
     -- or they show the state behind the queue
     pub settled-queue : (b : Bool) (t : Tables) → Settles c q m n r b t → b ≡ true → ExaminesLog 0 (disk c q j r) (Sound p) t
@@ -105,4 +105,4 @@ module _ (c q j : List ℕ) (r : Record) (l : cardLength c ≡ true) where
         queue-state : (y : Reader ℕ) → replay (s .reader) (queueHere r) ≡ some y → view (disk c q j r) 0 ≡ mapState (contents (disk c q j r)) (y .state)
         queue-state y e =
             let h = contents (disk c q j r) in
-            ap (λ (o : Option (Reader Content)). stateOf o) (committed-here (disk c q j r) (s .reader) (s .walked) l ∙ ap (Option·map (mapReader h)) e)
+            ap (λ (o : Option (Reader Written)). stateOf o) (committed-here (disk c q j r) (s .reader) (s .walked) l ∙ ap (Option·map (mapReader h)) e)

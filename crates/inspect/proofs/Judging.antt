@@ -13,6 +13,7 @@ use Rattle.lists.specs.Basic.{all, each, from}
 use Rattle.lists.specs.Change.{Change}
 use Rattle.lists.specs.State.{Row, placed}
 use Rattle.lists.proofs.Basic.{from-step, from-none, from-shift, eqb-true, eqb-false, le-true, gt-false}
+use Rattle.log.specs.Raced.{Raced}
 use Rattle.log.specs.Entry.{member, raw, legal, asChange, isBlock, isList}
 use Rattle.log.specs.declared.entry.LogEntry.{LogEntry}
 use Rattle.log.specs.declared.entry.LogEntry.the-variants.{Take, PutFirst, PutAfter, Write, DeleteBlock, DeleteList, Commit}
@@ -68,11 +69,11 @@ no-tag t a b c d e (inr (inr (inr (inr k)))) = e k
 
 -- A change in unit u's journal.
 module _ (hs : List ℕ) (u : ℕ) where
-  pub change-wrong : (c : Change ℕ) → legal (raw 0 (member c)) ≡ false → false ≡ changeRight hs u c
+  pub change-wrong : (c : Change (Raced ℕ)) → legal (raw 0 (member c)) ≡ false → false ≡ changeRight hs u c
   unfolding changeRight
   change-wrong c h = rw h
 
-  pub change-puts : (c : Change ℕ) (b : ℕ) → legal (raw 0 (member c)) ≡ true → putBy c ≡ b ∷ [] → eqb (getD hs (b - 1) 0) u ≡ changeRight hs u c
+  pub change-puts : (c : Change (Raced ℕ)) (b : ℕ) → legal (raw 0 (member c)) ≡ true → putBy c ≡ b ∷ [] → eqb (getD hs (b - 1) 0) u ≡ changeRight hs u c
   unfolding changeRight all
   change-puts c b h k = rw (h, k) (sym (and-yes (eqb (getD hs (b - 1) 0) u)))
 
@@ -82,7 +83,7 @@ module _ (hs : List ℕ) (u : ℕ) where
   change-no-put (Take l) k h = rw h
   change-no-put (PutFirst b l) k h = absurd (no-tag 1 (λ e. omega arith) (λ e. omega arith) (λ e. omega arith) (λ e. omega arith) (λ e. omega arith) k)
   change-no-put (PutAfter b l p) k h = absurd (no-tag 2 (λ e. omega arith) (λ e. omega arith) (λ e. omega arith) (λ e. omega arith) (λ e. omega arith) k)
-  change-no-put (Write b s) k h = rw h
+  change-no-put (Write b s n) k h = rw h
   change-no-put (DeleteBlock b) k h = rw h
   change-no-put (DeleteList l) k h = rw h
   change-no-put (Commit n) k h = rw h

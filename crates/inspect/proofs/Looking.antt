@@ -39,7 +39,7 @@ unit-lawful d u l s p q =
       room = k .room;
       lawful = from-all _ (changeIn x) 0 (x .len)
           (λ j a b.
-          sym (ap legal (raw-map _ 0 (member (changeIn x j))))
+          sym (ap legal (raw-map _ (λ s. refl) 0 (member (changeIn x j))))
           ∙ and-true (legal (raw 0 (member (journalAt d u j)))) _ (all-from (journalSound (d .rec) u) (journalAt d u) 0 (x .len) (k .sound) j a b) .0);
     }
 
@@ -122,6 +122,6 @@ module _ (looked : Bool) (d : Disk) (v : ℕ) where
             located = record {
               here = overlay (journalHere (unitAt (d .rec) v) v) (x .here);
               shows = w .shows (x .here) (x .shows);
-              means = rw (eqb-false v 5 m, eqb-false v 0 n, x .means) (overlay-here d v (x .here));
+              means = rw (eqb-false v 5 m, eqb-false v 0 n, x .means) (overlay-here d v (x .here) (open-range (d .rec) v o .1) (unit-lawful d v (a .lengths) (a .sound) (open-range (d .rec) v o .0) (open-range (d .rec) v o .1) .room));
             };
           }

@@ -5,7 +5,7 @@ use mathlib.Core.Bool.{Bool, true, false, _&&_, false≢true}
 use mathlib.Core.Bool as bool
 use mathlib.Core.Option.{Option, none, some}
 use mathlib.Core.List.{List, [], _∷_}
-use Prim.Native.Nat.{ℕ, _+_, _-_, _≤_, _<_}
+use Prim.Native.Nat.{ℕ, _+_, _-_, _*_, _≤_, _<_}
 use native.Mathlib.Omega.{arith}
 use lib.ListN.{getD}
 use Rattle.lists.specs.Basic.{isSome, orElse, bind, all, from}
@@ -14,12 +14,13 @@ use Rattle.lists.specs.State.{State, apply, applyAll, overlay}
 use Rattle.lists.specs.promises.Tables.{Tables, Shows, Ranged, Represents, Did, DidSome, ofKind}
 use Rattle.lists.proofs.Basic.{and-true, leb-true, from-step, from-none, all-from}
 use Rattle.lists.proofs.Represents.{did-apply, did-overlay}
-use Rattle.log.specs.Entry.{member, mapEntry, raw, legal, legalChange, hasMember, isBlock, isList, asChange}
+use Rattle.log.specs.Entry.{member, mapEntry, raw, legal, legalChange, hasMember, isBlock, isList, isRace, asChange}
 use Rattle.log.specs.Cell.{entryIn}
 use Rattle.log.specs.declared.entry.LogEntry.{LogEntry}
 use Rattle.log.specs.declared.entry.LogEntry.the-variants.{Take, PutFirst, PutAfter, Write, DeleteBlock, DeleteList, Commit}
 use Rattle.log.proofs.Feeding.{fieldsChange}
-use Rattle.log.specs.promises.Location.{journalLocation}
+use Rattle.log.specs.promises.Location.{numberAt, journalLocation}
+use Rattle.log.specs.promises.Feed.{fieldsOf}
 use Rattle.disk.specs.Record.{Unit, noCell}
 use Rattle.disk.specs.Disk.{journalPlace}
 use Rattle.inspect.specs.promises.Located.{changeHere, journalHere}
@@ -31,9 +32,9 @@ block-range b h = let (p, q) = and-true _ _ h in (leb-true 1 b p, leb-true b 64 
 list-range : (l : ℕ) → isList l ≡ true → (1 ≤ l) × (l ≤ 16)
 list-range l h = let (p, q) = and-true _ _ h in (leb-true 1 l p, leb-true l 16 q)
 
--- a change that may stand in a journal, by its fields, its write at location d, which is not 0
+-- a change that may stand in a journal, by its fields, its write's bytes at location d, which is not 0
 member-change : (e : LogEntry) (d : ℕ) → 1 ≤ d → legal (raw 0 (member (asChange e))) ≡ true
-    → (fieldsChange e d ≡ some (mapChange (λ s. d) (asChange e))) × Ranged (mapChange (λ s. d) (asChange e))
+    → (fieldsChange e (d + 2048 * fieldsOf e .race) ≡ some (mapChange (numberAt d) (asChange e))) × Ranged (mapChange (numberAt d) (asChange e))
 unfolding ofKind asChange mapChange mapEntry raw legal legalChange hasMember
 member-change (Take l) d n h = absurd (false≢true h)
 member-change (PutFirst b l) d n h = let (p, q) = and-true (isBlock b) (isList l) h in (refl, (block-range b p, list-range l q))
@@ -41,10 +42,25 @@ member-change (PutAfter b l x) d n h =
     let (r, q) = and-true (isBlock b && isList l) (isBlock x) h in
     let (p, s) = and-true (isBlock b) (isList l) r in
     (refl, (block-range b p, list-range l s, block-range x q))
-member-change (Write b s) d n h = (refl, (block-range b (and-true (isBlock b) _ h .0), n))
+member-change (Write b s r) d n h = (refl, (block-range b (and-true (isBlock b) true (and-true (isBlock b && true) (isRace r) h .0) .0), omega arith))
 member-change (DeleteBlock b) d n h = (refl, block-range b h)
 member-change (DeleteList l) d n h = (refl, list-range l h)
 member-change (Commit k) d n h = absurd (false≢true h)
+
+-- its race, as a table's number may have it
+member-race : (e : LogEntry) → legal (raw 0 (member (asChange e))) ≡ true → fieldsOf e .race ≤ 24
+unfolding asChange mapChange mapEntry raw legal legalChange hasMember
+member-race (Take l) h = omega arith
+member-race (PutFirst b l) h = omega arith
+member-race (PutAfter b l x) h = omega arith
+member-race (Write b s r) h = leb-true r 24 (and-true (isBlock b && true) (isRace r) h .1)
+member-race (DeleteBlock b) h = omega arith
+member-race (DeleteList l) h = omega arith
+member-race (Commit k) h = omega arith
+
+pub journal-race : (x : Unit) → all (λ c. legal (raw 0 (member c))) (from (changeIn x) 0 (x .len)) ≡ true → (k : ℕ) → k < x .len
+    → fieldsOf (entryIn (getD (x .journal) k noCell)) .race ≤ 24
+journal-race x h k l = member-race (entryIn (getD (x .journal) k noCell)) (all-from _ (changeIn x) 0 (x .len) h k (omega arith) (omega arith))
 
 -- a change made or skipped, and the changes behind it
 turn : (c : Change ℕ) (cs : List (Change ℕ)) (v : State ℕ) (r : Bool) (u : Tables) → Represents (apply c v) r u
@@ -82,7 +98,8 @@ still-all true r every′ b (inr h) = rw (h .0, h .1)
 still-all false r every′ b (inr h) = rw (h .1)
 
 module _ (x : Unit) (u : ℕ) (s : State ℕ) (lawful : all (λ c. legal (raw 0 (member c))) (from (changeIn x) 0 (x .len)) ≡ true) where
-  pub laid-turn : (every r every′ : Bool) (k n : ℕ) (t t′ : Tables) → k < x .len → n ≡ journalLocation (journalPlace u k) → Still every r every′
+  pub laid-turn : (every r every′ : Bool) (k n : ℕ) (t t′ : Tables) → k < x .len
+      → n ≡ journalLocation (journalPlace u k) + 2048 * fieldsOf (entryIn (getD (x .journal) k noCell)) .race → Still every r every′
       → DidSome (fieldsChange (entryIn (getD (x .journal) k noCell)) n) t r t′ → Laid x u s every k t → Laid x u s every′ (k + 1) t′
   unfolding overlay changeHere
   laid-turn every r every′ k n t t′ l e a d h =

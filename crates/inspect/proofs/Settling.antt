@@ -11,7 +11,7 @@ use Rattle.log.specs.promises.Feed.{Memory, Keeps}
 use Rattle.disk.specs.Record.{Record}
 use Rattle.disk.specs.Disk.{disk, queued}
 use Rattle.disk.specs.Sound.{headStanding}
-use Rattle.inspect.specs.promises.Located.{queueHere}
+use Rattle.inspect.specs.promises.Located.{queueSaid, queueHere}
 use Rattle.inspect.specs.promises.Clauses.{holdersRight, lawful, Replays, settledRight, Settles}
 use Rattle.inspect.proofs.Judging.{and-yes}
 
@@ -24,11 +24,11 @@ module _ (c q : List ℕ) (r : Record) (x : Reader ℕ) where
   abbrev heads : Bool
   heads = headStanding c (r .ring .done) (queued (disk c q [] r))
 
-  settled-refused : lawful (queueHere r) && isSome (replay x (queueHere r)) ≡ false → false ≡ settledRight c q r x
+  settled-refused : lawful (queueSaid r) && isSome (replay x (queueHere r)) ≡ false → false ≡ settledRight c q r x
   unfolding settledRight each
-  settled-refused h = both-false (lawful (queueHere r)) (isSome (replay x (queueHere r))) _ h
+  settled-refused h = both-false (lawful (queueSaid r)) (isSome (replay x (queueHere r))) _ h
 
-  settled-entered : lawful (queueHere r) ≡ true → (y : Reader ℕ) → replay x (queueHere r) ≡ some y → holdersRight r (y .state .lists) && heads ≡ settledRight c q r x
+  settled-entered : lawful (queueSaid r) ≡ true → (y : Reader ℕ) → replay x (queueHere r) ≡ some y → holdersRight r (y .state .lists) && heads ≡ settledRight c q r x
   unfolding settledRight each isSome
   settled-entered h y e = rw (h, e) (ap (λ (b : Bool). holdersRight r (y .state .lists) && b) (sym (and-yes heads)))
 

@@ -6,6 +6,7 @@ use disk::record::journal_len;
 use lists::tables::act;
 use log::feed::fields_of;
 use log::location::JOURNALS_AT;
+use log::location::number_of;
 ghost use mathlib.Core.Path.{_≡_};
 ghost use mathlib.Core.Bool.{true};
 ghost use Prim.Native.Nat.{_≤_};
@@ -32,7 +33,7 @@ pub fn enter_journal(nodes: &mut [u8; 1280], rec: &[u8; RECORD], u: usize) -> bo
             f.block,
             f.list,
             f.predecessor,
-            first + k as u16,
+            number_of(first + k as u16, f.race),
         ) {
             every = false;
         }

@@ -1,9 +1,9 @@
--- Texts and sums by one part more, and the bytes at a location of a card.
+-- Texts and sums by one part more, and the bytes on a card that a number says.
 use mathlib.Core.Path.{_≡_, refl, sym, ap, ap₂, _∙_}
 use mathlib.Core.Bool.{Bool, true, false, cond}
 use mathlib.Core.Option.{Option}
 use mathlib.Core.List.{List, [], _∷_, _++_, map, map-append, append-assoc, append-nil}
-use Prim.Native.Nat.{ℕ, suc, _+_, _-_, _*_, _≤_, _<_}
+use Prim.Native.Nat.{ℕ, suc, _+_, _-_, _*_, _%_, _≤_, _<_}
 use native.Mathlib.Omega.{arith}
 use native.Mathlib.Decide.{decLe}
 use native.Mathlib.Nat.{zero-add, mul-comm}
@@ -16,7 +16,7 @@ use Rattle.lists.specs.State.{Row, taken, placed}
 use Rattle.lists.specs.Lookup.{blocksOf, contentOf}
 use Rattle.lists.proofs.Basic.{from-snoc, ge-false}
 use Rattle.log.specs.Card.{slot, count}
-use Rattle.log.specs.promises.Location.{contentAt}
+use Rattle.log.specs.promises.Location.{bytesAt, contentAt}
 use Rattle.log.proofs.Copying.{at-card}
 use Rattle.text.specs.Decimal.{decimal}
 use Rattle.listing.specs.Listing.{total, numbers, listLine, listPart, contentText, blockLine, blockPart}
@@ -105,14 +105,14 @@ module _ {D : Type 0} (rs : List (Row D)) where
     unfolding blockPart
     block-some o h e = rw (h, e)
 
--- The bytes at a location.
+-- The bytes that a number says.
 slot-none : (k : ℕ) → slot [] k ≡ []
 unfolding slot
 slot-none k = ap (take 256) (drop-of-length-le [] {i = 256 * k} (omega arith))
 
-pub content-out : (c : List ℕ) (n : ℕ) → 1025 ≤ n → contentAt c [] [] n ≡ []
-unfolding contentAt
-content-out c n h = rw (ge-false n 1025 h, slot-none (n - 1025), slot-none (n - 1057)) (same (ltb n 1057))
+content-out : (c : List ℕ) (n : ℕ) → 1024 ≤ (n - 1) % 2048 → contentAt c [] [] n .body ≡ []
+unfolding contentAt bytesAt
+content-out c n h = let i = (n - 1) % 2048 in rw (ge-false i 1024 h, slot-none (i - 1024), slot-none (i - 1056)) (same (ltb i 1056))
   where
     same : (b : Bool) → cond {A = List ℕ} b [] [] ≡ []
     same true = refl
@@ -135,13 +135,13 @@ unfolding slot
 slot-length c k = omega (arith, length-take 256 (drop (256 * k) c))
 
 -- as the code finds them
-pub part-length : (c : List ℕ) (n : ℕ) → length (slice ((n - 1) * 256) ((n - 1) * 256 + 256) c) ≤ 256
-part-length c n = rw (mul-comm (n - 1) 256, slot-part c (n - 1)) (slot-length c (n - 1))
+pub part-length : (c : List ℕ) (k : ℕ) → length (slice (k * 256) (k * 256 + 256) c) ≤ 256
+part-length c k = rw (mul-comm k 256, slot-part c k) (slot-length c k)
 
 module _ (c : List ℕ) where
-  pub sum-in : (n : ℕ) → n ≤ 1024 → total (slice ((n - 1) * 256) ((n - 1) * 256 + 256) c) ≡ sumAt c n
-  sum-in n h = rw (mul-comm (n - 1) 256, slot-part c (n - 1)) (ap total (sym (at-card c [] [] n (omega arith))))
+  pub sum-in : (n : ℕ) → (n - 1) % 2048 < 1024 → total (slice ((n - 1) % 2048 * 256) ((n - 1) % 2048 * 256 + 256) c) ≡ sumAt c n
+  sum-in n h = let k = (n - 1) % 2048 in rw (mul-comm k 256, slot-part c k) (ap total (sym (at-card c [] [] n h)))
 
-  pub sum-out : (n : ℕ) → 1024 < n → 0 ≡ sumAt c n
+  pub sum-out : (n : ℕ) → 1024 ≤ (n - 1) % 2048 → 0 ≡ sumAt c n
   unfolding total
-  sum-out n h = sym (ap total (content-out c n (omega arith)))
+  sum-out n h = sym (ap total (content-out c n h))

@@ -8,7 +8,7 @@ use lib.ListN.{length}
 use Rattle.lists.specs.Basic.{from, joined}
 use Rattle.lists.specs.State.{Row, taken, placed}
 use Rattle.lists.specs.Lookup.{contentOf, blocksOf}
-use Rattle.log.specs.Card.{Content, Outcome, sound, fault, segmentBytes, segmentsIn, count, mounted}
+use Rattle.log.specs.Card.{Written, Outcome, sound, fault, segmentBytes, segmentsIn, count, mounted}
 use Rattle.text.specs.Decimal.{decimal}
 
 -- "reads a card on standard input (up to 16 segments; longer is refused 1)"
@@ -78,9 +78,13 @@ blockPart sum rs b = cond (placed b rs) (blockLine b (contentText sum (contentOf
 unfoldable pub blockLines : {D : Type 0} → (D → ℕ) → List (Row D) → List ℕ
 blockLines sum rs = joined (from (blockPart sum rs) 1 64)
 
+-- the sum of what was written; its race is not printed
+abbrev pub sumOf : Written → ℕ
+sumOf d = total (d .body)
+
 -- of a card of the right length
-unfoldable pub outcomeLines : List ℕ → Outcome Content → List ℕ
-outcomeLines c (sound r) = headLine c ++ listLines (r .state .lists) ++ blockLines total (r .state .lists)
+unfoldable pub outcomeLines : List ℕ → Outcome Written → List ℕ
+outcomeLines c (sound r) = headLine c ++ listLines (r .state .lists) ++ blockLines sumOf (r .state .lists)
 outcomeLines c (fault g i) = refusalLine 2
 
 unfoldable pub listing : List ℕ → List ℕ

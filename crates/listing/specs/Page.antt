@@ -8,7 +8,7 @@ use lib.Seq.{slice}
 use Rattle.lists.specs.Basic.{from, joined}
 use Rattle.lists.specs.State.{Row, taken}
 use Rattle.lists.specs.Lookup.{blocksOf}
-use Rattle.log.specs.Card.{Content, Outcome, sound, fault, cardLength, mounted}
+use Rattle.log.specs.Card.{Written, Outcome, sound, fault, cardLength, mounted}
 use Rattle.text.specs.Columns.{blanks, rightAligned}
 use Rattle.listing.specs.Listing.{refusalLine}
 
@@ -52,7 +52,7 @@ abbrev pub pageMost : ℕ
 pageMost = 861
 
 -- The page of a card's persistent state, up to 64 segments; refusals as the lister prints them.
-unfoldable pub outcomePage : Outcome Content → List ℕ
+unfoldable pub outcomePage : Outcome Written → List ℕ
 outcomePage (sound r) = pageText (r .state .lists)
 outcomePage (fault g i) = refusalLine 2
 

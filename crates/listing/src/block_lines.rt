@@ -1,10 +1,11 @@
-// The blocks' lines, from the linked tables of a state whose contents stand at locations of a card.
+// The blocks' lines, from the linked tables of a state whose contents stand at locations of a card. Races are not printed.
 use lists::tables::UNWRITTEN;
 use lists::tables::is_placed;
 use lists::tables::location_of;
 use log::entry::LogEntry;
 use log::layout::SLOT;
 use log::location::QUEUE_AT;
+use log::location::RACE;
 use text::decimal::put_decimal;
 use text::line::part;
 use text::put::put_byte;
@@ -18,6 +19,9 @@ ghost use Rattle.listing.specs.Listing.{total, contentText, blockPart, b
 ghost use Rattle.listing.specs.promises.Shown.{sumAt};
 
 const BLOCKS: u8 = LogEntry::BLOCKS;
+
+// How many locations a card has.
+const SLOTS: u16 = QUEUE_AT - 1;
 
 // The blocks on some list, ascending.
 pub fn put_blocks(out: &mut [u8], at: usize, card: &[u8], nodes: &[u8; 1280]) -> usize
@@ -43,33 +47,34 @@ fn put_block(out: &mut [u8], at: usize, card: &[u8], nodes: &[u8; 1280], block: 
     if !is_placed(nodes, block) {
         return at;
     }
-    let location = location_of(nodes, block);
+    let number = location_of(nodes, block);
     let mut position = put_bytes(out, at, b"block ");
     position = put_decimal(out, position, block as u64);
     position = put_bytes(out, position, b": ");
-    position = put_content(out, position, card, location);
+    position = put_content(out, position, card, number);
     put_byte(out, position, b'\n')
 }
 
-// The sum of the bytes at a location, or that the block is unwritten.
-fn put_content(out: &mut [u8], at: usize, card: &[u8], location: u16) -> usize
-    ensures { λ r. ⌜ Puts (now (out .entry)) at (contentText (sumAt (now (card .entry))) (locatedAt location)) (now (out .exit)) r ⌝ }
+// The sum of the bytes that a number says, or that the block is unwritten.
+fn put_content(out: &mut [u8], at: usize, card: &[u8], number: u16) -> usize
+    ensures { λ r. ⌜ Puts (now (out .entry)) at (contentText (sumAt (now (card .entry))) (locatedAt number)) (now (out .exit)) r ⌝ }
 {
-    if location == UNWRITTEN {
+    if number == UNWRITTEN {
         return put_bytes(out, at, b"unwritten");
     }
-    put_decimal(out, at, sum_at(card, location))
+    put_decimal(out, at, sum_at(card, number))
 }
 
-// The sum of the bytes at a location of the card; behind the card's locations there is nothing.
-fn sum_at(card: &[u8], location: u16) -> u64
-    requires { ⌜ 1 ≤ location ⌝ }
-    ensures { λ r. ⌜ r ≡ sumAt (now (card .entry)) location ⌝ }
+// The sum of the bytes on the card that a number says; behind the card's locations there is nothing.
+fn sum_at(card: &[u8], number: u16) -> u64
+    requires { ⌜ 1 ≤ number ⌝ }
+    ensures { λ r. ⌜ r ≡ sumAt (now (card .entry)) number ⌝ }
 {
-    if QUEUE_AT <= location {
+    let at = (number - 1) % RACE;
+    if SLOTS <= at {
         return 0;
     }
-    let from = (location as usize - 1) * SLOT;
+    let from = at as usize * SLOT;
     sum(part(card, from, from + SLOT))
 }
 

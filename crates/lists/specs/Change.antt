@@ -2,7 +2,7 @@
 use mathlib.Core.Option.{Option, none, some}
 use Prim.Native.Nat.{ℕ}
 
--- D is what a write carries: a slot number in the log's bytes, a location in tables, 256 bytes to a reader.
+-- D is what a write carries: a slot number in the log's bytes, 256 bytes to a reader, each with its race; in tables one number for location and race.
 pub data Change (D : Type 0) : Type 0 where
   takeList : ℕ → Change D
   putFirst : ℕ → ℕ → Change D

@@ -10,6 +10,7 @@ use Rattle.lists.specs.Basic.{bind}
 use Rattle.lists.specs.State.{State, apply, applyAll}
 use Rattle.lists.proofs.Basic.{guard-some, bind-some}
 use Rattle.lists.proofs.Distinct.{Distinct, empty-distinct, apply-distinct, applyAll-distinct}
+use Rattle.log.specs.Raced.{Raced}
 use Rattle.log.specs.Entry.{Entry, plain, member, commit}
 use Rattle.log.specs.Reader.{Reader, settled, start, lastOf, read, replay}
 use Rattle.log.specs.Card.{Item, good, bad, items, segmentsIn, Outcome, sound, fault, walk, walkCard}
@@ -45,6 +46,6 @@ module _ {D : Type 0} where
       go ih (some x) a b = ih x b (read-distinct r x e a d)
   walk-distinct r q (bad g i ∷ is) h d = let n : _≡_ {A = ℕ} 0 1 = cc in absurd (omega arith)
 
-  pub walkCard-distinct : (f : ℕ → ℕ → D) (c : List ℕ) (q : Reader D) → walkCard f c ≡ sound q → Distinct (q .state .lists)
+  pub walkCard-distinct : (f : ℕ → Raced ℕ → D) (c : List ℕ) (q : Reader D) → walkCard f c ≡ sound q → Distinct (q .state .lists)
   unfolding walkCard
   walkCard-distinct f c q h = walk-distinct start q (items f c (segmentsIn c) 0) h empty-distinct

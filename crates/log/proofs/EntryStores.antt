@@ -10,40 +10,40 @@ use lib.ListN.{length, getD, set, length-append, List·getD-append}
 use lib.Seq.{getD-set-same, getD-set-other, getD-append-add}
 use Rattle.log.specs.declared.place.Place.{Place}
 use Rattle.log.specs.Entry.{Entry, carried, encode, raw, legal}
-use Rattle.log.specs.Card.{Content, usedBy}
+use Rattle.log.specs.Card.{Written, usedBy}
 use Rattle.log.specs.Store.{Store, storesFrom, dataOf, entryStores}
 use Rattle.log.proofs.Slot.{Stands, stands-other, stands-append}
 use Rattle.log.proofs.Segment.{codes, slotsAfter, slotsAfter-le, Sized, Fine, FilledAt, Holds, data-length}
 
 -- Snoc laws.
-pub codes-snoc : (k : ℕ) (es : List (Entry Content)) (e : Entry Content) → codes k (es ++ e ∷ []) ≡ codes k es ++ encode (raw (slotsAfter k es) e)
+pub codes-snoc : (k : ℕ) (es : List (Entry Written)) (e : Entry Written) → codes k (es ++ e ∷ []) ≡ codes k es ++ encode (raw (slotsAfter k es) e)
 unfolding codes slotsAfter
 codes-snoc k [] e = append-nil (encode (raw k e))
 codes-snoc k (x ∷ es) e =
     ap (λ (l : List ℕ). encode (raw k x) ++ l) (codes-snoc (k + usedBy (carried x)) es e)
     ∙ sym (append-assoc (encode (raw k x)) (codes (k + usedBy (carried x)) es) (encode (raw (slotsAfter (k + usedBy (carried x)) es) e)))
 
-pub slots-snoc : (k : ℕ) (es : List (Entry Content)) (e : Entry Content) → slotsAfter k (es ++ e ∷ []) ≡ slotsAfter k es + usedBy (carried e)
+pub slots-snoc : (k : ℕ) (es : List (Entry Written)) (e : Entry Written) → slotsAfter k (es ++ e ∷ []) ≡ slotsAfter k es + usedBy (carried e)
 unfolding slotsAfter
 slots-snoc k [] e = refl
 slots-snoc k (x ∷ es) e = slots-snoc (k + usedBy (carried x)) es e
 
-pub fine-snoc : (k : ℕ) (es : List (Entry Content)) (e : Entry Content) → Fine k es → legal (raw (slotsAfter k es) e) ≡ true → Sized (carried e) → Fine k (es ++ e ∷ [])
+pub fine-snoc : (k : ℕ) (es : List (Entry Written)) (e : Entry Written) → Fine k es → legal (raw (slotsAfter k es) e) ≡ true → Sized (carried e) → Fine k (es ++ e ∷ [])
 unfolding slotsAfter
 fine-snoc k [] e f l z = (l, z, tt)
 fine-snoc k (x ∷ es) e f l z = (f .0, f .1, fine-snoc (k + usedBy (carried x)) es e (f .2) l z)
 
-pub filled-snoc : (c : List ℕ) (a k : ℕ) (es : List (Entry Content)) (e : Entry Content) → FilledAt c a k es
+pub filled-snoc : (c : List ℕ) (a k : ℕ) (es : List (Entry Written)) (e : Entry Written) → FilledAt c a k es
     → Stands c (a + 256 * slotsAfter k es) (dataOf (carried e)) → FilledAt c a k (es ++ e ∷ [])
 unfolding slotsAfter
 filled-snoc c a k [] e f s = (s, tt)
 filled-snoc c a k (x ∷ es) e f s = (f .0, filled-snoc c a (k + usedBy (carried x)) es e (f .1) s)
 
 -- Where a store changes nothing of what segment g holds.
-abbrev pub Free : ℕ → List (Entry Content) → ℕ → Type 0
+abbrev pub Free : ℕ → List (Entry Written) → ℕ → Type 0
 Free g es o = (o < 4096 * g) ⊎ (((4096 * g + 256 * slotsAfter 0 es ≤ o) × (o < 4096 * g + 3584)) ⊎ (4096 * g + 3585 + length (codes 0 es) ≤ o))
 
-filled-free : (c : List ℕ) (g k : ℕ) (es : List (Entry Content)) (o b : ℕ) → slotsAfter k es ≤ 14 → Fine k es
+filled-free : (c : List ℕ) (g k : ℕ) (es : List (Entry Written)) (o b : ℕ) → slotsAfter k es ≤ 14 → Fine k es
     → (o < 4096 * g) ⊎ (4096 * g + 256 * slotsAfter k es ≤ o) → FilledAt c (4096 * g) k es → FilledAt (set c o b) (4096 * g) k es
 unfolding slotsAfter
 filled-free c g k [] o b n f w h = tt
@@ -57,7 +57,7 @@ filled-free c g k (e ∷ es) o b n f (inr w) h = (
   filled-free c g (k + usedBy (carried e)) es o b n (f .2) (inr w) (h .1),
 )
 
-pub holds-free : (c : List ℕ) (g : ℕ) (es : List (Entry Content)) (o b : ℕ) → Free g es o → Holds c g es → Holds (set c o b) g es
+pub holds-free : (c : List ℕ) (g : ℕ) (es : List (Entry Written)) (o b : ℕ) → Free g es o → Holds c g es → Holds (set c o b) g es
 holds-free c g es o b (inl w) h = record {
   counted = getD-set-other c o (4096 * g + 3584) b 0 (omega arith) ∙ h .counted;
   coded = stands-other c (4096 * g + 3585) (codes 0 es) o b (inl (omega arith)) (h .coded);
@@ -84,11 +84,11 @@ holds-free c g es o b (inr (inr w)) h = record {
 }
 
 -- The closing store: the count byte takes in an entry whose bytes and data stand.
-filled-count : (c : List ℕ) (g k : ℕ) (es : List (Entry Content)) (b : ℕ) → slotsAfter k es ≤ 14 → Fine k es → FilledAt c (4096 * g) k es
+filled-count : (c : List ℕ) (g k : ℕ) (es : List (Entry Written)) (b : ℕ) → slotsAfter k es ≤ 14 → Fine k es → FilledAt c (4096 * g) k es
     → FilledAt (set c (4096 * g + 3584) b) (4096 * g) k es
 filled-count c g k es b n f h = filled-free c g k es (4096 * g + 3584) b n f (inr (omega arith)) h
 
-pub holds-close : (c : List ℕ) (g : ℕ) (es : List (Entry Content)) (e : Entry Content) → 4096 * g + 4096 ≤ length c → Holds c g es
+pub holds-close : (c : List ℕ) (g : ℕ) (es : List (Entry Written)) (e : Entry Written) → 4096 * g + 4096 ≤ length c → Holds c g es
     → legal (raw (slotsAfter 0 es) e) ≡ true → Sized (carried e)
     → length (codes 0 es) + length (encode (raw (slotsAfter 0 es) e)) ≤ 511 → slotsAfter 0 es + usedBy (carried e) ≤ 14
     → Stands c (4096 * g + 256 * slotsAfter 0 es) (dataOf (carried e))
@@ -114,10 +114,10 @@ dataAt p = 4096 * p .segment + 256 * p .slots
 abbrev pub codeAt : Place → ℕ
 codeAt p = 4096 * p .segment + 3585 + p .bytes
 
-abbrev pub code : Place → Entry Content → List ℕ
+abbrev pub code : Place → Entry Written → List ℕ
 code p e = encode (raw (p .slots) e)
 
-pub data Which (p : Place) (e : Entry Content) (j a b : ℕ) : Type 0 where
+pub data Which (p : Place) (e : Entry Written) (j a b : ℕ) : Type 0 where
   inData : j < length (dataOf (carried e)) → a ≡ dataAt p + j → b ≡ getD (dataOf (carried e)) j 0 → Which p e j a b
   inCode : (i : ℕ) → j ≡ length (dataOf (carried e)) + i → i < length (code p e) → a ≡ codeAt p + i → b ≡ getD (code p e) i 0 → Which p e j a b
   closing : j ≡ length (dataOf (carried e)) + length (code p e) → a ≡ 4096 * p .segment + 3584 → b ≡ suc (p .entries) → Which p e j a b
@@ -133,16 +133,16 @@ stores-at a [] j h = absurd (omega arith)
 stores-at a (b ∷ v) zero h = (omega arith, refl)
 stores-at a (b ∷ v) (suc j) h = let s = stores-at (suc a) v j (omega arith) in (s .0 ∙ (let q : suc a + j ≡ a + suc j = omega arith in q), s .1)
 
-pub entry-stores-length : (p : Place) (e : Entry Content) → length (entryStores p e) ≡ suc (length (dataOf (carried e)) + length (code p e))
+pub entry-stores-length : (p : Place) (e : Entry Written) → length (entryStores p e) ≡ suc (length (dataOf (carried e)) + length (code p e))
 unfolding entryStores
 entry-stores-length p e =
     length-append (storesFrom (dataAt p) (dataOf (carried e)) ++ storesFrom (codeAt p) (code p e)) ((4096 * p .segment + 3584, suc (p .entries)) ∷ [])
     ∙ omega (arith, length-append (storesFrom (dataAt p) (dataOf (carried e))) (storesFrom (codeAt p) (code p e)), stores-length (dataAt p) (dataOf (carried e)), stores-length (codeAt p) (code p e))
 
-abbrev pub storeOf : Place → Entry Content → ℕ → Store
+abbrev pub storeOf : Place → Entry Written → ℕ → Store
 storeOf p e j = getD (entryStores p e) j (0, 0)
 
-pub which : (p : Place) (e : Entry Content) (j : ℕ) → j < length (entryStores p e) → Which p e j (storeOf p e j .0) (storeOf p e j .1)
+pub which : (p : Place) (e : Entry Written) (j : ℕ) → j < length (entryStores p e) → Which p e j (storeOf p e j .0) (storeOf p e j .1)
 unfolding entryStores
 which p e j h = go (decLt j (length ds)) (decLt j (length ds + length cs))
   where

@@ -8,9 +8,10 @@ use native.Mathlib.Omega.{arith}
 use lib.ListN.{replicate}
 use Rattle.lists.specs.Change.{takeList, putFirst, write, delBlock, mapChange, carriedBy}
 use Rattle.lists.specs.State.{state, row, block, taken, placed, applies, changed, apply, applyAll}
-use Rattle.log.specs.Entry.{plain, member, commit, mapEntry, carried, changeBytes, encode, raw, entryLength, legalChange, hasMember, legal, changeOf, checked, entryOf, decode}
+use Rattle.log.specs.Raced.{raced}
+use Rattle.log.specs.Entry.{plain, member, commit, mapEntry, carried, raceBit, raceByte, changeBytes, encode, raw, entryLength, legalChange, hasMember, legal, changeOf, checked, entryOf, decode}
 use Rattle.log.specs.Reader.{start, settled, lastOf, read, replay}
-use Rattle.log.specs.Card.{good, sound, slot, cardSlot, count, segmentEntries, usedBy, isNext, entryAt, itemsOf, segmentItems, afterEmpty, items, walk}
+use Rattle.log.specs.Card.{good, sound, slot, cardSlot, cardWritten, count, segmentEntries, usedBy, isNext, entryAt, itemsOf, segmentItems, afterEmpty, items, walk}
 use Rattle.log.specs.declared.place.Place.{Place}
 use Rattle.log.specs.Store.{standing, formatStores, opened, after, fits, home, behind, behindAll, tail, storesFrom, dataOf, entryStores}
 use Rattle.log.specs.Turns.{InTurn, Clearable}
@@ -25,13 +26,43 @@ pub front-formatted-last : formatStores 2 ≡ (7680, 0) ∷ (3584, 0) ∷ []
 unfolding formatStores
 front-formatted-last = refl
 
+-- "Bit 6 of the map says that a race byte follows, after the slot, so maps 73 and 201 become legal", "race 0 is written without it"
+pub race-after-slot : encode (plain (write 1 (raced 2 5))) ≡ 73 ∷ 1 ∷ 2 ∷ 5 ∷ []
+unfolding raceBit raceByte changeBytes encode
+race-after-slot = refl
+
+pub member-with-race : encode (member (write 1 (raced 2 5))) ≡ 201 ∷ 1 ∷ 2 ∷ 5 ∷ []
+unfolding raceBit raceByte changeBytes encode
+member-with-race = refl
+
+pub no-race-no-byte : encode (plain (write 1 (raced 2 0))) ≡ 9 ∷ 1 ∷ 2 ∷ []
+unfolding raceBit raceByte changeBytes encode
+no-race-no-byte = refl
+
+-- "a race byte of 0 or above 24 is a fault in mounting"; a map with bit 6 that is no write's is none
+pub race-0-refused : decode (73 ∷ 1 ∷ 0 ∷ 0 ∷ []) ≡ none
+unfolding legalChange legal changeOf checked entryOf decode
+race-0-refused = refl
+
+pub race-24-read : decode (73 ∷ 1 ∷ 0 ∷ 24 ∷ []) ≡ some (plain (write 1 (raced 0 24)), [])
+unfolding legalChange legal changeOf checked entryOf decode
+race-24-read = refl
+
+pub race-25-refused : decode (73 ∷ 1 ∷ 0 ∷ 25 ∷ []) ≡ none
+unfolding legalChange legal changeOf checked entryOf decode
+race-25-refused = refl
+
+pub take-with-race-refused : decode (66 ∷ 1 ∷ 5 ∷ []) ≡ none
+unfolding legalChange legal changeOf checked entryOf decode
+take-with-race-refused = refl
+
 -- On an empty card the count of the first entry is not in turn, nor is a second entry; and with an entry in segment 1 the count of segment 0 is not
 -- to be cleared.
 pub count-not-first : InTurn (replicate 4096 0) (opened 0) (plain (takeList 1)) 2 → ⊥
 unfolding mapChange carriedBy mapEntry carried changeBytes encode raw standing opened storesFrom dataOf entryStores
 count-not-first t = true≢false (sym (t .stand))
 
-pub second-not-first : InTurn (replicate 4096 0) (after {D = ℕ} (opened 0) (plain (takeList 1))) (plain (takeList 2)) 0 → ⊥
+pub second-not-first : InTurn (replicate 4096 0) (after {A = ℕ} (opened 0) (plain (takeList 1))) (plain (takeList 2)) 0 → ⊥
 unfolding mapChange carriedBy mapEntry carried changeBytes encode raw entryLength count usedBy afterEmpty items opened after fits home behindAll tail
 second-not-first t = let q : _≡_ {A = ℕ} 0 2 = ap (λ (p : Place). p .bytes) (Option·some-injective _ _ (t .behind)) in omega arith
 
@@ -61,5 +92,5 @@ put-again-unwritten = refl
 -- "the log never uses a slot again": a dead member's is not the next one
 pub dead-slots-stay-used :
     tail (replicate 3584 0 ++ 2 ∷ 2 ∷ 1 ∷ 137 ∷ 1 ∷ 0 ∷ replicate 506 0) ≡ record { segment = 0; entries = 2; bytes = 5; slots = 1 }
-unfolding mapChange carriedBy mapEntry carried changeBytes encode raw entryLength legalChange hasMember legal changeOf checked entryOf decode slot cardSlot count segmentEntries usedBy isNext entryAt itemsOf segmentItems afterEmpty items opened after behind behindAll tail
+unfolding mapChange carriedBy mapEntry carried raceBit raceByte changeBytes encode raw entryLength legalChange hasMember legal changeOf checked entryOf decode slot cardSlot cardWritten count segmentEntries usedBy isNext entryAt itemsOf segmentItems afterEmpty items opened after behind behindAll tail
 dead-slots-stay-used = refl

@@ -19,8 +19,10 @@ use Rattle.lists.specs.promises.Tables.{Tables, Shows, Ranged, Represents, Did,
 use Rattle.lists.proofs.Basic.{and-true}
 use Rattle.lists.proofs.Naturality.{change-comp}
 use Rattle.lists.proofs.Represents.{did-apply}
-use Rattle.log.specs.Entry.{plain, member, commit, mapEntry, isBlock, isList, isSlot, legalChange, legal, hasMember, raw, asChange, asEntry}
+use Rattle.log.specs.Raced.{Raced, raced, withBody}
+use Rattle.log.specs.Entry.{plain, member, commit, mapEntry, isBlock, isList, isSlot, isRace, legalChange, legal, hasMember, raw, asChange, asEntry}
 use Rattle.log.specs.Reader.{Reader, reader, settled, read, lastOf}
+use Rattle.log.specs.promises.Location.{numberAt}
 use Rattle.log.specs.promises.Feed.{Memory, memberSet, Recalled, Recalls, Keeps, ReadTo, fieldsOf, FedTo, fedIf, RunUpTo, Commits}
 use Rattle.log.specs.declared.entry.LogEntry.{LogEntry}
 use Rattle.log.specs.declared.entry.LogEntry.the-variants.{Take, PutFirst, PutAfter, Write, DeleteBlock, DeleteList, Commit}
@@ -205,16 +207,19 @@ NoCommit e = fieldsOf e .kind ≢ 0
 abbrev pub fieldsChange : LogEntry → ℕ → Option (Change ℕ)
 fieldsChange e d = ofKind (fieldsOf e .kind) (fieldsOf e .block) (fieldsOf e .list) (fieldsOf e .predecessor) d
 
--- its write at location d
-abbrev pub changeAt : LogEntry → ℕ → Change ℕ
-changeAt e d = mapChange (λ s. d) (asChange e)
+-- its write at location d: the number in a table, and the change
+abbrev pub numberOf : LogEntry → ℕ → ℕ
+numberOf e d = d + 2048 * fieldsOf e .race
 
-fields-change : (e : LogEntry) (d : ℕ) → NoCommit e → fieldsChange e d ≡ some (changeAt e d)
+abbrev pub changeAt : LogEntry → ℕ → Change ℕ
+changeAt e d = mapChange (numberAt d) (asChange e)
+
+fields-change : (e : LogEntry) (d : ℕ) → NoCommit e → fieldsChange e (numberOf e d) ≡ some (changeAt e d)
 unfolding ofKind asChange mapChange
 fields-change (Take l) d h = refl
 fields-change (PutFirst b l) d h = refl
 fields-change (PutAfter b l p) d h = refl
-fields-change (Write b s) d h = refl
+fields-change (Write b s n) d h = refl
 fields-change (DeleteBlock b) d h = refl
 fields-change (DeleteList l) d h = refl
 fields-change (Commit n) d h = absurd (h refl)
@@ -224,7 +229,7 @@ unfolding asEntry asChange
 entry-change t (Take l) h = refl
 entry-change t (PutFirst b l) h = refl
 entry-change t (PutAfter b l p) h = refl
-entry-change t (Write b s) h = refl
+entry-change t (Write b s n) h = refl
 entry-change t (DeleteBlock b) h = refl
 entry-change t (DeleteList l) h = refl
 entry-change t (Commit n) h = absurd (h refl)
@@ -232,8 +237,34 @@ entry-change t (Commit n) h = absurd (h refl)
 range : (l h x : ℕ) → (leb l x && leb x h) ≡ true → (l ≤ x) × (x ≤ h)
 range l h x e = let (p, q) = and-true (leb l x) (leb x h) e in (leb-true l x p, leb-true x h q)
 
+-- a legal entry's race, and one that is legal whatever its slot
+change-race : (b s n : ℕ) → legalChange (write b (raced s n)) ≡ true → n ≤ 24
+unfolding legalChange
+change-race b s n h = leb-true n 24 (and-true (isBlock b && isSlot s) (isRace n) h .1)
+
+pub legal-race : (e : LogEntry) → legal (asEntry false e) ≡ true → fieldsOf e .race ≤ 24
+unfolding asEntry legal
+legal-race (Take l) h = omega arith
+legal-race (PutFirst b l) h = omega arith
+legal-race (PutAfter b l p) h = omega arith
+legal-race (Write b s n) h = change-race b s n h
+legal-race (DeleteBlock b) h = omega arith
+legal-race (DeleteList l) h = omega arith
+legal-race (Commit n) h = omega arith
+
+pub raw-race : (t : Bool) (e : LogEntry) → legal (raw 0 (asEntry t e)) ≡ true → fieldsOf e .race ≤ 24
+unfolding asEntry legal raw mapEntry mapChange hasMember
+raw-race t (Take l) h = omega arith
+raw-race t (PutFirst b l) h = omega arith
+raw-race t (PutAfter b l p) h = omega arith
+raw-race true (Write b s n) h = change-race b 0 n h
+raw-race false (Write b s n) h = change-race b 0 n h
+raw-race t (DeleteBlock b) h = omega arith
+raw-race t (DeleteList l) h = omega arith
+raw-race t (Commit n) h = omega arith
+
 -- a legal change, its write at location d
-change-ranged : (d : ℕ) → 1 ≤ d → (c : Change ℕ) → legalChange c ≡ true → Ranged (mapChange (λ s. d) c)
+change-ranged : (d : ℕ) → 1 ≤ d → (c : Change (Raced ℕ)) → legalChange c ≡ true → Ranged (mapChange (numberAt d) c)
 unfolding legalChange mapChange
 change-ranged d g (takeList l) h = range 1 16 l h
 change-ranged d g (putFirst b l) h = let (p, q) = and-true (isBlock b) (isList l) h in (range 1 64 b p, range 1 16 l q)
@@ -241,7 +272,8 @@ change-ranged d g (putAfter b l x) h =
     let (p, q) = and-true (isBlock b && isList l) (isBlock x) h in
     let (u, v) = and-true (isBlock b) (isList l) p in
     (range 1 64 b u, range 1 16 l v, range 1 64 x q)
-change-ranged d g (write b s) h = (range 1 64 b (and-true (isBlock b) (isSlot s) h .0), g)
+change-ranged d g (write b s) h =
+    (range 1 64 b (and-true (isBlock b) (isSlot (s .body)) (and-true (isBlock b && isSlot (s .body)) (isRace (s .race)) h .0) .0), omega arith)
 change-ranged d g (delBlock b) h = range 1 64 b h
 change-ranged d g (delList l) h = range 1 16 l h
 
@@ -251,30 +283,30 @@ module _ (e : LogEntry) (n : NoCommit e) (d : ℕ) (p : 1 ≤ d) where
   legal-ranged h = change-ranged d p (asChange e) (rw (entry-change false e n) at h)
 
   -- whatever its slot
-  slotless-ranged : legalChange (mapChange (λ s. 0) (asChange e)) ≡ true → Ranged (changeAt e d)
-  slotless-ranged h = subst Ranged (change-comp (λ s. d) (λ s. 0) (asChange e)) (change-ranged d p (mapChange (λ s. 0) (asChange e)) h)
+  slotless-ranged : legalChange (mapChange (withBody 0) (asChange e)) ≡ true → Ranged (changeAt e d)
+  slotless-ranged h = subst Ranged (change-comp (numberAt d) (withBody 0) (asChange e)) (change-ranged d p (mapChange (withBody 0) (asChange e)) h)
 
   raw-ranged : (t : Bool) → legal (raw 0 (asEntry t e)) ≡ true → Ranged (changeAt e d)
   unfolding legal raw mapEntry
   raw-ranged true h =
-      let k : legal (mapEntry (λ s. 0) (member (asChange e))) ≡ true = rw (entry-change true e n) at h in
-      slotless-ranged (and-true (hasMember (mapChange (λ s. 0) (asChange e))) _ k .1)
+      let k : legal (mapEntry (withBody 0) (member (asChange e))) ≡ true = rw (entry-change true e n) at h in
+      slotless-ranged (and-true (hasMember (mapChange (withBody 0) (asChange e))) _ k .1)
   raw-ranged false h =
-      let k : legal (mapEntry (λ s. 0) (plain (asChange e))) ≡ true = rw (entry-change false e n) at h in
+      let k : legal (mapEntry (withBody 0) (plain (asChange e))) ≡ true = rw (entry-change false e n) at h in
       slotless-ranged k
 
 module _ (e : LogEntry) (n : NoCommit e) where
   module _ (m : Memory) (run : ℕ) (r : Reader ℕ) (k : Keeps m run r) (d : ℕ) (g : Ranged (changeAt e d)) where
     -- made at once
-    pub read-now : (b : Bool) (u : Tables) → DidSome (fieldsChange e d) (m .tables) b u → ReadTo (read r (mapEntry (λ s. d) (asEntry false e))) b (ended m u) 0
+    pub read-now : (b : Bool) (u : Tables) → DidSome (fieldsChange e (numberOf e d)) (m .tables) b u → ReadTo (read r (mapEntry (numberAt d) (asEntry false e))) b (ended m u) 0
     unfolding mapEntry
     read-now b u w =
         rw (entry-change false e n)
         (read-plain m run r k (changeAt e d) b u g (rw (fields-change e d n) at w))
 
     -- kept for a commit; where it is no write, any location serves
-    pub read-later : (d′ : ℕ) → fieldsChange e d′ ≡ fieldsChange e d
-        → ReadTo (read r (mapEntry (λ s. d) (asEntry true e))) true
+    pub read-later : (d′ : ℕ) → fieldsChange e d′ ≡ fieldsChange e (numberOf e d)
+        → ReadTo (read r (mapEntry (numberAt d) (asEntry true e))) true
         (record {
           tables = m .tables;
           members = memberSet (m .members) run (fieldsOf e .kind) (fieldsOf e .block) (fieldsOf e .list) (fieldsOf e .predecessor) d′;
@@ -295,28 +327,28 @@ fed-read o true m h = h
 fed-read o false m h = h
 
 module _ (m : Memory) (run : ℕ) (r : Reader ℕ) (k : Keeps m run r) (d : ℕ) (f : 1 ≤ d) (t : Bool) (e : LogEntry) (l : legal (raw 0 (asEntry t e)) ≡ true) where
-  pub fed-commit : (b : Bool) (m′ : Memory) → fieldsOf e .kind ≡ 0 → Commits m run (fieldsOf e .count) b m′ → FedTo (read r (mapEntry (λ s. d) (asEntry t e))) (fedIf b) m′
+  pub fed-commit : (b : Bool) (m′ : Memory) → fieldsOf e .kind ≡ 0 → Commits m run (fieldsOf e .count) b m′ → FedTo (read r (mapEntry (numberAt d) (asEntry t e))) (fedIf b) m′
   unfolding asEntry mapEntry legal raw
   fed-commit b m′ z w = go e z l w
     where
       go : (x : LogEntry) → fieldsOf x .kind ≡ 0 → legal (raw 0 (asEntry t x)) ≡ true → Commits m run (fieldsOf x .count) b m′
-          → FedTo (read r (mapEntry (λ s. d) (asEntry t x))) (fedIf b) m′
+          → FedTo (read r (mapEntry (numberAt d) (asEntry t x))) (fedIf b) m′
       go (Take a) h i w = absurd (omega arith)
       go (PutFirst a c) h i w = absurd (omega arith)
       go (PutAfter a c p) h i w = absurd (omega arith)
-      go (Write a s) h i w = absurd (omega arith)
+      go (Write a s n) h i w = absurd (omega arith)
       go (DeleteBlock a) h i w = absurd (omega arith)
       go (DeleteList a) h i w = absurd (omega arith)
       go (Commit n) h i w = fed-read (read r (commit n)) b m′ (w r k (leb-true n 15 i))
 
   module _ (n : NoCommit e) where
     pub fed-member : t ≡ true
-        → FedTo (read r (mapEntry (λ s. d) (asEntry t e))) (Run (run + 1))
+        → FedTo (read r (mapEntry (numberAt d) (asEntry t e))) (Run (run + 1))
         (record {
           tables = m .tables;
-          members = memberSet (m .members) run (fieldsOf e .kind) (fieldsOf e .block) (fieldsOf e .list) (fieldsOf e .predecessor) d;
+          members = memberSet (m .members) run (fieldsOf e .kind) (fieldsOf e .block) (fieldsOf e .list) (fieldsOf e .predecessor) (numberOf e d);
         })
-    fed-member q = rw q (read-later e n m run r k d (raw-ranged e n d f t l) d refl)
+    fed-member q = rw q (read-later e n m run r k d (raw-ranged e n d f t l) (numberOf e d) refl)
 
-    pub fed-plain : (b : Bool) (u : Tables) → t ≡ false → DidSome (fieldsChange e d) (m .tables) b u → FedTo (read r (mapEntry (λ s. d) (asEntry t e))) (fedIf b) (ended m u)
-    fed-plain b u q w = rw q (fed-read (read r (mapEntry (λ s. d) (asEntry false e))) b (ended m u) (read-now e n m run r k d (raw-ranged e n d f t l) b u w))
+    pub fed-plain : (b : Bool) (u : Tables) → t ≡ false → DidSome (fieldsChange e (numberOf e d)) (m .tables) b u → FedTo (read r (mapEntry (numberAt d) (asEntry t e))) (fedIf b) (ended m u)
+    fed-plain b u q w = rw q (fed-read (read r (mapEntry (numberAt d) (asEntry false e))) b (ended m u) (read-now e n m run r k d (raw-ranged e n d f t l) b u w))

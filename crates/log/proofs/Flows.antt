@@ -13,7 +13,7 @@ use Rattle.lists.specs.Basic.{joined}
 use Rattle.lists.proofs.Basic.{eq-true, eqb-false, eqb-true, eqb-neq}
 use Rattle.log.specs.declared.place.Place.{Place}
 use Rattle.log.specs.Entry.{Entry, carried}
-use Rattle.log.specs.Card.{Content}
+use Rattle.log.specs.Card.{Written}
 use Rattle.log.specs.Store.{opened, after, afterAll, home, tail, dataOf, entryStores}
 use Rattle.log.specs.Flush.{Flow, drained, full, stored, stopped, storeNext, nextStore, flushFrom}
 use Rattle.log.proofs.Segment.{Empties, Packed, Carries}
@@ -22,10 +22,10 @@ use Rattle.log.proofs.Allowance.{none-left}
 use Rattle.log.proofs.Places.{used, addTo, used-le, getD-used, used-add, Good, At, home-behind, behind-add, carries-store, Begun, begun-store, carries-close, tail-none, tail-used}
 
 -- The place behind the entries of segments: in the last one in use, or in segment 0.
-unfoldable pub endOf : List (List (Entry Content)) → Place
+unfoldable pub endOf : List (List (Entry Written)) → Place
 endOf ess = afterAll (opened (used ess - 1)) (getD ess (used ess - 1) [])
 
-pub tail-end : (c : List ℕ) (ess : List (List (Entry Content))) → Carries c ess → tail c ≡ endOf ess
+pub tail-end : (c : List ℕ) (ess : List (List (Entry Written))) → Carries c ess → tail c ≡ endOf ess
 unfolding endOf afterAll
 tail-end c ess h = go (used ess) refl
   where
@@ -36,7 +36,7 @@ tail-end c ess h = go (used ess) refl
         tail-none c ess h e ∙ ap (afterAll (opened 0)) (sym (getD-used ess (h .packed))) ∙ (λ i. afterAll (opened (a i)) (getD ess (b i) []))
     go (suc u) e = tail-used c ess u h e ∙ ap (λ (g : ℕ). afterAll (opened g) (getD ess g [])) (let q : u ≡ used ess - 1 = omega arith in q)
 
-pub home-at : (ess : List (List (Entry Content))) (e : Entry Content) (p : Place) → Packed ess → 0 < length ess
+pub home-at : (ess : List (List (Entry Written))) (e : Entry Written) (p : Place) → Packed ess → 0 < length ess
     → home (length ess) (endOf ess) e ≡ some p → At ess p e
 unfolding endOf
 home-at ess e p h l q = home-behind ess (used ess - 1) e p h (omega (arith, used-le ess)) (edge (used ess) refl) q
@@ -45,7 +45,7 @@ home-at ess e p h l q = home-behind ess (used ess - 1) e p h (omega (arith, used
     edge zero e = inl (omega arith)
     edge (suc u) e = inr (omega arith)
 
-pub end-add : {ess : List (List (Entry Content))} {p : Place} {e : Entry Content} → At ess p e → Packed ess → endOf (addTo (p .segment) e ess) ≡ after p e
+pub end-add : {ess : List (List (Entry Written))} {p : Place} {e : Entry Written} → At ess p e → Packed ess → endOf (addTo (p .segment) e ess) ≡ after p e
 unfolding endOf
 end-add {ess} {p} {e} at h =
     ap (λ (g : ℕ). afterAll (opened g) (getD (addTo (p .segment) e ess) g []))
@@ -86,41 +86,41 @@ module _ {A : Type 0} where
   add-length g w ss = length-set ss g (getD ss g [] ++ w ∷ [])
 
 -- What a flush finds: segments that the card carries, and behind them the queue, of whose head k stores stand.
-abbrev pub AllGood : List (Entry Content) → Type 0
+abbrev pub AllGood : List (Entry Written) → Type 0
 AllGood [] = Unit {0}
 AllGood (e ∷ es) = Good e × AllGood es
 
-abbrev pub Head : List ℕ → List (List (Entry Content)) → List (Entry Content) → ℕ → Type 0
+abbrev pub Head : List ℕ → List (List (Entry Written)) → List (Entry Written) → ℕ → Type 0
 Head c ess [] k = k ≡ 0
 Head c ess (e ∷ q) k =
     ((p : Place) → home (length ess) (endOf ess) e ≡ some p → Begun c p e k × (k < length (entryStores p e)))
     × (home (length ess) (endOf ess) e ≡ none → k ≡ 0)
 
-pub record Flows (c : List ℕ) (ess : List (List (Entry Content))) (q : List (Entry Content)) (k : ℕ) : Type 0 where
+pub record Flows (c : List ℕ) (ess : List (List (Entry Written))) (q : List (Entry Written)) (k : ℕ) : Type 0 where
   pub carries : Carries c ess
   pub good : AllGood q
   pub head : Head c ess q k
 
-unfoldable pub flowFor : List ℕ → List (List (Entry Content)) → List (Entry Content) → ℕ → Flow
+unfoldable pub flowFor : List ℕ → List (List (Entry Written)) → List (Entry Written) → ℕ → Flow
 flowFor c ess q k = record { card = c; place = endOf ess; queue = q; done = k }
 
-head-zero : (c : List ℕ) (ess : List (List (Entry Content))) (q : List (Entry Content)) → Head c ess q 0
+head-zero : (c : List ℕ) (ess : List (List (Entry Written))) (q : List (Entry Written)) → Head c ess q 0
 head-zero c ess [] = refl
 head-zero c ess (e ∷ q) = (λ p h. (λ j l. absurd (omega arith), omega (arith, entry-stores-length p e)), λ h. refl)
 
 -- entries that join the queue
-good-append : (q r : List (Entry Content)) → AllGood q → AllGood r → AllGood (q ++ r)
+good-append : (q r : List (Entry Written)) → AllGood q → AllGood r → AllGood (q ++ r)
 good-append [] r g h = h
 good-append (e ∷ q) r g h = (g .0, good-append q r (g .1) h)
 
-head-append : (c : List ℕ) (ess : List (List (Entry Content))) (q r : List (Entry Content)) (k : ℕ) → Head c ess q k → Head c ess (q ++ r) k
+head-append : (c : List ℕ) (ess : List (List (Entry Written))) (q r : List (Entry Written)) (k : ℕ) → Head c ess q k → Head c ess (q ++ r) k
 head-append c ess [] r k h = subst (Head c ess r) (sym h) (head-zero c ess r)
 head-append c ess (e ∷ q) r k h = h
 
-pub flows-append : (c : List ℕ) (ess : List (List (Entry Content))) (q r : List (Entry Content)) (k : ℕ) → Flows c ess q k → AllGood r → Flows c ess (q ++ r) k
+pub flows-append : (c : List ℕ) (ess : List (List (Entry Written))) (q r : List (Entry Written)) (k : ℕ) → Flows c ess q k → AllGood r → Flows c ess (q ++ r) k
 flows-append c ess q r k f g = record { carries = f .carries; good = good-append q r (f .good) g; head = head-append c ess q r k (f .head) }
 
-last-store : (p : Place) (e : Entry Content) (k : ℕ) → suc k ≡ length (entryStores p e)
+last-store : (p : Place) (e : Entry Written) (k : ℕ) → suc k ≡ length (entryStores p e)
     → (storeOf p e k .0 ≡ 4096 * p .segment + 3584) × (storeOf p e k .1 ≡ suc (p .entries))
 last-store p e k h = go (which p e k (omega arith))
   where
@@ -130,7 +130,7 @@ last-store p e k h = go (which p e k (omega arith))
     go (closing u v y) = (v, y)
 
 -- One store of the head e, whose place is p.
-module _ (c : List ℕ) (ess : List (List (Entry Content))) (e : Entry Content) (q : List (Entry Content)) (k : ℕ) (f : Flows c ess (e ∷ q) k) (p : Place)
+module _ (c : List ℕ) (ess : List (List (Entry Written))) (e : Entry Written) (q : List (Entry Written)) (k : ℕ) (f : Flows c ess (e ∷ q) k) (p : Place)
     (h : home (length ess) (endOf ess) e ≡ some p) where
   abbrev pub cardNext : List ℕ
   cardNext = set c (storeOf p e k .0) (storeOf p e k .1)
@@ -170,20 +170,20 @@ module _ (c : List ℕ) (ess : List (List (Entry Content))) (e : Entry Content) 
       rw (h, nextStore) (rw (eq-true (suc k) (length (entryStores p e)) l, storeNext)
       (ap (λ (x : Place). stored (record { card = cardNext; place = x; queue = q; done = 0 })) (sym (end-add head-at (f .carries .packed)))))
 
-pub next-none : (c : List ℕ) (ess : List (List (Entry Content))) (k : ℕ) → nextStore (length ess) (flowFor c ess [] k) ≡ stopped drained
+pub next-none : (c : List ℕ) (ess : List (List (Entry Written))) (k : ℕ) → nextStore (length ess) (flowFor c ess [] k) ≡ stopped drained
 unfolding nextStore flowFor
 next-none c ess k = refl
 
-pub next-full : (c : List ℕ) (ess : List (List (Entry Content))) (e : Entry Content) (q : List (Entry Content)) (k : ℕ)
+pub next-full : (c : List ℕ) (ess : List (List (Entry Written))) (e : Entry Written) (q : List (Entry Written)) (k : ℕ)
     → home (length ess) (endOf ess) e ≡ none → nextStore (length ess) (flowFor c ess (e ∷ q) k) ≡ stopped full
 unfolding nextStore flowFor
 next-full c ess e q k h = rw (h, nextStore)
 
 -- What a flush leaves of segments and queue: entries have gone from the one to the other.
-pub record Flushes (f : Flow) (ess : List (List (Entry Content))) (q : List (Entry Content)) : Type 0 where
+pub record Flushes (f : Flow) (ess : List (List (Entry Written))) (q : List (Entry Written)) : Type 0 where
   pub card : List ℕ
-  pub segs : List (List (Entry Content))
-  pub queue : List (Entry Content)
+  pub segs : List (List (Entry Written))
+  pub queue : List (Entry Written)
   pub done : ℕ
   pub flow : f ≡ flowFor card segs queue done
   pub flows : Flows card segs queue done
@@ -193,7 +193,7 @@ pub record Flushes (f : Flow) (ess : List (List (Entry Content))) (q : List (Ent
   pub left : gone ≤ length q
   pub rest : queue ≡ drop gone q
 
-flushes-none : (c : List ℕ) (ess : List (List (Entry Content))) (q : List (Entry Content)) (k : ℕ) → Flows c ess q k → Flushes (flowFor c ess q k) ess q
+flushes-none : (c : List ℕ) (ess : List (List (Entry Written))) (q : List (Entry Written)) (k : ℕ) → Flows c ess q k → Flushes (flowFor c ess q k) ess q
 flushes-none c ess q k f = record {
   card = c;
   segs = ess;
@@ -209,7 +209,7 @@ flushes-none c ess q k f = record {
 }
 
 -- after an entry's closing store
-flushes-last : (f : Flow) (ess : List (List (Entry Content))) (p : Place) (e : Entry Content) (q : List (Entry Content)) → At ess p e → Packed ess
+flushes-last : (f : Flow) (ess : List (List (Entry Written))) (p : Place) (e : Entry Written) (q : List (Entry Written)) → At ess p e → Packed ess
     → Flushes f (addTo (p .segment) e ess) q → Flushes f ess (e ∷ q)
 flushes-last f ess p e q at h x = record {
   card = x .card;
@@ -218,14 +218,14 @@ flushes-last f ess p e q at h x = record {
   done = x .done;
   flow = x .flow;
   flows = x .flows;
-  log = x .log ∙ ap (λ (r : List (Entry Content)). r ++ q) (joined-add (p .segment) e ess (at .inside) (at .edge) h) ∙ append-assoc (joined ess) (e ∷ []) q;
+  log = x .log ∙ ap (λ (r : List (Entry Written)). r ++ q) (joined-add (p .segment) e ess (at .inside) (at .edge) h) ∙ append-assoc (joined ess) (e ∷ []) q;
   size = x .size ∙ add-length (p .segment) e ess;
   gone = suc (x .gone);
   left = omega (arith, x .left);
   rest = x .rest;
 }
 
-pub flush-flows : (a m : ℕ) (c : List ℕ) (ess : List (List (Entry Content))) (q : List (Entry Content)) (k : ℕ) → Flows c ess q k
+pub flush-flows : (a m : ℕ) (c : List ℕ) (ess : List (List (Entry Written))) (q : List (Entry Written)) (k : ℕ) → Flows c ess q k
     → Flushes (flushFrom (length ess) a m (flowFor c ess q k) .flow) ess q
 unfolding flushFrom
 flush-flows zero m c ess q k f = rw (none-left (length ess) m (flowFor c ess q k) .0) (flushes-none c ess q k f)
@@ -233,7 +233,7 @@ flush-flows (suc a) m c ess [] k f = rw (next-none c ess k, flushFrom) (flushes-
 flush-flows (suc a) m c ess (e ∷ q) k f = go (λ c′ ess′ q′ k′ f′. flush-flows a (suc m) c′ ess′ q′ k′ f′) (home (length ess) (endOf ess) e) refl
   where
     Later : Type 0
-    Later = (c′ : List ℕ) (ess′ : List (List (Entry Content))) (q′ : List (Entry Content)) (k′ : ℕ) → Flows c′ ess′ q′ k′
+    Later = (c′ : List ℕ) (ess′ : List (List (Entry Written))) (q′ : List (Entry Written)) (k′ : ℕ) → Flows c′ ess′ q′ k′
         → Flushes (flushFrom (length ess′) a (suc m) (flowFor c′ ess′ q′ k′) .flow) ess′ q′
 
     go : Later → (o : Option Place) → home (length ess) (endOf ess) e ≡ o

@@ -8,7 +8,7 @@ use lib.ListN.{length, getD, set, replicate, length-set, length-replicate}
 use lib.Seq.{getD-set-same, getD-set-other}
 use Rattle.lists.proofs.Basic.{getD-same}
 use Rattle.log.specs.Entry.{Entry}
-use Rattle.log.specs.Card.{Content}
+use Rattle.log.specs.Card.{Written}
 use Rattle.log.specs.Store.{Store, doStores, formatStores}
 use Rattle.log.proofs.Segment.{codes, slotsAfter, Holds, Empties, Packed, Carries}
 
@@ -17,7 +17,7 @@ unfolding codes slotsAfter
 holds-none c g h = record { counted = h; coded = λ j l. absurd (omega arith); filled = tt; fine = tt; short = omega arith; few = omega arith }
 
 -- Segments that hold nothing.
-abbrev pub nils : ℕ → List (List (Entry Content))
+abbrev pub nils : ℕ → List (List (Entry Written))
 nils n = replicate n []
 
 nils-length : (n : ℕ) → length (nils n) ≡ n

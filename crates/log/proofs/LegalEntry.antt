@@ -1,7 +1,7 @@
 -- What makes a declared entry legal, kind by kind.
-use mathlib.Core.Path.{_≡_, refl, sym}
+use mathlib.Core.Path.{_≡_, refl, sym, ap}
 use mathlib.Core.Bool.{Bool, true, false, _&&_, not, and-true as and-with-true}
-use Rattle.log.specs.Entry.{isBlock, isList, isCount, member, asChange, legal, legalChange, hasMember, raw, mapEntry, asEntry}
+use Rattle.log.specs.Entry.{isBlock, isList, isCount, isRace, member, asChange, legal, legalChange, hasMember, raw, mapEntry, asEntry}
 use Rattle.lists.specs.Change.{mapChange}
 use Rattle.log.specs.declared.entry.LogEntry.{LogEntry}
 use Rattle.log.specs.declared.entry.LogEntry.the-variants.{Take, PutFirst, PutAfter, Write, DeleteBlock, DeleteList, Commit}
@@ -11,7 +11,7 @@ abbrev pub tested : LogEntry → Bool
 tested (Take l) = false
 tested (PutFirst b l) = isBlock b && isList l
 tested (PutAfter b l p) = isBlock b && isList l && isBlock p
-tested (Write b s) = isBlock b
+tested (Write b s n) = isBlock b && isRace n
 tested (DeleteBlock b) = isBlock b
 tested (DeleteList l) = isList l
 tested (Commit n) = false
@@ -21,7 +21,7 @@ unfolding legal legalChange hasMember raw mapEntry mapChange asChange
 member-tested (Take l) = refl
 member-tested (PutFirst b l) = refl
 member-tested (PutAfter b l p) = refl
-member-tested (Write b s) = sym (and-with-true (isBlock b))
+member-tested (Write b s n) = ap (λ (t : Bool). t && isRace n) (sym (and-with-true (isBlock b)))
 member-tested (DeleteBlock b) = refl
 member-tested (DeleteList l) = refl
 member-tested (Commit n) = refl
@@ -31,7 +31,7 @@ abbrev pub testedAs : Bool → Bool → LogEntry → Bool
 testedAs m t (Take l) = not m && isList l
 testedAs m t (PutFirst b l) = t
 testedAs m t (PutAfter b l p) = t
-testedAs m t (Write b s) = t
+testedAs m t (Write b s n) = t
 testedAs m t (DeleteBlock b) = t
 testedAs m t (DeleteList l) = t
 testedAs m t (Commit n) = isCount n
@@ -44,8 +44,8 @@ legal-tested true (PutFirst b l) = refl
 legal-tested false (PutFirst b l) = refl
 legal-tested true (PutAfter b l p) = refl
 legal-tested false (PutAfter b l p) = refl
-legal-tested true (Write b s) = refl
-legal-tested false (Write b s) = refl
+legal-tested true (Write b s n) = refl
+legal-tested false (Write b s n) = refl
 legal-tested true (DeleteBlock b) = refl
 legal-tested false (DeleteBlock b) = refl
 legal-tested true (DeleteList l) = refl

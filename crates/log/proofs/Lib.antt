@@ -29,3 +29,4 @@ pub mod Walking
 pub mod Locations
 pub mod Copying
 pub mod Begun
+pub mod Before

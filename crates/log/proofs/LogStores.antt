@@ -9,8 +9,9 @@ use lib.ListN.{length, getD, set}
 use borrow.Rule.Slice.PartMut.{midOf, putMid, mid-len, set-mid-at}
 use Rattle.log.specs.declared.entry.LogEntry.{LogEntry}
 use Rattle.log.specs.declared.place.Place.{Place}
+use Rattle.log.specs.Raced.{Raced, withBody}
 use Rattle.log.specs.Entry.{Entry, mapEntry, carried, encode, raw, entryLength, asEntry}
-use Rattle.log.specs.Card.{Content, usedBy}
+use Rattle.log.specs.Card.{Content, Written, usedBy}
 use Rattle.log.specs.Store.{Store, fits, dataOf, entryStores}
 use Rattle.log.proofs.Naturality.{carried-map, raw-map}
 use Rattle.log.proofs.Segment.{Sized, data-length}
@@ -19,8 +20,8 @@ use Rattle.log.proofs.Places.{raw-length, fits-both}
 use Rattle.log.proofs.Within.{length-of-entry, used-of-entry}
 
 -- the entry as it goes to the card with the content d
-abbrev pub going : Content → Bool → LogEntry → Entry Content
-going d m e = mapEntry (λ s. d) (asEntry m e)
+abbrev pub going : Content → Bool → LogEntry → Entry Written
+going d m e = mapEntry (withBody d) (asEntry m e)
 
 -- how many data bytes it has, and how many bytes
 abbrev pub dataBytes : LogEntry → ℕ
@@ -37,30 +38,30 @@ pub set-store : (c : List ℕ) (x : Store) {a b : ℕ} → x .0 ≡ a → x .1 �
 set-store c x p q = rw (p, q)
 
 pub going-short : (d : Content) (m : Bool) (e : LogEntry) (p : Place) → fits p (going d m e) ≡ true → p .bytes + codeBytes e ≤ 511
-going-short d m e p h = omega (arith, fits-both p (going d m e) h .0, length-of-entry (λ s. d) m e)
+going-short d m e p h = omega (arith, fits-both p (going d m e) h .0, length-of-entry d m e)
 
 module _ (d : Content) (z : length d ≡ 256) (m : Bool) (e : LogEntry) where
   -- only a write carries something, and that is d
   going-sized : Sized (carried (going d m e))
-  going-sized = subst Sized (sym (carried-map (λ s. d) (asEntry m e))) (go (carried (asEntry m e)))
+  going-sized = subst Sized (sym (carried-map (withBody d) (asEntry m e))) (go (carried (asEntry m e)))
     where
-      go : (o : Option ℕ) → Sized (Option·map (λ s. d) o)
+      go : (o : Option (Raced ℕ)) → Sized (Option·map (withBody d) o)
       go none = tt
       go (some s) = z
 
   going-data : (j : ℕ) → j < length (dataOf (carried (going d m e))) → getD (dataOf (carried (going d m e))) j 0 ≡ getD d j 0
   unfolding dataOf
-  going-data j = rw (carried-map (λ s. d) (asEntry m e)) (go (carried (asEntry m e)))
+  going-data j = rw (carried-map (withBody d) (asEntry m e)) (go (carried (asEntry m e)))
     where
-      go : (o : Option ℕ) → j < length (dataOf (Option·map (λ s. d) o)) → getD (dataOf (Option·map (λ s. d) o)) j 0 ≡ getD d j 0
+      go : (o : Option (Raced ℕ)) → j < length (dataOf (Option·map (withBody d) o)) → getD (dataOf (Option·map (withBody d) o)) j 0 ≡ getD d j 0
       go none l = absurd (omega arith)
       go (some s) l = refl
 
   data-many : length (dataOf (carried (going d m e))) ≡ dataBytes e
-  data-many = data-length (carried (going d m e)) going-sized ∙ ap (λ (n : ℕ). 256 * n) (used-of-entry (λ s. d) m e)
+  data-many = data-length (carried (going d m e)) going-sized ∙ ap (λ (n : ℕ). 256 * n) (used-of-entry d m e)
 
   code-many : (p : Place) → length (code p (going d m e)) ≡ codeBytes e
-  code-many p = raw-length (p .slots) (going d m e) ∙ length-of-entry (λ s. d) m e
+  code-many p = raw-length (p .slots) (going d m e) ∙ length-of-entry d m e
 
   pub stores-many : (p : Place) → length (entryStores p (going d m e)) ≡ dataBytes e + codeBytes e + 1
   stores-many p = entry-stores-length p (going d m e) ∙ omega (arith, data-many, code-many p)
@@ -84,7 +85,7 @@ module _ (d : Content) (z : length d ≡ 256) (m : Bool) (e : LogEntry) where
         go (inCode i q l a b) =
             let o : i ≡ j - dataBytes e = omega (arith, data-many) in (
               a ∙ ap (λ (n : ℕ). codeAt p + n) o,
-              b ∙ ap (λ (n : ℕ). getD (code p (going d m e)) n 0) o ∙ ap (λ (x : Entry ℕ). getD (encode x) (j - dataBytes e) 0) (raw-map (λ s. d) (p .slots) (asEntry m e)),
+              b ∙ ap (λ (n : ℕ). getD (code p (going d m e)) n 0) o ∙ ap (λ (x : Entry (Raced ℕ)). getD (encode x) (j - dataBytes e) 0) (raw-map (withBody d) (λ s. refl) (p .slots) (asEntry m e)),
             )
         go (closing q a b) = absurd (omega (arith, data-many, code-many p))
 

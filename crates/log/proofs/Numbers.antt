@@ -12,9 +12,10 @@ use Rattle.lists.specs.Change.{Change, takeList, putFirst, putAfter, write, del
 use Rattle.lists.specs.State.{State, apply, applyAll}
 use Rattle.lists.proofs.Basic.{and-true, guard-some, bind-some, all-append, all-drop}
 use Rattle.lists.proofs.Numbers.{mayTake, numbered, apply-numbered, applyAll-numbered}
+use Rattle.log.specs.Raced.{Raced, withBody}
 use Rattle.log.specs.Entry.{Entry, plain, member, commit, mapEntry, carried, raw, legal, legalChange, hasMember, isList}
 use Rattle.log.specs.Reader.{Reader, settled, start, lastOf, read, replay}
-use Rattle.log.specs.Card.{Content, usedBy}
+use Rattle.log.specs.Card.{Written, usedBy}
 use Rattle.log.proofs.Segment.{Fine, Carries}
 
 -- does the entry take a list in range, or none?
@@ -23,7 +24,7 @@ mayEnter (plain c) = mayTake isList c
 mayEnter (member c) = mayTake isList c
 mayEnter (commit n) = true
 
-legal-takes : {D : Type 0} (k : ℕ) (c : Change D) → legalChange (mapChange (λ d. k) c) ≡ true → mayTake isList c ≡ true
+legal-takes : {A : Type 0} (k : ℕ) (c : Change (Raced A)) → legalChange (mapChange (withBody k) c) ≡ true → mayTake isList c ≡ true
 unfolding legalChange mapChange
 legal-takes k (takeList l) h = h
 legal-takes k (putFirst b l) h = refl
@@ -32,10 +33,10 @@ legal-takes k (write b d) h = refl
 legal-takes k (delBlock b) h = refl
 legal-takes k (delList l) h = refl
 
-pub legal-enters : {D : Type 0} (k : ℕ) (e : Entry D) → legal (raw k e) ≡ true → mayEnter e ≡ true
+pub legal-enters : {A : Type 0} (k : ℕ) (e : Entry (Raced A)) → legal (raw k e) ≡ true → mayEnter e ≡ true
 unfolding legal raw mapEntry mayEnter
 legal-enters k (plain c) h = legal-takes k c h
-legal-enters k (member c) h = legal-takes k c (and-true (hasMember (mapChange (λ d. k) c)) (legalChange (mapChange (λ d. k) c)) h .1)
+legal-enters k (member c) h = legal-takes k c (and-true (hasMember (mapChange (withBody k) c)) (legalChange (mapChange (withBody k) c)) h .1)
 legal-enters k (commit n) h = refl
 
 -- between two entries: the lists of the state, and those that the run takes
@@ -73,7 +74,7 @@ module _ {D : Type 0} where
       replay-range x q es v b (read-range r x e u a i)
 
 -- The entries that a card carries are legal.
-fine-enters : (k : ℕ) (es : List (Entry Content)) → Fine k es → all mayEnter es ≡ true
+fine-enters : (k : ℕ) (es : List (Entry Written)) → Fine k es → all mayEnter es ≡ true
 unfolding all
 fine-enters k [] f = refl
 fine-enters k (e ∷ es) f = rw (legal-enters k e (f .0)) (fine-enters (k + usedBy (carried e)) es (f .2))
@@ -83,5 +84,5 @@ unfolding joined all
 all-joined p [] f = refl
 all-joined p (xs ∷ xss) f = all-append p xs (joined xss) (f 0 (omega arith)) (all-joined p xss (λ h l. f (suc h) (omega arith)))
 
-pub carries-enters : (c : List ℕ) (ess : List (List (Entry Content))) → Carries c ess → all mayEnter (joined ess) ≡ true
+pub carries-enters : (c : List ℕ) (ess : List (List (Entry Written))) → Carries c ess → all mayEnter (joined ess) ≡ true
 carries-enters c ess k = all-joined mayEnter ess (λ h l. fine-enters 0 (getD ess h []) (k .holds h l .fine))

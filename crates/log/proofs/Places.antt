@@ -1,7 +1,7 @@
 -- Where an entry goes on the card, and what its stores, up to the closing one, make of what the card holds.
 use mathlib.Core.Path.{_≡_, refl, sym, ap, _∙_, subst}
 use mathlib.Core.Logic.{_⊎_, inl, inr, _≢_}
-use mathlib.Core.Bool.{Bool, true, false, cond, true≢false}
+use mathlib.Core.Bool.{Bool, true, false, _&&_, cond, true≢false}
 use mathlib.Core.Option.{Option, none, some, Option·none-ne-some, Option·some-injective}
 use mathlib.Core.List.{List, [], _∷_, _++_}
 use Prim.Native.Nat.{ℕ, zero, suc, _+_, _*_, _≤_, _<_}
@@ -14,8 +14,9 @@ use lib.Seq.{getD-set-same, getD-set-other}
 use Rattle.lists.specs.Change.{Change, takeList, putFirst, putAfter, write, delBlock, delList, mapChange, carriedBy}
 use Rattle.lists.proofs.Basic.{and-true, le-true, leb-true, ltb-true}
 use Rattle.log.specs.declared.place.Place.{Place}
-use Rattle.log.specs.Entry.{Entry, plain, member, commit, mapEntry, carried, changeBytes, encode, raw, entryLength, legal, legalChange, hasMember, isBlock, isSlot}
-use Rattle.log.specs.Card.{Content, usedBy}
+use Rattle.log.specs.Raced.{Raced, withBody}
+use Rattle.log.specs.Entry.{Entry, plain, member, commit, mapEntry, carried, changeBytes, raceByte, encode, raw, entryLength, legal, legalChange, hasMember, isBlock, isSlot, isRace}
+use Rattle.log.specs.Card.{Content, Written, usedBy}
 use Rattle.log.specs.Store.{opened, after, afterAll, fits, home, behindAll, tail, dataOf, entryStores}
 use Rattle.log.proofs.Slot.{Stands, same-getD}
 use Rattle.log.proofs.Replay.{goods, goodsAll}
@@ -23,7 +24,7 @@ use Rattle.log.proofs.Segment.{codes, slotsAfter, Sized, Holds, data-le
 use Rattle.log.proofs.EntryStores.{holds-free, holds-close, Free, dataAt, codeAt, code, Which, inData, inCode, closing, which, storeOf, entry-stores-length}
 
 -- An entry's bytes are as many in every slot, at most four, and legal in every slot that there is.
-change-length : {D : Type 0} (k m n : ℕ) (c : Change D) → length (changeBytes n (mapChange (λ d. k) c)) ≡ length (changeBytes n (mapChange (λ d. m) c))
+change-length : {A : Type 0} (k m n : ℕ) (c : Change (Raced A)) → length (changeBytes n (mapChange (withBody k) c)) ≡ length (changeBytes n (mapChange (withBody m) c))
 unfolding changeBytes mapChange
 change-length k m n (takeList l) = refl
 change-length k m n (putFirst b l) = refl
@@ -32,37 +33,44 @@ change-length k m n (write b d) = refl
 change-length k m n (delBlock b) = refl
 change-length k m n (delList l) = refl
 
-pub raw-length : {D : Type 0} (k : ℕ) (e : Entry D) → length (encode (raw k e)) ≡ entryLength e
+pub raw-length : {A : Type 0} (k : ℕ) (e : Entry (Raced A)) → length (encode (raw k e)) ≡ entryLength e
 unfolding encode raw mapEntry entryLength
 raw-length k (plain c) = change-length k 0 0 c
 raw-length k (member c) = change-length k 0 128 c
 raw-length k (commit n) = refl
 
-change-short : {D : Type 0} (n : ℕ) (c : Change D) → length (changeBytes n (mapChange (λ d. 0) c)) ≤ 4
+race-short : (n : ℕ) → length (raceByte n) ≤ 1
+unfolding raceByte
+race-short zero = omega arith
+race-short (suc n) = omega arith
+
+change-short : {A : Type 0} (n : ℕ) (c : Change (Raced A)) → length (changeBytes n (mapChange (withBody 0) c)) ≤ 4
 unfolding changeBytes mapChange
 change-short n (takeList l) = omega arith
 change-short n (putFirst b l) = omega arith
 change-short n (putAfter b l p) = omega arith
-change-short n (write b d) = omega arith
+change-short n (write b d) = omega (arith, race-short (d .race))
 change-short n (delBlock b) = omega arith
 change-short n (delList l) = omega arith
 
-pub entry-short : {D : Type 0} (e : Entry D) → entryLength e ≤ 4
+pub entry-short : {A : Type 0} (e : Entry (Raced A)) → entryLength e ≤ 4
 unfolding encode raw mapEntry entryLength
 entry-short (plain c) = change-short 0 c
 entry-short (member c) = change-short 128 c
 entry-short (commit n) = omega arith
 
-legal-change : {D : Type 0} (k : ℕ) (c : Change D) → legalChange (mapChange (λ d. 0) c) ≡ true → k + usedBy (carriedBy c) ≤ 14 → legalChange (mapChange (λ d. k) c) ≡ true
+legal-change : {A : Type 0} (k : ℕ) (c : Change (Raced A)) → legalChange (mapChange (withBody 0) c) ≡ true → k + usedBy (carriedBy c) ≤ 14 → legalChange (mapChange (withBody k) c) ≡ true
 unfolding legalChange mapChange carriedBy usedBy
 legal-change k (takeList l) h b = h
 legal-change k (putFirst x l) h b = h
 legal-change k (putAfter x l p) h b = h
-legal-change k (write x d) h b = rw (and-true (isBlock x) (isSlot 0) h .0) (le-true k 13 (omega arith))
+legal-change k (write x d) h b =
+    let (u, v) = and-true (isBlock x && isSlot 0) (isRace (d .race)) h in
+    rw (and-true (isBlock x) (isSlot 0) u .0, le-true k 13 (omega arith)) v
 legal-change k (delBlock x) h b = h
 legal-change k (delList l) h b = h
 
-has-member : {D : Type 0} (k : ℕ) (c : Change D) → hasMember (mapChange (λ d. k) c) ≡ hasMember c
+has-member : {A : Type 0} (k : ℕ) (c : Change (Raced A)) → hasMember (mapChange (withBody k) c) ≡ hasMember c
 unfolding hasMember mapChange
 has-member k (takeList l) = refl
 has-member k (putFirst x l) = refl
@@ -71,43 +79,43 @@ has-member k (write x d) = refl
 has-member k (delBlock x) = refl
 has-member k (delList l) = refl
 
-pub legal-raw : {D : Type 0} (k : ℕ) (e : Entry D) → legal (raw 0 e) ≡ true → k + usedBy (carried e) ≤ 14 → legal (raw k e) ≡ true
+pub legal-raw : {A : Type 0} (k : ℕ) (e : Entry (Raced A)) → legal (raw 0 e) ≡ true → k + usedBy (carried e) ≤ 14 → legal (raw k e) ≡ true
 unfolding legal raw mapEntry carried
 legal-raw k (plain c) h b = legal-change k c h b
 legal-raw k (member c) h b =
-    let (m, l) = and-true (hasMember (mapChange (λ d. 0) c)) (legalChange (mapChange (λ d. 0) c)) h in
+    let (m, l) = and-true (hasMember (mapChange (withBody 0) c)) (legalChange (mapChange (withBody 0) c)) h in
     rw (has-member k c ∙ sym (has-member 0 c) ∙ m) (legal-change k c l b)
 legal-raw k (commit n) h b = h
 
 -- The place behind entries.
-pub after-segment : {D : Type 0} (p : Place) (es : List (Entry D)) → (afterAll p es) .segment ≡ p .segment
+pub after-segment : {A : Type 0} (p : Place) (es : List (Entry (Raced A))) → (afterAll p es) .segment ≡ p .segment
 unfolding afterAll after
 after-segment p [] = refl
 after-segment p (e ∷ es) = after-segment (after p e) es
 
-pub after-entries : {D : Type 0} (p : Place) (es : List (Entry D)) → (afterAll p es) .entries ≡ p .entries + length es
+pub after-entries : {A : Type 0} (p : Place) (es : List (Entry (Raced A))) → (afterAll p es) .entries ≡ p .entries + length es
 unfolding afterAll after
 after-entries p [] = omega arith
 after-entries p (e ∷ es) = after-entries (after p e) es ∙ omega arith
 
-pub after-slots : (p : Place) (es : List (Entry Content)) → (afterAll p es) .slots ≡ slotsAfter (p .slots) es
+pub after-slots : (p : Place) (es : List (Entry Written)) → (afterAll p es) .slots ≡ slotsAfter (p .slots) es
 unfolding afterAll after slotsAfter
 after-slots p [] = refl
 after-slots p (e ∷ es) = after-slots (after p e) es
 
-pub after-bytes : (p : Place) (k : ℕ) (es : List (Entry Content)) → (afterAll p es) .bytes ≡ p .bytes + length (codes k es)
+pub after-bytes : (p : Place) (k : ℕ) (es : List (Entry Written)) → (afterAll p es) .bytes ≡ p .bytes + length (codes k es)
 unfolding afterAll after codes
 after-bytes p k [] = omega arith
 after-bytes p k (e ∷ es) =
     after-bytes (after p e) (k + usedBy (carried e)) es
     ∙ omega (arith, raw-length k e, length-append (encode (raw k e)) (codes (k + usedBy (carried e)) es))
 
-pub after-snoc : {D : Type 0} (p : Place) (es : List (Entry D)) (e : Entry D) → afterAll p (es ++ e ∷ []) ≡ after (afterAll p es) e
+pub after-snoc : {A : Type 0} (p : Place) (es : List (Entry (Raced A))) (e : Entry (Raced A)) → afterAll p (es ++ e ∷ []) ≡ after (afterAll p es) e
 unfolding afterAll
 after-snoc p [] e = refl
 after-snoc p (x ∷ es) e = after-snoc (after p x) es e
 
-pub opened-segment : {D : Type 0} (g : ℕ) (es : List (Entry D)) → (afterAll (opened g) es) .segment ≡ g
+pub opened-segment : {A : Type 0} (g : ℕ) (es : List (Entry (Raced A))) → (afterAll (opened g) es) .segment ≡ g
 unfolding opened
 opened-segment g es = after-segment (opened g) es
 
@@ -120,24 +128,24 @@ used ((e ∷ es) ∷ ss) = suc (used ss)
 unfoldable pub addTo : {A : Type 0} → ℕ → A → List (List A) → List (List A)
 addTo g e ess = set ess g (getD ess g [] ++ e ∷ [])
 
-empties-packed : (ss : List (List (Entry Content))) → Empties ss → Packed ss
+empties-packed : (ss : List (List (Entry Written))) → Empties ss → Packed ss
 empties-packed [] h = tt
 empties-packed ([] ∷ ss) h = h
 empties-packed ((e ∷ es) ∷ ss) h = absurd h
 
-pub used-le : (ss : List (List (Entry Content))) → used ss ≤ length ss
+pub used-le : (ss : List (List (Entry Written))) → used ss ≤ length ss
 unfolding used
 used-le [] = omega arith
 used-le ([] ∷ ss) = omega arith
 used-le ((e ∷ es) ∷ ss) = omega (arith, used-le ss)
 
-pub getD-used : (ss : List (List (Entry Content))) → Packed ss → getD ss (used ss) [] ≡ []
+pub getD-used : (ss : List (List (Entry Written))) → Packed ss → getD ss (used ss) [] ≡ []
 unfolding used
 getD-used [] h = refl
 getD-used ([] ∷ ss) h = refl
 getD-used ((e ∷ es) ∷ ss) h = getD-used ss h
 
-pub packed-add : (g : ℕ) (e : Entry Content) (ss : List (List (Entry Content))) → g ≤ used ss → Packed ss → Packed (addTo g e ss)
+pub packed-add : (g : ℕ) (e : Entry Written) (ss : List (List (Entry Written))) → g ≤ used ss → Packed ss → Packed (addTo g e ss)
 unfolding used addTo
 packed-add g e [] u h = tt
 packed-add zero e ([] ∷ ss) u h = empties-packed ss h
@@ -145,12 +153,12 @@ packed-add (suc g) e ([] ∷ ss) u h = absurd (omega arith)
 packed-add zero e ((x ∷ xs) ∷ ss) u h = h
 packed-add (suc g) e ((x ∷ xs) ∷ ss) u h = packed-add g e ss (omega arith) h
 
-pub used-add : (g : ℕ) (e : Entry Content) (ss : List (List (Entry Content))) → g < length ss → (g ≡ used ss) ⊎ (suc g ≡ used ss) → Packed ss → used (addTo g e ss) ≡ suc g
+pub used-add : (g : ℕ) (e : Entry Written) (ss : List (List (Entry Written))) → g < length ss → (g ≡ used ss) ⊎ (suc g ≡ used ss) → Packed ss → used (addTo g e ss) ≡ suc g
 unfolding used addTo
 used-add g e [] l u h = absurd (omega arith)
 used-add zero e ([] ∷ ss) l u h = ap suc (used-empties ss h)
   where
-    used-empties : (ss : List (List (Entry Content))) → Empties ss → used ss ≡ 0
+    used-empties : (ss : List (List (Entry Written))) → Empties ss → used ss ≡ 0
     used-empties [] h = refl
     used-empties ([] ∷ ss) h = refl
     used-empties ((x ∷ xs) ∷ ss) h = absurd h
@@ -162,11 +170,11 @@ used-add (suc g) e ((x ∷ xs) ∷ ss) l (inl u) h = ap suc (used-add g e ss (om
 used-add (suc g) e ((x ∷ xs) ∷ ss) l (inr u) h = ap suc (used-add g e ss (omega arith) (inr (omega arith)) h)
 
 -- An entry that may be placed, and its place behind the entries of segments.
-pub record Good (e : Entry Content) : Type 0 where
+pub record Good (e : Entry Written) : Type 0 where
   pub lawful : legal (raw 0 e) ≡ true
   pub sized : Sized (carried e)
 
-pub record At (ess : List (List (Entry Content))) (p : Place) (e : Entry Content) : Type 0 where
+pub record At (ess : List (List (Entry Written))) (p : Place) (e : Entry Written) : Type 0 where
   pub inside : p .segment < length ess
   pub behind : p ≡ afterAll (opened (p .segment)) (getD ess (p .segment) [])
   pub edge : (p .segment ≡ used ess) ⊎ (suc (p .segment) ≡ used ess)
@@ -178,19 +186,19 @@ unfolding usedBy
 used-one none = omega arith
 used-one (some d) = omega arith
 
-pub fits-opened : {D : Type 0} (g : ℕ) (e : Entry D) → fits (opened g) e ≡ true
+pub fits-opened : {A : Type 0} (g : ℕ) (e : Entry (Raced A)) → fits (opened g) e ≡ true
 unfolding fits opened
 fits-opened g e =
     rw (le-true (0 + entryLength e) 511 (omega (arith, entry-short e)))
     (le-true (0 + usedBy (carried e)) 14 (omega (arith, used-one (carried e))))
 
-pub fits-both : {D : Type 0} (p : Place) (e : Entry D) → fits p e ≡ true → (p .bytes + entryLength e ≤ 511) × (p .slots + usedBy (carried e) ≤ 14)
+pub fits-both : {A : Type 0} (p : Place) (e : Entry (Raced A)) → fits p e ≡ true → (p .bytes + entryLength e ≤ 511) × (p .slots + usedBy (carried e) ≤ 14)
 unfolding fits
 fits-both p e h =
     let (a, b) = and-true (leb (p .bytes + entryLength e) 511) (leb (p .slots + usedBy (carried e)) 14) h in
     (leb-true (p .bytes + entryLength e) 511 a, leb-true (p .slots + usedBy (carried e)) 14 b)
 
-place-at : (ess : List (List (Entry Content))) (g : ℕ) (e : Entry Content) → g < length ess → (g ≡ used ess) ⊎ (suc g ≡ used ess)
+place-at : (ess : List (List (Entry Written))) (g : ℕ) (e : Entry Written) → g < length ess → (g ≡ used ess) ⊎ (suc g ≡ used ess)
     → fits (afterAll (opened g) (getD ess g [])) e ≡ true → At ess (afterAll (opened g) (getD ess g [])) e
 unfolding opened
 place-at ess g e l u f =
@@ -198,19 +206,19 @@ place-at ess g e l u f =
     let b = fits-both (afterAll (opened g) (getD ess g [])) e f in
     record { inside = rw s l; behind = ap (λ (n : ℕ). afterAll (opened n) (getD ess n [])) (sym s); edge = rw s u; bytesFit = b .0; slotsFit = b .1 }
 
-place-next : (ess : List (List (Entry Content))) (g : ℕ) (e : Entry Content) → Packed ess → suc g ≡ used ess → suc g < length ess → At ess (opened (suc g)) e
+place-next : (ess : List (List (Entry Written))) (g : ℕ) (e : Entry Written) → Packed ess → suc g ≡ used ess → suc g < length ess → At ess (opened (suc g)) e
 unfolding afterAll
 place-next ess g e h u l =
     let n : getD ess (suc g) [] ≡ [] = rw u (getD-used ess h) in
     let q : opened (suc g) ≡ afterAll (opened (suc g)) (getD ess (suc g) []) = ap (afterAll (opened (suc g))) (sym n) in
     rw (← q) at (place-at ess (suc g) e l (inl u) (rw n (fits-opened (suc g) e)))
 
-fits-behind : (m : ℕ) (e : Entry Content) → fits (afterAll {D = Content} (opened m) []) e ≡ true
+fits-behind : (m : ℕ) (e : Entry Written) → fits (afterAll {A = Content} (opened m) []) e ≡ true
 unfolding afterAll
 fits-behind m e = fits-opened m e
 
 -- An entry's home, behind the entries of the last segment in use or of segment 0, is such a place.
-pub home-behind : (ess : List (List (Entry Content))) (g : ℕ) (e : Entry Content) (p : Place) → Packed ess → g < length ess → (g ≡ used ess) ⊎ (suc g ≡ used ess)
+pub home-behind : (ess : List (List (Entry Written))) (g : ℕ) (e : Entry Written) (p : Place) → Packed ess → g < length ess → (g ≡ used ess) ⊎ (suc g ≡ used ess)
     → home (length ess) (afterAll (opened g) (getD ess g [])) e ≡ some p → At ess p e
 unfolding home
 home-behind ess g e p h l u q = go (fits p₀ e) refl (ltb (suc (p₀ .segment)) (length ess)) refl q
@@ -224,7 +232,7 @@ home-behind ess g e p h l u q = go (fits p₀ e) refl (ltb (suc (p₀ .segment))
     next : (g ≡ used ess) ⊎ (suc g ≡ used ess) → fits p₀ e ≡ false → ltb (suc (p₀ .segment)) (length ess) ≡ true → At ess (opened (suc (p₀ .segment))) e
     next (inl v) f k =
         let n : getD ess g [] ≡ [] = ap (λ (m : ℕ). getD ess m []) v ∙ getD-used ess h in
-        let o : fits p₀ e ≡ true = ap (λ (es : List (Entry Content)). fits (afterAll (opened g) es) e) n ∙ fits-behind g e in
+        let o : fits p₀ e ≡ true = ap (λ (es : List (Entry Written)). fits (afterAll (opened g) es) e) n ∙ fits-behind g e in
         absurd (true≢false (sym o ∙ f))
     next (inr v) f k = rw seg (place-next ess g e h v (rw seg at (ltb-true (suc (p₀ .segment)) (length ess) k)))
 
@@ -234,7 +242,7 @@ home-behind ess g e p h l u q = go (fits p₀ e) refl (ltb (suc (p₀ .segment))
     go false f true k q = subst (λ (x : Place). At ess x e) (Option·some-injective _ _ q) (next u f k)
     go false f false k q = absurd (Option·none-ne-some _ q)
 
-module _ {ess : List (List (Entry Content))} {p : Place} {e : Entry Content} (at : At ess p e) where
+module _ {ess : List (List (Entry Written))} {p : Place} {e : Entry Written} (at : At ess p e) where
   pub place-entries : p .entries ≡ length (getD ess (p .segment) [])
   unfolding opened
   place-entries = ap (λ (x : Place). x .entries) (at .behind) ∙ after-entries (opened (p .segment)) (getD ess (p .segment) []) ∙ omega arith
@@ -301,10 +309,10 @@ module _ {ess : List (List (Entry Content))} {p : Place} {e : Entry Content} (at
   }
 
 -- The first k stores of an entry stand on the card.
-abbrev pub Begun : List ℕ → Place → Entry Content → ℕ → Type 0
+abbrev pub Begun : List ℕ → Place → Entry Written → ℕ → Type 0
 Begun c p e k = (j : ℕ) → j < k → getD c (storeOf p e j .0) 0 ≡ storeOf p e j .1
 
-apart : (p : Place) (e : Entry Content) (j k a b a′ b′ : ℕ) → p .slots + usedBy (carried e) ≤ 14 → length (dataOf (carried e)) ≡ 256 * usedBy (carried e)
+apart : (p : Place) (e : Entry Written) (j k a b a′ b′ : ℕ) → p .slots + usedBy (carried e) ≤ 14 → length (dataOf (carried e)) ≡ 256 * usedBy (carried e)
     → j < k → Which p e j a b → Which p e k a′ b′ → a ≢ a′
 apart p e j k a b a′ b′ s n l (inData u v y) (inData u′ v′ y′) = omega arith
 apart p e j k a b a′ b′ s n l (inData u v y) (inCode i u′ m v′ y′) = omega arith
@@ -316,7 +324,7 @@ apart p e j k a b a′ b′ s n l (closing u v y) (inData u′ v′ y′) = omeg
 apart p e j k a b a′ b′ s n l (closing u v y) (inCode i u′ m v′ y′) = omega arith
 apart p e j k a b a′ b′ s n l (closing u v y) (closing u′ v′ y′) = omega arith
 
-module _ {ess : List (List (Entry Content))} {p : Place} {e : Entry Content} (at : At ess p e) (z : Sized (carried e)) where
+module _ {ess : List (List (Entry Written))} {p : Place} {e : Entry Written} (at : At ess p e) (z : Sized (carried e)) where
   pub store-inside : (c : List ℕ) (j a b : ℕ) → length c ≡ 4096 * length ess → Which p e j a b → a < length c
   store-inside c j a b s (inData u v y) = omega (arith, at .inside, at .slotsFit, data-length (carried e) z)
   store-inside c j a b s (inCode i u m v y) = omega (arith, at .inside, at .bytesFit, raw-length (p .slots) e)
@@ -363,10 +371,10 @@ module _ {ess : List (List (Entry Content))} {p : Place} {e : Entry Content} (at
     holds = λ h m. held h (rw (length-set ess (p .segment) es′) at m) (ℕ-discrete h (p .segment));
   }
     where
-      es : List (Entry Content)
+      es : List (Entry Written)
       es = getD ess (p .segment) []
 
-      es′ : List (Entry Content)
+      es′ : List (Entry Written)
       es′ = es ++ e ∷ []
 
       c′ : List ℕ
@@ -394,18 +402,18 @@ module _ {ess : List (List (Entry Content))} {p : Place} {e : Entry Content} (at
           side (no v) = holds-free c h (getD ess h []) (4096 * p .segment + 3584) (suc (p .entries)) (inl (omega arith)) k′
 
 -- The place behind a card's log is the one behind the entries of the last segment in use.
-none-behind : (p : Place) (g : ℕ) (ess : List (List (Entry Content))) → Packed ess → used ess ≡ 0 → behindAll p (goodsAll g ess) ≡ p
+none-behind : (p : Place) (g : ℕ) (ess : List (List (Entry Written))) → Packed ess → used ess ≡ 0 → behindAll p (goodsAll g ess) ≡ p
 unfolding goodsAll goods used behindAll
 none-behind p g [] h u = refl
 none-behind p g ([] ∷ ess) h u = ap (behindAll p) (goods-empties (suc g) ess h)
 none-behind p g ((e ∷ es) ∷ ess) h u = absurd (omega arith)
 
-opens : (p : Place) (g : ℕ) (e : Entry Content) (es : List (Entry Content)) → (p .segment < g) ⊎ (p ≡ opened g) → behindAll p (goods g 0 (e ∷ es)) ≡ afterAll (opened g) (e ∷ es)
+opens : (p : Place) (g : ℕ) (e : Entry Written) (es : List (Entry Written)) → (p .segment < g) ⊎ (p ≡ opened g) → behindAll p (goods g 0 (e ∷ es)) ≡ afterAll (opened g) (e ∷ es)
 unfolding opened
 opens p g e es (inl h) = behind-opens p g 0 e es (omega arith)
 opens p g e es (inr h) = rw h (behind-goods (opened g) g 0 (e ∷ es) refl)
 
-behind-used : (ess : List (List (Entry Content))) (p : Place) (g u : ℕ) → Packed ess → used ess ≡ suc u → (p .segment < g) ⊎ (p ≡ opened g)
+behind-used : (ess : List (List (Entry Written))) (p : Place) (g u : ℕ) → Packed ess → used ess ≡ suc u → (p .segment < g) ⊎ (p ≡ opened g)
     → behindAll p (goodsAll g ess) ≡ afterAll (opened (g + u)) (getD ess u [])
 unfolding goodsAll used
 behind-used [] p g u h n b = absurd (omega arith)
@@ -423,8 +431,8 @@ behind-used ((e ∷ es) ∷ ess) p g u h n b =
     rest ih zero n = none-behind q (suc g) ess h (omega arith) ∙ ap (λ (k : ℕ). afterAll (opened k) (e ∷ es)) (sym (add-zero g))
     rest ih (suc u) n = ih u (omega arith) ∙ ap (λ (k : ℕ). afterAll (opened k) (getD ess u [])) (suc-add g u ∙ sym (add-suc g u))
 
-pub tail-none : (c : List ℕ) (ess : List (List (Entry Content))) → Carries c ess → used ess ≡ 0 → tail c ≡ opened 0
+pub tail-none : (c : List ℕ) (ess : List (List (Entry Written))) → Carries c ess → used ess ≡ 0 → tail c ≡ opened 0
 tail-none c ess h u = carries-tail c ess h ∙ none-behind (opened 0) 0 ess (h .packed) u
 
-pub tail-used : (c : List ℕ) (ess : List (List (Entry Content))) (u : ℕ) → Carries c ess → used ess ≡ suc u → tail c ≡ afterAll (opened u) (getD ess u [])
+pub tail-used : (c : List ℕ) (ess : List (List (Entry Written))) (u : ℕ) → Carries c ess → used ess ≡ suc u → tail c ≡ afterAll (opened u) (getD ess u [])
 tail-used c ess u h n = carries-tail c ess h ∙ behind-used ess (opened 0) 0 u (h .packed) n (inr refl) ∙ ap (λ (k : ℕ). afterAll (opened k) (getD ess u [])) (zero-add u)

@@ -1,6 +1,6 @@
 -- An acceptable card holds entries, and its state is their replay (`carries-read`): the converse of `carries-walk`.
 use mathlib.Core.Path.{_≡_, refl, sym, ap, _∙_, subst}
-use mathlib.Core.Bool.{true}
+use mathlib.Core.Bool.{true, _&&_}
 use mathlib.Core.Option.{Option, none, some, Option·some-injective, Option·map}
 use mathlib.Core.List.{List, [], _∷_, _++_, append-assoc}
 use Prim.Native.Nat.{ℕ, zero, suc, _+_, _*_, _/_, _≤_, _<_}
@@ -11,126 +11,133 @@ use lib.Seq.{getD-take, getD-drop, length-take-le}
 use Rattle.lists.specs.Basic.{guard, joined}
 use Rattle.lists.specs.Change.{Change, takeList, putFirst, putAfter, write, delBlock, delList, mapChange, carriedBy}
 use Rattle.lists.proofs.Basic.{eqb-true, leb-true, and-true, bind-some, guard-some, getD-same}
-use Rattle.log.specs.Entry.{Entry, plain, member, commit, mapEntry, carried, encode, raw, legal, legalChange, hasMember, isBlock, isSlot, decode}
+use Rattle.log.specs.Raced.{Raced, raced, withBody}
+use Rattle.log.specs.Entry.{Entry, plain, member, commit, mapEntry, carried, encode, raw, legal, legalChange, hasMember, isBlock, isSlot, isRace, decode}
 use Rattle.log.specs.Reader.{Reader, read, replay, start}
-use Rattle.log.specs.Card.{Content, cardSlot, count, segmentEntries, usedBy, isNext, entryAt, Item, good, bad, itemsOf, segmentItems, afterEmpty, items, sound, fault, walk, walkCard, mounted}
+use Rattle.log.specs.Card.{Written, cardSlot, cardWritten, count, segmentEntries, usedBy, isNext, entryAt, Item, good, bad, itemsOf, segmentItems, afterEmpty, items, sound, fault, walk, walkCard, mounted}
 use Rattle.log.specs.Store.{dataOf}
 use Rattle.log.proofs.Slot.{Stands, same-getD, length-slot, getD-slot}
 use Rattle.log.proofs.Decode.{decode-complete}
-use Rattle.log.proofs.Naturality.{carried-map}
+use Rattle.log.proofs.Naturality.{KeepsRace, carried-map}
 use Rattle.log.proofs.Replay.{replay-append}
 use Rattle.log.proofs.Segment.{codes, slotsAfter, Sized, Fine, FilledAt, Holds, Packed, Carries, used-map}
 use Rattle.log.proofs.Formatting.{nils, packed-nils, holds-none}
 
 -- An entry whose slot is the next, with its data put in and taken out again.
-change-raw : (f : ℕ → Content) (k : ℕ) (c : Change ℕ) → isNext k (carriedBy c) ≡ true → mapChange (λ d. k) (mapChange f c) ≡ c
+change-raw : (f : Raced ℕ → Written) → KeepsRace f → (k : ℕ) (c : Change (Raced ℕ)) → isNext k (carriedBy c) ≡ true → mapChange (withBody k) (mapChange f c) ≡ c
 unfolding mapChange carriedBy isNext
-change-raw f k (takeList l) h = refl
-change-raw f k (putFirst b l) h = refl
-change-raw f k (putAfter b l p) h = refl
-change-raw f k (write b t) h = ap (write b) (sym (eqb-true t k h))
-change-raw f k (delBlock b) h = refl
-change-raw f k (delList l) h = refl
+change-raw f r k (takeList l) h = refl
+change-raw f r k (putFirst b l) h = refl
+change-raw f r k (putAfter b l p) h = refl
+change-raw f r k (write b t) h = ap (λ (n : ℕ). write b (raced k n)) (r t) ∙ ap (λ (x : ℕ). write b (raced x (t .race))) (sym (eqb-true (t .body) k h))
+change-raw f r k (delBlock b) h = refl
+change-raw f r k (delList l) h = refl
 
-raw-again : (f : ℕ → Content) (k : ℕ) (y : Entry ℕ) → isNext k (carried y) ≡ true → raw k (mapEntry f y) ≡ y
+raw-again : (f : Raced ℕ → Written) → KeepsRace f → (k : ℕ) (y : Entry (Raced ℕ)) → isNext k (carried y) ≡ true → raw k (mapEntry f y) ≡ y
 unfolding raw mapEntry carried
-raw-again f k (plain c) h = ap plain (change-raw f k c h)
-raw-again f k (member c) h = ap member (change-raw f k c h)
-raw-again f k (commit n) h = refl
+raw-again f r k (plain c) h = ap plain (change-raw f r k c h)
+raw-again f r k (member c) h = ap member (change-raw f r k c h)
+raw-again f r k (commit n) h = refl
 
-change-slot : (k : ℕ) (c : Change ℕ) → legalChange c ≡ true → isNext k (carriedBy c) ≡ true → k ≤ 14 → k + usedBy (carriedBy c) ≤ 14
+change-slot : (k : ℕ) (c : Change (Raced ℕ)) → legalChange c ≡ true → isNext k (carriedBy c) ≡ true → k ≤ 14 → k + usedBy (carriedBy c) ≤ 14
 unfolding legalChange carriedBy isNext usedBy
 change-slot k (takeList l) h n m = omega arith
 change-slot k (putFirst b l) h n m = omega arith
 change-slot k (putAfter b l p) h n m = omega arith
-change-slot k (write b t) h n m = omega (arith, leb-true t 13 (and-true (isBlock b) (isSlot t) h .1), eqb-true t k n)
+change-slot k (write b t) h n m =
+    omega (arith, leb-true (t .body) 13 (and-true (isBlock b) (isSlot (t .body)) (and-true (isBlock b && isSlot (t .body)) (isRace (t .race)) h .0) .1), eqb-true (t .body) k n)
 change-slot k (delBlock b) h n m = omega arith
 change-slot k (delList l) h n m = omega arith
 
-entry-slot : (k : ℕ) (y : Entry ℕ) → legal y ≡ true → isNext k (carried y) ≡ true → k ≤ 14 → k + usedBy (carried y) ≤ 14
+entry-slot : (k : ℕ) (y : Entry (Raced ℕ)) → legal y ≡ true → isNext k (carried y) ≡ true → k ≤ 14 → k + usedBy (carried y) ≤ 14
 unfolding legal carried usedBy
 entry-slot k (plain c) h n m = change-slot k c h n m
 entry-slot k (member c) h n m = change-slot k c (and-true (hasMember c) (legalChange c) h .1) n m
 entry-slot k (commit j) h n m = omega arith
 
 -- what stands in the next slot
-slot-sized : (c : List ℕ) (g k : ℕ) (o : Option ℕ) → 4096 * g + 3584 ≤ length c → k + usedBy o ≤ 14 → isNext k o ≡ true
-    → Sized (Option·map (cardSlot c g) o) × Stands c (4096 * g + 256 * k) (dataOf (Option·map (cardSlot c g) o))
-unfolding usedBy isNext dataOf cardSlot
+slot-sized : (c : List ℕ) (g k : ℕ) (o : Option (Raced ℕ)) → 4096 * g + 3584 ≤ length c → k + usedBy o ≤ 14 → isNext k o ≡ true
+    → Sized (Option·map (cardWritten c g) o) × Stands c (4096 * g + 256 * k) (dataOf (Option·map (cardWritten c g) o))
+unfolding usedBy isNext dataOf cardWritten cardSlot
 slot-sized c g k none l m n = (tt, λ j h. absurd (omega arith))
 slot-sized c g k (some t) l m n =
-    let e : t ≡ k = eqb-true t k n in
-    let z : length (cardSlot c g t) ≡ 256 = length-slot c (16 * g + t) (omega arith) in
-    (z, λ j h. same-getD c (4096 * g + 256 * k + j) (256 * (16 * g + t) + j) (omega arith) ∙ sym (getD-slot c (16 * g + t) j (omega arith)))
+    let e : t .body ≡ k = eqb-true (t .body) k n in
+    let z : length (cardSlot c g (t .body)) ≡ 256 = length-slot c (16 * g + t .body) (omega arith) in
+    (z, λ j h. same-getD c (4096 * g + 256 * k + j) (256 * (16 * g + t .body) + j) (omega arith) ∙ sym (getD-slot c (16 * g + t .body) j (omega arith)))
+
+keeps-race : (c : List ℕ) (g : ℕ) → KeepsRace (cardWritten c g)
+unfolding cardWritten
+keeps-race c g s = refl
 
 -- A walk that goes through meets no fault, and reads each entry.
-never : (g i : ℕ) (z : Reader Content) → fault g i ≡ sound z → ⊥
-never g i z h = let q : _≡_ {A = ℕ} 0 1 = cc in omega arith
+module _ {D : Type 0} where
+  never : (g i : ℕ) (z : Reader D) → fault g i ≡ sound z → ⊥
+  never g i z h = let q : _≡_ {A = ℕ} 0 1 = cc in omega arith
 
-walk-bad : (g i : ℕ) (is : List (Item Content)) (r z : Reader Content) → walk r (bad g i ∷ is) ≡ sound z → ⊥
-unfolding walk
-walk-bad g i is r z h = never g i z h
+  pub walk-bad : (g i : ℕ) (is : List (Item D)) (r z : Reader D) → walk r (bad g i ∷ is) ≡ sound z → ⊥
+  unfolding walk
+  walk-bad g i is r z h = never g i z h
 
-walk-good : (g i : ℕ) (e : Entry Content) (is : List (Item Content)) (r z : Reader Content) → walk r (good g i e ∷ is) ≡ sound z
-    → (q : Reader Content) × (read r e ≡ some q) × (walk q is ≡ sound z)
-unfolding walk
-walk-good g i e is r z h = go (read r e) refl
-  where
-    go : (o : Option (Reader Content)) → read r e ≡ o → (q : Reader Content) × (read r e ≡ some q) × (walk q is ≡ sound z)
-    go none p = absurd (never g i z (rw (p, walk) at h))
-    go (some q) p = (q, p, rw (p, walk) at h)
+  pub walk-good : (g i : ℕ) (e : Entry D) (is : List (Item D)) (r z : Reader D) → walk r (good g i e ∷ is) ≡ sound z
+      → (q : Reader D) × (read r e ≡ some q) × (walk q is ≡ sound z)
+  unfolding walk
+  walk-good g i e is r z h = go (read r e) refl
+    where
+      go : (o : Option (Reader D)) → read r e ≡ o → (q : Reader D) × (read r e ≡ some q) × (walk q is ≡ sound z)
+      go none p = absurd (never g i z (rw (p, walk) at h))
+      go (some q) p = (q, p, rw (p, walk) at h)
 
-walk-end : (r z : Reader Content) → walk r [] ≡ sound z → r ≡ z
-unfolding walk
-walk-end r z w = same r z w
-  where
-    same : (r z : Reader Content) → sound r ≡ sound z → r ≡ z
-    same r z h = cc
+  walk-end : (r z : Reader D) → walk r [] ≡ sound z → r ≡ z
+  unfolding walk
+  walk-end r z w = same r z w
+    where
+      same : (r z : Reader D) → sound r ≡ sound z → r ≡ z
+      same r z h = cc
 
-entry-some : (k : ℕ) (bs : List ℕ) (x : Entry ℕ × List ℕ) → entryAt k bs ≡ some x → (decode bs ≡ some x) × (isNext k (carried (x .0)) ≡ true)
+entry-some : (k : ℕ) (bs : List ℕ) (x : Entry (Raced ℕ) × List ℕ) → entryAt k bs ≡ some x → (decode bs ≡ some x) × (isNext k (carried (x .0)) ≡ true)
 unfolding entryAt
 entry-some k bs x h =
     let (y, p, q) = bind-some (decode bs) (λ y. guard (isNext k (carried (y .0))) (some y)) x h in
     let (a, b) = guard-some (isNext k (carried (y .0))) (some y) x q in
     let e : y ≡ x = Option·some-injective _ _ b in
-    (p ∙ ap some e, ap (λ (w : Entry ℕ × List ℕ). isNext k (carried (w .0))) (sym e) ∙ a)
+    (p ∙ ap some e, ap (λ (w : Entry (Raced ℕ) × List ℕ). isNext k (carried (w .0))) (sym e) ∙ a)
 
 -- What a walk that goes through tells of n entries of segment g, the first of them at slot k and at the front of the bytes bs.
-record Heard (c : List ℕ) (g n k : ℕ) (bs : List ℕ) (r z : Reader Content) (more : List (Item Content)) : Type 0 where
-  entries : List (Entry Content)
+record Heard (c : List ℕ) (g n k : ℕ) (bs : List ℕ) (r z : Reader Written) (more : List (Item Written)) : Type 0 where
+  entries : List (Entry Written)
   size : length entries ≡ n
   behind : List ℕ
   bytes : bs ≡ codes k entries ++ behind
   fine : Fine k entries
   filled : FilledAt c (4096 * g) k entries
   few : slotsAfter k entries ≤ 14
-  reader : Reader Content
+  reader : Reader Written
   replays : replay r entries ≡ some reader
   onward : walk reader more ≡ sound z
 
-heard-none : (c : List ℕ) (g k : ℕ) (bs : List ℕ) (r z : Reader Content) (more : List (Item Content)) → k ≤ 14 → walk r more ≡ sound z → Heard c g zero k bs r z more
+heard-none : (c : List ℕ) (g k : ℕ) (bs : List ℕ) (r z : Reader Written) (more : List (Item Written)) → k ≤ 14 → walk r more ≡ sound z → Heard c g zero k bs r z more
 unfolding codes slotsAfter replay
 heard-none c g k bs r z more m h = record { entries = []; size = refl; behind = bs; bytes = refl; fine = tt; filled = tt; few = m; reader = r; replays = refl; onward = h }
 
 more-bytes : (bs x ys cs d all : List ℕ) → bs ≡ x ++ ys → ys ≡ cs ++ d → x ++ cs ≡ all → bs ≡ all ++ d
 more-bytes bs x ys cs d all p q r = p ∙ ap (λ (l : List ℕ). x ++ l) q ∙ sym (append-assoc x cs d) ∙ ap (λ (l : List ℕ). l ++ d) r
 
-heard-one : (c : List ℕ) (g n i k : ℕ) (bs : List ℕ) (r z : Reader Content) (more : List (Item Content)) → 4096 * g + 3584 ≤ length c → k ≤ 14
-    → (x : Entry ℕ × List ℕ) → entryAt k bs ≡ some x
-    → ((k′ : ℕ) (bs′ : List ℕ) (r′ : Reader Content) → k′ ≤ 14 → walk r′ (itemsOf (cardSlot c) g n (suc i) k′ bs′ ++ more) ≡ sound z → Heard c g n k′ bs′ r′ z more)
-    → walk r (good g i (mapEntry (cardSlot c g) (x .0)) ∷ (itemsOf (cardSlot c) g n (suc i) (k + usedBy (carried (x .0))) (x .1) ++ more)) ≡ sound z
+heard-one : (c : List ℕ) (g n i k : ℕ) (bs : List ℕ) (r z : Reader Written) (more : List (Item Written)) → 4096 * g + 3584 ≤ length c → k ≤ 14
+    → (x : Entry (Raced ℕ) × List ℕ) → entryAt k bs ≡ some x
+    → ((k′ : ℕ) (bs′ : List ℕ) (r′ : Reader Written) → k′ ≤ 14 → walk r′ (itemsOf (cardWritten c) g n (suc i) k′ bs′ ++ more) ≡ sound z → Heard c g n k′ bs′ r′ z more)
+    → walk r (good g i (mapEntry (cardWritten c g) (x .0)) ∷ (itemsOf (cardWritten c) g n (suc i) (k + usedBy (carried (x .0))) (x .1) ++ more)) ≡ sound z
     → Heard c g (suc n) k bs r z more
 unfolding codes slotsAfter replay
 heard-one c g n i k bs r z more l m x q ih h =
     let (d, nx) = entry-some k bs x q in
     let (b, lg) = decode-complete bs x d in
-    let s = cardSlot c g in
+    let s = cardWritten c g in
     let e = mapEntry s (x .0) in
-    let back : raw k e ≡ x .0 = raw-again s k (x .0) nx in
+    let back : raw k e ≡ x .0 = raw-again s (keeps-race c g) k (x .0) nx in
     let v : carried e ≡ Option·map s (carried (x .0)) = carried-map s (x .0) in
     let u : usedBy (carried e) ≡ usedBy (carried (x .0)) = used-map s (x .0) in
     let f : k + usedBy (carried (x .0)) ≤ 14 = entry-slot k (x .0) lg nx m in
-    let (r′, p, w) = walk-good g i e (itemsOf (cardSlot c) g n (suc i) (k + usedBy (carried (x .0))) (x .1) ++ more) r z h in
+    let (r′, p, w) = walk-good g i e (itemsOf (cardWritten c) g n (suc i) (k + usedBy (carried (x .0))) (x .1) ++ more) r z h in
     let t : Heard c g n (k + usedBy (carried (x .0))) (x .1) r′ z more = ih (k + usedBy (carried (x .0))) (x .1) r′ f w in
     let cd : encode (x .0) ++ codes (k + usedBy (carried (x .0))) (t .entries) ≡ encode (raw k e) ++ codes (k + usedBy (carried e)) (t .entries) = rw (back, u) in
     let sl = slot-sized c g k (carried (x .0)) l f nx in
@@ -147,19 +154,19 @@ heard-one c g n i k bs r z more l m x q ih h =
       onward = t .onward;
     }
 
-heard : (c : List ℕ) (g n i k : ℕ) (bs : List ℕ) (r z : Reader Content) (more : List (Item Content)) → 4096 * g + 3584 ≤ length c → k ≤ 14
-    → walk r (itemsOf (cardSlot c) g n i k bs ++ more) ≡ sound z → Heard c g n k bs r z more
+heard : (c : List ℕ) (g n i k : ℕ) (bs : List ℕ) (r z : Reader Written) (more : List (Item Written)) → 4096 * g + 3584 ≤ length c → k ≤ 14
+    → walk r (itemsOf (cardWritten c) g n i k bs ++ more) ≡ sound z → Heard c g n k bs r z more
 unfolding itemsOf
 heard c g zero i k bs r z more l m h = heard-none c g k bs r z more m h
 heard c g (suc n) i k bs r z more l m h = go (λ k′ bs′ r′ m′ h′. heard c g n (suc i) k′ bs′ r′ z more l m′ h′) (entryAt k bs) refl
   where
-    go : ((k′ : ℕ) (bs′ : List ℕ) (r′ : Reader Content) → k′ ≤ 14 → walk r′ (itemsOf (cardSlot c) g n (suc i) k′ bs′ ++ more) ≡ sound z → Heard c g n k′ bs′ r′ z more)
-        → (o : Option (Entry ℕ × List ℕ)) → entryAt k bs ≡ o → Heard c g (suc n) k bs r z more
+    go : ((k′ : ℕ) (bs′ : List ℕ) (r′ : Reader Written) → k′ ≤ 14 → walk r′ (itemsOf (cardWritten c) g n (suc i) k′ bs′ ++ more) ≡ sound z → Heard c g n k′ bs′ r′ z more)
+        → (o : Option (Entry (Raced ℕ) × List ℕ)) → entryAt k bs ≡ o → Heard c g (suc n) k bs r z more
     go ih none q = absurd (walk-bad g i more r z (rw (q, itemsOf) at h))
     go ih (some x) q = heard-one c g n i k bs r z more l m x q ih (rw (q, itemsOf) at h)
 
 -- So a segment holds the entries that were read.
-segment-holds : (c : List ℕ) (g n : ℕ) (r z : Reader Content) (more : List (Item Content)) → 4096 * g + 4096 ≤ length c
+segment-holds : (c : List ℕ) (g n : ℕ) (r z : Reader Written) (more : List (Item Written)) → 4096 * g + 4096 ≤ length c
     → (t : Heard c g n 0 (segmentEntries c g) r z more) → count c g ≡ n → Holds c g (t .entries)
 unfolding count segmentEntries
 segment-holds c g n r z more l t e = record {
@@ -179,8 +186,8 @@ segment-holds c g n r z more l t e = record {
     short = omega (arith, length-take-le (4096 * g + 4096) c l, length-drop (4096 * g + 3585) (take (4096 * g + 4096) c), ap length (t .bytes) ∙ length-append (codes 0 (t .entries)) (t .behind))
 
 -- The m segments from g on.
-record Regained (c : List ℕ) (g m : ℕ) (r z : Reader Content) : Type 0 where
-  segs : List (List (Entry Content))
+record Regained (c : List ℕ) (g m : ℕ) (r z : Reader Written) : Type 0 where
+  segs : List (List (Entry Written))
   size : length segs ≡ m
   packed : Packed segs
   holds : (h : ℕ) → h < m → Holds c (g + h) (getD segs h [])
@@ -190,7 +197,7 @@ first-or : (c : List ℕ) (g m : ℕ) → ((h : ℕ) → h < m → count c (suc 
 first-or c g m f e zero l = ap (count c) (add-zero g) ∙ e
 first-or c g m f e (suc h) l = ap (count c) (add-suc g h ∙ sym (suc-add g h)) ∙ f h (omega arith)
 
-empty-rest : (c : List ℕ) (m g : ℕ) (r z : Reader Content) → walk r (afterEmpty c m g) ≡ sound z → ((h : ℕ) → h < m → count c (g + h) ≡ 0) × (r ≡ z)
+pub empty-rest : {D : Type 0} (c : List ℕ) (m g : ℕ) (r z : Reader D) → walk r (afterEmpty c m g) ≡ sound z → ((h : ℕ) → h < m → count c (g + h) ≡ 0) × (r ≡ z)
 unfolding afterEmpty
 empty-rest c zero g r z w = (λ h l. absurd (omega arith), walk-end r z w)
 empty-rest c (suc m) g r z w = go (λ v. empty-rest c m (suc g) r z v) (count c g) refl
@@ -209,17 +216,17 @@ count-zero : (c : List ℕ) (g : ℕ) → count c g ≡ 0 → Holds c g []
 unfolding count
 count-zero c g e = holds-none c g e
 
-regain-empty : (c : List ℕ) (g m : ℕ) (r z : Reader Content) → ((h : ℕ) → h < m → count c (g + h) ≡ 0) → r ≡ z → Regained c g m r z
+regain-empty : (c : List ℕ) (g m : ℕ) (r z : Reader Written) → ((h : ℕ) → h < m → count c (g + h) ≡ 0) → r ≡ z → Regained c g m r z
 unfolding replay
 regain-empty c g m r z f e = record {
   segs = nils m;
   size = length-replicate m [];
   packed = packed-nils m;
-  holds = λ h l. rw (getD-same {A = List (Entry Content)} m h []) (count-zero c (g + h) (f h l));
-  replays = ap (replay r) (joined-none m) ∙ ap {B = Option (Reader Content)} some e;
+  holds = λ h l. rw (getD-same {A = List (Entry Written)} m h []) (count-zero c (g + h) (f h l));
+  replays = ap (replay r) (joined-none m) ∙ ap {B = Option (Reader Written)} some e;
 }
 
-regain-more : (c : List ℕ) (g n m : ℕ) (r z : Reader Content) (more : List (Item Content)) → 4096 * g + 4096 ≤ length c
+regain-more : (c : List ℕ) (g n m : ℕ) (r z : Reader Written) (more : List (Item Written)) → 4096 * g + 4096 ≤ length c
     → (t : Heard c g (suc n) 0 (segmentEntries c g) r z more) → count c g ≡ suc n → Regained c (suc g) m (t .reader) z → Regained c g (suc m) r z
 unfolding joined
 regain-more c g n m r z more l t e k = record {
@@ -230,7 +237,7 @@ regain-more c g n m r z more l t e k = record {
   replays = replay-append r (t .entries) (joined (k .segs)) ∙ rw (t .replays) (k .replays);
 }
   where
-    packed-more : (es : List (Entry Content)) → length es ≡ suc n → Packed (es ∷ k .segs)
+    packed-more : (es : List (Entry Written)) → length es ≡ suc n → Packed (es ∷ k .segs)
     packed-more [] q = absurd (omega arith)
     packed-more (x ∷ es) q = k .packed
 
@@ -238,36 +245,36 @@ regain-more c g n m r z more l t e k = record {
     held zero i = rw (add-zero g) (segment-holds c g (suc n) r z more l t e)
     held (suc h) i = subst (λ (j : ℕ). Holds c j (getD (k .segs) h [])) (suc-add g h ∙ sym (add-suc g h)) (k .holds h (omega arith))
 
-sized-items : (c : List ℕ) (g n : ℕ) (more : List (Item Content)) (r z : Reader Content) → count c g ≡ n → walk r (segmentItems (cardSlot c) c g ++ more) ≡ sound z
-    → walk r (itemsOf (cardSlot c) g n 0 0 (segmentEntries c g) ++ more) ≡ sound z
+sized-items : (c : List ℕ) (g n : ℕ) (more : List (Item Written)) (r z : Reader Written) → count c g ≡ n → walk r (segmentItems (cardWritten c) c g ++ more) ≡ sound z
+    → walk r (itemsOf (cardWritten c) g n 0 0 (segmentEntries c g) ++ more) ≡ sound z
 unfolding segmentItems
 sized-items c g n more r z e w = rw e at w
 
-regained : (m g : ℕ) (c : List ℕ) (r z : Reader Content) → 4096 * (g + m) ≤ length c → walk r (items (cardSlot c) c m g) ≡ sound z → Regained c g m r z
+regained : (m g : ℕ) (c : List ℕ) (r z : Reader Written) → 4096 * (g + m) ≤ length c → walk r (items (cardWritten c) c m g) ≡ sound z → Regained c g m r z
 unfolding items
 regained zero g c r z l w = regain-empty c g 0 r z (λ h i. absurd (omega arith)) (walk-end r z w)
 regained (suc m) g c r z l w = go (λ r′ w′. regained m (suc g) c r′ z (omega arith) w′) (count c g) refl
   where
-    more : List (Item Content)
-    more = items (cardSlot c) c m (suc g)
+    more : List (Item Written)
+    more = items (cardWritten c) c m (suc g)
 
-    go : ((r′ : Reader Content) → walk r′ (items (cardSlot c) c m (suc g)) ≡ sound z → Regained c (suc g) m r′ z)
+    go : ((r′ : Reader Written) → walk r′ (items (cardWritten c) c m (suc g)) ≡ sound z → Regained c (suc g) m r′ z)
         → (n : ℕ) → count c g ≡ n → Regained c g (suc m) r z
     go ih zero e =
         let k = empty-rest c m (suc g) r z (rw (e, items) at w) in
         regain-empty c g (suc m) r z (first-or c g m (k .0) e) (k .1)
     go ih (suc n) e =
-        let w′ : walk r (segmentItems (cardSlot c) c g ++ more) ≡ sound z = rw (e, items) at w in
+        let w′ : walk r (segmentItems (cardWritten c) c g ++ more) ≡ sound z = rw (e, items) at w in
         let t : Heard c g (suc n) 0 (segmentEntries c g) r z more =
         heard c g (suc n) 0 0 (segmentEntries c g) r z more (omega arith) (omega arith) (sized-items c g (suc n) more r z e w′) in
         regain-more c g n m r z more (omega arith) t e (ih (t .reader) (t .onward))
 
-pub carries-read : (n : ℕ) (c : List ℕ) (z : Reader Content) → 0 < n → length c ≡ 4096 * n → mounted c ≡ sound z
-    → (ess : List (List (Entry Content))) × Carries c ess × (replay start (joined ess) ≡ some z)
+pub carries-read : (n : ℕ) (c : List ℕ) (z : Reader Written) → 0 < n → length c ≡ 4096 * n → mounted c ≡ sound z
+    → (ess : List (List (Entry Written))) × Carries c ess × (replay start (joined ess) ≡ some z)
 unfolding mounted walkCard
 carries-read n c z p l w =
     let q : length c / 4096 ≡ n = omega arith in
-    let k : Regained c 0 n start z = regained n 0 c start z (omega arith) (ap (λ (m : ℕ). walk start (items (cardSlot c) c m 0)) (sym q) ∙ w) in (
+    let k : Regained c 0 n start z = regained n 0 c start z (omega arith) (ap (λ (m : ℕ). walk start (items (cardWritten c) c m 0)) (sym q) ∙ w) in (
       k .segs,
       record {
         size = l ∙ ap (λ (m : ℕ). 4096 * m) (sym (k .size));

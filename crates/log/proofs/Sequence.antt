@@ -13,34 +13,34 @@ use lib.Seq.{drop-cons, drop-append-le, drop-nil}
 use Rattle.lists.proofs.Basic.{eqb-true, eqb-neq}
 use Rattle.log.specs.declared.place.Place.{Place}
 use Rattle.log.specs.Entry.{Entry}
-use Rattle.log.specs.Card.{Content}
+use Rattle.log.specs.Card.{Written}
 use Rattle.log.specs.Store.{Store, doStores, home, after, entryStores}
 use Rattle.log.specs.Flush.{Flow, Flushed, Ending, drained, full, spent, Next, stored, stopped, storeNext, nextStore, flushFrom, ahead, rest}
 use Rattle.log.proofs.EntryStores.{entry-stores-length}
 use Rattle.log.proofs.Allowance.{none-left, stopped-flush, moved-flush}
 
 -- k stores of the head are done, fewer than it has; none if it has no place, or the queue is empty
-abbrev pub ReadyHead : Option Place → Entry Content → ℕ → Type 0
+abbrev pub ReadyHead : Option Place → Entry Written → ℕ → Type 0
 ReadyHead none e k = k ≡ 0
 ReadyHead (some h) e k = k < length (entryStores h e)
 
-abbrev pub Ready : ℕ → Place → List (Entry Content) → ℕ → Type 0
+abbrev pub Ready : ℕ → Place → List (Entry Written) → ℕ → Type 0
 Ready n p [] k = k ≡ 0
 Ready n p (e ∷ q) k = ReadyHead (home n p e) e k
 
-ready-head : (o : Option Place) (e : Entry Content) → ReadyHead o e 0
+ready-head : (o : Option Place) (e : Entry Written) → ReadyHead o e 0
 ready-head none e = refl
 ready-head (some h) e = omega (arith, entry-stores-length h e)
 
-ready-start : (n : ℕ) (p : Place) (q : List (Entry Content)) → Ready n p q 0
+ready-start : (n : ℕ) (p : Place) (q : List (Entry Written)) → Ready n p q 0
 ready-start n p [] = refl
 ready-start n p (e ∷ q) = ready-head (home n p e) e
 
-ahead-none : (n : ℕ) (p : Place) (e : Entry Content) (q : List (Entry Content)) → home n p e ≡ none → ahead n p (e ∷ q) ≡ []
+ahead-none : (n : ℕ) (p : Place) (e : Entry Written) (q : List (Entry Written)) → home n p e ≡ none → ahead n p (e ∷ q) ≡ []
 unfolding ahead
 ahead-none n p e q v = rw (v, ahead)
 
-ahead-some : (n : ℕ) (p : Place) (e : Entry Content) (q : List (Entry Content)) (h : Place) → home n p e ≡ some h → ahead n p (e ∷ q) ≡ entryStores h e ++ ahead n (after h e) q
+ahead-some : (n : ℕ) (p : Place) (e : Entry Written) (q : List (Entry Written)) (h : Place) → home n p e ≡ some h → ahead n p (e ∷ q) ≡ entryStores h e ++ ahead n (after h e) q
 unfolding ahead
 ahead-some n p e q h v = rw (v, ahead)
 
@@ -49,7 +49,7 @@ data Step (n : ℕ) (f : Flow) : Type 0 where
   halt : (x : Ending) → nextStore n f ≡ stopped x → rest n f ≡ [] → Step n f
   next : (g : Flow) (x : Store) → nextStore n f ≡ stored g → rest n f ≡ x ∷ rest n g → g .card ≡ set (f .card) (x .0) (x .1) → Ready n (g .place) (g .queue) (g .done) → Step n f
 
-abbrev flowAt : List ℕ → Place → List (Entry Content) → ℕ → Flow
+abbrev flowAt : List ℕ → Place → List (Entry Written) → ℕ → Flow
 flowAt c p q k = record { card = c; place = p; queue = q; done = k }
 
 last-drop : (ss t : List Store) (k : ℕ) → suc k ≡ length ss → drop k (ss ++ t) ≡ getD ss k (0, 0) ∷ t
@@ -61,7 +61,7 @@ more-drop : (ss t : List Store) (k : ℕ) → k < length ss → drop k (ss ++ t)
 more-drop ss t k l =
     drop-cons (ss ++ t) k (0, 0) (omega (arith, length-append ss t)) ∙ ap (λ (x : Store). x ∷ drop (suc k) (ss ++ t)) (List·getD-append ss t (0, 0) k l)
 
-step-at : (n : ℕ) (c : List ℕ) (p : Place) (q : List (Entry Content)) (k : ℕ) → Ready n p q k → Step n (flowAt c p q k)
+step-at : (n : ℕ) (c : List ℕ) (p : Place) (q : List (Entry Written)) (k : ℕ) → Ready n p q k → Step n (flowAt c p q k)
 unfolding nextStore storeNext rest ahead
 step-at n c p [] k r = halt drained refl (drop-nil k)
 step-at n c p (e ∷ q) k r = go (home n p e) refl
@@ -137,7 +137,7 @@ pub record Ended (n a k : ℕ) (f : Flow) : Type 0 where
   pub spends : flushFrom n a k f .ending ≡ spent → a < length (rest n f)
   pub stops : flushFrom n a k f .ending ≢ spent → length (rest n f) ≤ a
 
-step-full : (n : ℕ) (c : List ℕ) (p : Place) (q : List (Entry Content)) (k : ℕ) → nextStore n (flowAt c p q k) ≢ stopped spent
+step-full : (n : ℕ) (c : List ℕ) (p : Place) (q : List (Entry Written)) (k : ℕ) → nextStore n (flowAt c p q k) ≢ stopped spent
 unfolding nextStore
 step-full n c p [] k h = let z : _≡_ {A = ℕ} 0 1 = cc in omega arith
 step-full n c p (e ∷ q) k h = go (home n p e) refl
@@ -193,7 +193,7 @@ not-full p = let z : _≡_ {A = ℕ} 0 1 = cc in omega arith
 not-stored : (g : Flow) → stored g ≡ stopped drained → ⊥
 not-stored g p = let z : _≡_ {A = ℕ} 0 1 = cc in omega arith
 
-drained-flow : (n : ℕ) (c : List ℕ) (p : Place) (q : List (Entry Content)) (k : ℕ) → nextStore n (record { card = c; place = p; queue = q; done = k }) ≡ stopped drained → q ≡ []
+drained-flow : (n : ℕ) (c : List ℕ) (p : Place) (q : List (Entry Written)) (k : ℕ) → nextStore n (record { card = c; place = p; queue = q; done = k }) ≡ stopped drained → q ≡ []
 unfolding nextStore
 drained-flow n c p [] k h = refl
 drained-flow n c p (e ∷ q) k h = go (home n p e) refl

@@ -12,6 +12,7 @@ use Rattle.lists.proofs.Basic.{ltb-true}
 use Rattle.log.specs.declared.entry.LogEntry.{LogEntry}
 use Rattle.log.specs.declared.entry.LogEntry.the-variants.{Take, PutFirst, PutAfter, Write, DeleteBlock, DeleteList, Commit}
 use Rattle.log.specs.declared.place.Place.{Place}
+use Rattle.log.specs.Raced.{Raced, withBody}
 use Rattle.log.specs.Entry.{Entry, plain, member, commit, mapEntry, carried, changeBytes, encode, raw, entryLength, asEntry}
 use Rattle.log.specs.Card.{usedBy}
 use Rattle.log.specs.Store.{opened, after, fits, home}
@@ -21,7 +22,7 @@ use Rattle.log.proofs.Segment.{used-map}
 use Rattle.log.proofs.Places.{fits-both, fits-opened}
 
 -- an entry is its map and a field or more
-change-long : {D : Type 0} (n : ℕ) (c : Change D) → 2 ≤ length (changeBytes n (mapChange (λ d. 0) c))
+change-long : {A : Type 0} (n : ℕ) (c : Change (Raced A)) → 2 ≤ length (changeBytes n (mapChange (withBody 0) c))
 unfolding changeBytes mapChange
 change-long n (takeList l) = omega arith
 change-long n (putFirst b l) = omega arith
@@ -30,7 +31,7 @@ change-long n (write b d) = omega arith
 change-long n (delBlock b) = omega arith
 change-long n (delList l) = omega arith
 
-pub entry-long : {D : Type 0} (e : Entry D) → 2 ≤ entryLength e
+pub entry-long : {A : Type 0} (e : Entry (Raced A)) → 2 ≤ entryLength e
 unfolding encode raw mapEntry entryLength
 entry-long (plain c) = change-long 0 c
 entry-long (member c) = change-long 128 c
@@ -40,13 +41,13 @@ pub within-opened : (g : ℕ) → Within (opened g)
 unfolding opened
 within-opened g = record { entries = omega arith; bytes = omega arith; slots = omega arith }
 
-pub within-after : {D : Type 0} (p : Place) (e : Entry D) → Within p → fits p e ≡ true → Within (after p e)
+pub within-after : {A : Type 0} (p : Place) (e : Entry (Raced A)) → Within p → fits p e ≡ true → Within (after p e)
 unfolding after
 within-after p e w h =
     let (b, s) = fits-both p e h in
     record { entries = omega (arith, w .entries, entry-long e); bytes = b; slots = s }
 
-pub within-home : {D : Type 0} (n : ℕ) (p q : Place) (e : Entry D) → Within p → p .segment < n → home n p e ≡ some q → Within q × (q .segment < n) × (fits q e ≡ true)
+pub within-home : {A : Type 0} (n : ℕ) (p q : Place) (e : Entry (Raced A)) → Within p → p .segment < n → home n p e ≡ some q → Within q × (q .segment < n) × (fits q e ≡ true)
 unfolding home opened
 within-home n p q e w l h = go (fits p e) refl (ltb (suc (p .segment)) n) refl h
   where
@@ -65,7 +66,7 @@ length-plain false e = refl
 length-plain true (Take l) = refl
 length-plain true (PutFirst b l) = refl
 length-plain true (PutAfter b l p) = refl
-length-plain true (Write b s) = refl
+length-plain true (Write b s n) = refl
 length-plain true (DeleteBlock b) = refl
 length-plain true (DeleteList l) = refl
 length-plain true (Commit n) = refl
@@ -76,26 +77,26 @@ used-plain false e = refl
 used-plain true (Take l) = refl
 used-plain true (PutFirst b l) = refl
 used-plain true (PutAfter b l p) = refl
-used-plain true (Write b s) = refl
+used-plain true (Write b s n) = refl
 used-plain true (DeleteBlock b) = refl
 used-plain true (DeleteList l) = refl
 used-plain true (Commit n) = refl
 
-module _ {D : Type 0} (f : ℕ → D) (m : Bool) (e : LogEntry) where
-  pub length-of-entry : entryLength (mapEntry f (asEntry m e)) ≡ entryLength (asEntry false e)
-  length-of-entry = entryLength-map f (asEntry m e) ∙ length-plain m e
+module _ {A : Type 0} (x : A) (m : Bool) (e : LogEntry) where
+  pub length-of-entry : entryLength (mapEntry (withBody x) (asEntry m e)) ≡ entryLength (asEntry false e)
+  length-of-entry = entryLength-map (withBody x) (λ s. refl) (asEntry m e) ∙ length-plain m e
 
-  pub used-of-entry : usedBy (carried (mapEntry f (asEntry m e))) ≡ usedBy (carried (asEntry false e))
-  used-of-entry = used-map f (asEntry m e) ∙ used-plain m e
+  pub used-of-entry : usedBy (carried (mapEntry (withBody x) (asEntry m e))) ≡ usedBy (carried (asEntry false e))
+  used-of-entry = used-map (withBody x) (asEntry m e) ∙ used-plain m e
 
-  pub after-of-entry : (p : Place) → after p (mapEntry f (asEntry m e)) ≡ after p (asEntry false e)
+  pub after-of-entry : (p : Place) → after p (mapEntry (withBody x) (asEntry m e)) ≡ after p (asEntry false e)
   unfolding after
   after-of-entry p = rw (length-of-entry, used-of-entry)
 
-  pub fits-of-entry : (p : Place) → fits p (mapEntry f (asEntry m e)) ≡ fits p (asEntry false e)
+  pub fits-of-entry : (p : Place) → fits p (mapEntry (withBody x) (asEntry m e)) ≡ fits p (asEntry false e)
   unfolding fits
   fits-of-entry p = rw (length-of-entry, used-of-entry)
 
-  pub home-of-entry : (n : ℕ) (p : Place) → home n p (mapEntry f (asEntry m e)) ≡ home n p (asEntry false e)
+  pub home-of-entry : (n : ℕ) (p : Place) → home n p (mapEntry (withBody x) (asEntry m e)) ≡ home n p (asEntry false e)
   unfolding home
   home-of-entry n p = rw (fits-of-entry p)

@@ -6,7 +6,7 @@ use Prim.Native.Nat.{ℕ, zero, suc}
 use lib.Dec.{eqb}
 use lib.ListN.{length, drop, getD, set}
 use Rattle.log.specs.Entry.{Entry}
-use Rattle.log.specs.Card.{Content}
+use Rattle.log.specs.Card.{Written}
 use Rattle.log.specs.Store.{Store, home, after, entryStores}
 use Rattle.log.specs.declared.place.Place.{Place}
 
@@ -14,7 +14,7 @@ use Rattle.log.specs.declared.place.Place.{Place}
 pub record Flow : Type 0 where
   pub card : List ℕ
   pub place : Place
-  pub queue : List (Entry Content)
+  pub queue : List (Entry Written)
   pub done : ℕ
 
 -- "drained (queue empty); full (head not begun, doesn't fit, last segment); spent (allowance used)"
@@ -26,7 +26,7 @@ pub data Next : Type 0 where
   stopped : Ending → Next
 
 -- the head e's next store at its place p: "It leaves the queue with the count store."
-unfoldable pub storeNext : Flow → Place → Entry Content → List (Entry Content) → Flow
+unfoldable pub storeNext : Flow → Place → Entry Written → List (Entry Written) → Flow
 storeNext f p e q =
     let ss = entryStores p e in
     let x = getD ss (f .done) (0, 0) in
@@ -56,7 +56,7 @@ flushFrom n (suc a) k f = elim (nextStore n f)
     [ stored f′ ↦ flushFrom n a (suc k) f′ | stopped e ↦ record { flow = f; stores = k; ending = e } ]
 
 -- "along this sequence": the stores of the entries from a place on, up to the first that has no place on a card of n segments
-unfoldable pub ahead : ℕ → Place → List (Entry Content) → List Store
+unfoldable pub ahead : ℕ → Place → List (Entry Written) → List Store
 ahead n p [] = []
 ahead n p (e ∷ q) = elim (home n p e) [ none ↦ [] | some h ↦ entryStores h e ++ ahead n (after h e) q ]
 

@@ -1,3 +1,4 @@
+pub mod Raced
 pub mod Entry
 pub mod Cell
 pub mod Reader
@@ -5,4 +6,5 @@ pub mod Card
 pub mod Store
 pub mod Flush
 pub mod Turns
+pub mod Before
 pub mod promises

@@ -5,6 +5,7 @@ use super::map::DELETE_BLOCK;
 use super::map::DELETE_LIST;
 use super::map::PUT_AFTER;
 use super::map::PUT_FIRST;
+use super::map::RACED;
 use super::map::TAKE;
 use super::map::WRITE;
 ghost use mathlib.Core.Path.{_≡_};
@@ -28,6 +29,12 @@ fn kind_in(kind: u8, first: u8, second: u8, third: u8) -> LogEntry
         WRITE => LogEntry::Write {
             block: first,
             slot: second,
+            race: 0,
+        },
+        RACED => LogEntry::Write {
+            block: first,
+            slot: second,
+            race: third,
         },
         DELETE_BLOCK => LogEntry::DeleteBlock { block: first },
         DELETE_LIST => LogEntry::DeleteList { list: first },

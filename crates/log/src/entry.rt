@@ -18,6 +18,7 @@ pub enum LogEntry {
     Write {
         block: u8,
         slot: u8,
+        race: u8,
     },
     DeleteBlock {
         block: u8,
@@ -31,7 +32,8 @@ pub enum LogEntry {
 }
 
 impl LogEntry {
-    // Blocks are 1 to BLOCKS, lists 1 to LISTS, slots 0 to SLOTS - 1, a commit's count 0 to MEMBERS.
+    // Blocks are 1 to BLOCKS, lists 1 to LISTS, slots 0 to SLOTS - 1, a commit's count 0 to MEMBERS, races 0 to RACES; 0
+    // is none.
     pub const BLOCKS: u8 = limits::BLOCKS;
 
     pub const LISTS: u8 = limits::LISTS;
@@ -39,4 +41,6 @@ impl LogEntry {
     pub const SLOTS: u8 = 14;
 
     pub const MEMBERS: u8 = 15;
+
+    pub const RACES: u8 = 24;
 }

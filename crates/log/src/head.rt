@@ -12,6 +12,7 @@ ghost use mathlib.Core.Bool.{true, false};
 ghost use mathlib.Core.Option.{some};
 ghost use Prim.Native.Nat.{_+_, _≤_, _<_};
 ghost use lib.ListN.{length};
+ghost use Rattle.log.specs.Raced.{withBody};
 ghost use Rattle.log.specs.Entry.{mapEntry, asEntry};
 ghost use Rattle.log.specs.Card.{cardLength, segmentsIn};
 ghost use Rattle.log.specs.Store.{fits, headAt};
@@ -43,7 +44,7 @@ pub fn is_begun(
     done: usize,
 ) -> bool
     requires { ⌜ (cardLength (now card) ≡ true) × (length (now content) ≡ 256) × Within place × (place .segment < segmentsIn (now card)) × (fits place (asEntry false e) ≡ true) ⌝ }
-    ensures { λ r. ⌜ r ≡ headAt (now (card .entry)) done (some place) (mapEntry (λ s. now (content .entry)) (asEntry member e)) ⌝ }
+    ensures { λ r. ⌜ r ≡ headAt (now (card .entry)) done (some place) (mapEntry (withBody (now (content .entry))) (asEntry member e)) ⌝ }
 {
     let data_bytes = SLOT * slots_of(e);
     if data_bytes + length_of(e) < done {

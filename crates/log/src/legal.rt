@@ -2,7 +2,7 @@
 use crate::entry::LogEntry;
 ghost use mathlib.Core.Path.{_≡_};
 ghost use mathlib.Core.Bool.{true, false, _&&_};
-ghost use Rattle.log.specs.Entry.{isBlock, isList, member, legal, raw, asEntry, asChange};
+ghost use Rattle.log.specs.Entry.{isBlock, isList, isRace, member, legal, raw, asEntry, asChange};
 
 pub fn both(a: bool, b: bool) -> bool
     ensures { λ r. ⌜ r ≡ (a && b) ⌝ }
@@ -22,6 +22,13 @@ pub fn is_list(l: u8) -> bool
     both(1 <= l, l <= LogEntry::LISTS)
 }
 
+// A race, or none.
+pub fn is_race(r: u8) -> bool
+    ensures { λ b. ⌜ b ≡ isRace r ⌝ }
+{
+    r <= LogEntry::RACES
+}
+
 // May the entry stand in a log as a unit's member, a write in slot 0?
 pub fn is_member(e: LogEntry) -> bool
     ensures { λ r. ⌜ r ≡ legal (raw 0 (member (asChange e))) ⌝ }
@@ -34,7 +41,11 @@ pub fn is_member(e: LogEntry) -> bool
             list,
             predecessor,
         } => both(both(is_block(block), is_list(list)), is_block(predecessor)),
-        LogEntry::Write { block, slot: _ } => is_block(block),
+        LogEntry::Write {
+            block,
+            slot: _,
+            race,
+        } => both(is_block(block), is_race(race)),
         LogEntry::DeleteBlock { block } => is_block(block),
         LogEntry::DeleteList { list } => is_list(list),
         LogEntry::Commit { count: _ } => false,
@@ -53,7 +64,11 @@ pub fn is_legal(member: bool, e: LogEntry) -> bool
             list: _,
             predecessor: _,
         } => is_member(e),
-        LogEntry::Write { block: _, slot: _ } => is_member(e),
+        LogEntry::Write {
+            block: _,
+            slot: _,
+            race: _,
+        } => is_member(e),
         LogEntry::DeleteBlock { block: _ } => is_member(e),
         LogEntry::DeleteList { list: _ } => is_member(e),
         LogEntry::Commit { count } => count <= LogEntry::MEMBERS,

@@ -3,12 +3,14 @@ use super::entry::LogEntry;
 use super::legal::both;
 use super::legal::is_block;
 use super::legal::is_list;
+use super::legal::is_race;
 use super::map;
 use super::map::COMMIT;
 use super::map::DELETE_BLOCK;
 use super::map::DELETE_LIST;
 use super::map::PUT_AFTER;
 use super::map::PUT_FIRST;
+use super::map::RACED;
 use super::map::TAKE;
 use super::map::WRITE;
 ghost use mathlib.Core.Path.{_≡_};
@@ -76,18 +78,50 @@ pub fn parse(card: &[u8], at: usize, end: usize, slots: usize, kind: u8) -> Pars
             let block = field(card, at, end, WRITE, map::BLOCK);
             let slot = field(card, at, end, WRITE, map::SLOT);
             if both(both(is_block(block), is_slot(slot)), slot as usize == slots) {
-                Parsed::Entry(LogEntry::Write { block, slot }, at + map::length(WRITE))
+                Parsed::Entry(
+                    LogEntry::Write {
+                        block,
+                        slot,
+                        race: 0,
+                    },
+                    at + map::length(WRITE),
+                )
             } else {
                 Parsed::Bad
             }
         }
+        RACED => parse_raced(card, at, end, slots),
         _ => parse_short(card, at, end, slots, kind),
+    }
+}
+
+// A write with a race.
+fn parse_raced(card: &[u8], at: usize, end: usize, slots: usize) -> Parsed
+    requires { ⌜ Inside (now card) at end ⌝ }
+    ensures { λ r. ⌜ parsedOf r ≡ decodedAt (now (card .entry)) at end slots 73 ⌝ }
+{
+    if !fits(at, end, RACED) {
+        return Parsed::Bad;
+    }
+    let block = field(card, at, end, RACED, map::BLOCK);
+    let slot = field(card, at, end, RACED, map::SLOT);
+    let race = field(card, at, end, RACED, map::RACE);
+    if !both(1 <= race, is_race(race)) {
+        return Parsed::Bad;
+    }
+    if both(both(is_block(block), is_slot(slot)), slot as usize == slots) {
+        Parsed::Entry(
+            LogEntry::Write { block, slot, race },
+            at + map::length(RACED),
+        )
+    } else {
+        Parsed::Bad
     }
 }
 
 // The kinds with one field.
 fn parse_short(card: &[u8], at: usize, end: usize, slots: usize, kind: u8) -> Parsed
-    requires { ⌜ Inside (now card) at end × (kind < 128) × (kind ≢ 3) × (kind ≢ 7) × (kind ≢ 9) ⌝ }
+    requires { ⌜ Inside (now card) at end × (kind < 128) × (kind ≢ 3) × (kind ≢ 7) × (kind ≢ 9) × (kind ≢ 73) ⌝ }
     ensures { λ r. ⌜ parsedOf r ≡ decodedAt (now (card .entry)) at end slots kind ⌝ }
 {
     match kind {

@@ -15,6 +15,7 @@ use super::place::Place;
 ghost use mathlib.Core.Path.{_≡_};
 ghost use mathlib.Core.Bool.{Bool};
 ghost use lib.ListN.{length, set, take};
+ghost use Rattle.log.specs.Raced.{withBody};
 ghost use Rattle.log.specs.Entry.{mapEntry, asEntry};
 ghost use Rattle.log.specs.Card.{Content, segmentsIn};
 ghost use Rattle.log.specs.Store.{doStores, formatStores, entryStores};
@@ -32,7 +33,7 @@ fn store(bytes: &mut [u8], at: usize, value: u8)
 
 // How many stores an entry takes, wherever it goes: a write's data bytes, the entry's bytes, and the count.
 pub fn stores_of(e: LogEntry) -> usize
-    ensures { λ r. ⌜ ((p : Place) (m : Bool) (d : Content) → length d ≡ 256 → r ≡ length (entryStores p (mapEntry (λ s. d) (asEntry m e)))) ⌝ }
+    ensures { λ r. ⌜ ((p : Place) (m : Bool) (d : Content) → length d ≡ 256 → r ≡ length (entryStores p (mapEntry (withBody d) (asEntry m e)))) ⌝ }
 {
     SLOT * slots_of(e) + length_of(e) + 1
 }
@@ -48,8 +49,8 @@ pub fn store_step(
     member: bool,
     done: usize,
 )
-    requires { ⌜ Storable (now card) place (mapEntry (λ s. now content) (asEntry member e)) done × (length (now content) ≡ 256) × InTurn (now card) place (mapEntry (λ s. now content) (asEntry member e)) done ⌝ }
-    ensures { λ r. ⌜ now (card .exit) ≡ storedAt (now (card .entry)) place (mapEntry (λ s. now (content .entry)) (asEntry member e)) done ⌝ }
+    requires { ⌜ Storable (now card) place (mapEntry (withBody (now content)) (asEntry member e)) done × (length (now content) ≡ 256) × InTurn (now card) place (mapEntry (withBody (now content)) (asEntry member e)) done ⌝ }
+    ensures { λ r. ⌜ now (card .exit) ≡ storedAt (now (card .entry)) place (mapEntry (withBody (now (content .entry))) (asEntry member e)) done ⌝ }
 {
     let segment = SEGMENT * place.segment;
     let data_bytes = SLOT * slots_of(e);

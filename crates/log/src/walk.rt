@@ -7,6 +7,7 @@ use super::layout::COUNT_AT;
 use super::layout::ENTRIES_AT;
 use super::layout::SEGMENT;
 use super::location::card_location;
+use super::location::number_of;
 use super::place::Place;
 use super::place::opened;
 use super::reader::Found;
@@ -19,6 +20,7 @@ ghost use mathlib.Core.Bool.{true, false};
 ghost use Prim.Native.Nat.{_*_, _≤_, _<_};
 ghost use lib.ListN.{length};
 ghost use Rattle.lists.specs.promises.Tables.{Tables};
+ghost use Rattle.log.specs.Entry.{legal, asEntry};
 ghost use Rattle.log.specs.Card.{cardLength};
 ghost use Rattle.log.specs.promises.Location.{cardLocation};
 ghost use Rattle.log.specs.promises.Feed.{memory};
@@ -69,7 +71,7 @@ fn plain(
     at: usize,
     slots: usize,
 ) -> Step
-    requires { ⌜ (g < 64) × (slots < 256) ⌝ }
+    requires { ⌜ (g < 64) × (slots < 256) × (legal (asEntry false e) ≡ true) ⌝ }
     ensures { λ r. ⌜ Enters (memory (now (nodes .entry)) (now (members .entry))) run false e (cardLocation g slots) at slots r (memory (now (nodes .exit)) (now (members .entry))) ⌝ }
 {
     match e {
@@ -89,9 +91,13 @@ fn plain(
             let done = act(nodes, kind::PUT_AFTER, block, list, x, 0);
             go(done, at, slots, 0)
         }
-        LogEntry::Write { block, slot: _ } => {
-            let location = card_location(g, slots);
-            let done = act(nodes, kind::WRITE, block, 0, 0, location);
+        LogEntry::Write {
+            block,
+            slot: _,
+            race,
+        } => {
+            let number = number_of(card_location(g, slots), race);
+            let done = act(nodes, kind::WRITE, block, 0, 0, number);
             go(done, at, slots + 1, 0)
         }
         LogEntry::DeleteBlock { block } => {
@@ -119,7 +125,7 @@ fn member(
     at: usize,
     slots: usize,
 ) -> Step
-    requires { ⌜ (g < 64) × (slots < 256) × (run < 1000000) ⌝ }
+    requires { ⌜ (g < 64) × (slots < 256) × (run < 1000000) × (legal (asEntry false e) ≡ true) ⌝ }
     ensures { λ r. ⌜ ((t : Tables) → Enters (record { tables = t; members = now (members .entry) }) run true e (cardLocation g slots) at slots r (record { tables = t; members = now (members .exit) })) ⌝ }
 {
     match e {
@@ -136,9 +142,13 @@ fn member(
             let kept = keep(members, run, kind::PUT_AFTER, block, list, x, 0);
             go(kept, at, slots, run + 1)
         }
-        LogEntry::Write { block, slot: _ } => {
-            let location = card_location(g, slots);
-            let kept = keep(members, run, kind::WRITE, block, 0, 0, location);
+        LogEntry::Write {
+            block,
+            slot: _,
+            race,
+        } => {
+            let number = number_of(card_location(g, slots), race);
+            let kept = keep(members, run, kind::WRITE, block, 0, 0, number);
             go(kept, at, slots + 1, run + 1)
         }
         LogEntry::DeleteBlock { block } => {

@@ -59,3 +59,9 @@ partFrom line from whole most = cond (endedAt line from) (Value whole) (atMost (
 -- `V`, `V N`
 unfoldable pub lentFrom : List ℕ → ℕ → ℕ → ℕ → T.Two
 lentFrom line from whole most = let v = wordFrom line from in pair (numberAt line v) (partFrom line (v .end) whole most)
+
+-- "N bytes lent (0 to 300, 256: all), with a race": without N all 256 are lent, and without RACE it is 0
+unfoldable pub racedFrom : List ℕ → ℕ → T.Two
+racedFrom line from =
+    let w = wordFrom line from in
+    cond (endedAt line (w .end)) (pair (partFrom line from 256 300) (Value 0)) (pair (atMost (numberAt line w) 300) (oneFrom line (w .end)))

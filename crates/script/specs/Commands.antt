@@ -24,7 +24,7 @@ use Rattle.script.specs.declared.command.Tool.the-variants as S
 use Rattle.script.specs.declared.command.Cut.the-variants as X
 use Rattle.script.specs.declared.command.Lend.the-variants as L
 use Rattle.script.specs.declared.command.Print.the-variants as P
-use Rattle.script.specs.Arguments.{textOf, numberAt, endedAt, pair, triple, oneFrom, twoFrom, threeFrom, windowFrom, partFrom, lentFrom}
+use Rattle.script.specs.Arguments.{textOf, numberAt, endedAt, pair, triple, oneFrom, twoFrom, threeFrom, windowFrom, partFrom, lentFrom, racedFrom}
 use Rattle.script.specs.Spelling.{bytes}
 
 -- "Anything else that is not a command below, with its words, prints `?` and does nothing."
@@ -47,8 +47,9 @@ onStream s e = C.Call (Q.Edit s e)
 abbrev pub inView : ℕ → Look → Command
 inView v k = C.Call (Q.Look v k)
 
-abbrev pub ofWrite : Word → H.Three → Command
-ofWrite digits n = ofThree (λ s b k. onStream s (E.Write b k digits)) n
+-- stream and block; bytes lent and race
+abbrev pub ofWrite : Word → T.Two → T.Two → Command
+ofWrite digits n m = ofTwo (λ s b. ofTwo (λ k r. onStream s (E.Write b k r digits)) m) n
 
 -- "LEN bytes (0 to 266,240) of value BYTE"
 abbrev pub cardOf : T.Two → Command
@@ -61,13 +62,13 @@ pokeOf n = ofTwo (λ a b. cond (leb b 255) (C.Tool (S.Poke a b)) C.Unknown) n
 unfoldable pub alone : List ℕ → ℕ → Command → Command
 alone line from c = cond (endedAt line from) c C.Unknown
 
--- `S B HEX`, `S B HEX N`: "with N (0 to 300)"
+-- `S B HEX`, `S B HEX N`, `S B HEX N RACE`
 unfoldable pub writeFrom : List ℕ → ℕ → Command
 writeFrom line from =
     let s = wordFrom line from in
     let b = wordFrom line (s .end) in
     let x = wordFrom line (b .end) in
-    cond (isHex (textOf line x)) (ofWrite x (triple (numberAt line s) (pair (numberAt line b) (partFrom line (x .end) 256 300)))) C.Unknown
+    cond (isHex (textOf line x)) (ofWrite x (pair (numberAt line s) (numberAt line b)) (racedFrom line (x .end))) C.Unknown
 
 -- `V B`, `V B N`: "with N (0 to 300)"
 unfoldable pub readFrom : List ℕ → ℕ → Command

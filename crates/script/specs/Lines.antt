@@ -46,12 +46,16 @@ endedLine a stores ending = decimal a ++ spaced stores ++ 32 ∷ [] ++ ending ++
 unfoldable pub flushLine : Answer → List ℕ
 flushLine a = endedLine (a .code) (a .value) (cond (eqb (a .code) 0) (endingName (a .second)) (bytes "-"))
 
--- `A HEX`, refused: `A`
-unfoldable pub contentLine : List ℕ → List ℕ
-contentLine content = bytes "0 " ++ hexText content ++ 10 ∷ []
+-- `HEX race R`, "only where R is not 0"
+unfoldable pub racedText : List ℕ → ℕ → List ℕ
+racedText content race = hexText content ++ cond (eqb race 0) [] (bytes " race " ++ decimal race)
+
+-- `A HEX race R`, refused: `A`
+unfoldable pub contentLine : List ℕ → ℕ → List ℕ
+contentLine content race = bytes "0 " ++ racedText content race ++ 10 ∷ []
 
 unfoldable pub readLine : Answer → List ℕ → List ℕ
-readLine a content = cond (eqb (a .code) 0) (contentLine content) (answerLine a)
+readLine a content = cond (eqb (a .code) 0) (contentLine content (a .value)) (answerLine a)
 
 -- `A COUNT L L ..`: "COUNT lists in the order of their taking"
 unfoldable pub countedLine : ℕ → List ℕ → List ℕ
@@ -71,9 +75,9 @@ pageReply a buffer = cond (eqb (a .code) 0) (lengthAndText (a .value) (slice 0 (
 unfoldable pub cutLine : ℕ → List ℕ
 cutLine n = bytes "cut " ++ decimal n ++ 10 ∷ []
 
--- `block B: HEX`
-unfoldable pub blockLine : ℕ → List ℕ → List ℕ
-blockLine b content = bytes "block " ++ decimal b ++ bytes ": " ++ hexText content ++ 10 ∷ []
+-- `block B: HEX race R`
+unfoldable pub blockLine : ℕ → List ℕ → ℕ → List ℕ
+blockLine b content race = bytes "block " ++ decimal b ++ bytes ": " ++ racedText content race ++ 10 ∷ []
 
 -- "`list` and `show` print `block B: unwritten`"
 unfoldable pub unwrittenLine : ℕ → List ℕ

@@ -3,7 +3,7 @@ use text::decimal::number;
 use text::line::word;
 use text::number::Number;
 ghost use mathlib.Core.Path.{_≡_};
-ghost use Rattle.script.specs.Arguments.{endedAt, oneFrom, twoFrom, threeFrom, windowFrom, partFrom, lentFrom, atMost};
+ghost use Rattle.script.specs.Arguments.{endedAt, oneFrom, twoFrom, threeFrom, windowFrom, partFrom, lentFrom, racedFrom, atMost};
 ghost use Rattle.script.specs.Arguments.{pair as Arguments·pair, triple as Arguments·triple};
 
 pub enum Two {
@@ -15,6 +15,11 @@ pub enum Three {
     Values(u64, u64, u64),
     Bad,
 }
+
+// The bytes of a block, which are lent where no number says less, and the most that a line can have lent of one, or for an inventory.
+pub const BLOCK: u64 = 256;
+
+pub const MOST: u64 = 300;
 
 // Does no word stand behind the position?
 pub fn is_end(line: &[u8], from: usize) -> bool
@@ -78,6 +83,21 @@ pub fn number_lent(line: &[u8], from: usize, whole: u64, most: u64) -> Two
     let w = word(line, from);
     let lent = part_lent(line, w.end, whole, most);
     pair(number(line, w.start, w.end), lent)
+}
+
+// How many bytes of a block are lent, and the race.
+pub fn lent_raced(line: &[u8], from: usize) -> Two
+    ensures { λ r. ⌜ r ≡ racedFrom (now (line .entry)) from ⌝ }
+{
+    let w = word(line, from);
+    if is_end(line, w.end) {
+        pair(part_lent(line, from, BLOCK, MOST), Number::Value(0))
+    } else {
+        pair(
+            at_most(number(line, w.start, w.end), MOST),
+            one_number(line, w.end),
+        )
+    }
 }
 
 pub fn at_most(n: Number, most: u64) -> Number

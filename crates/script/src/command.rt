@@ -25,11 +25,23 @@ pub enum Request {
 
 pub enum Edit {
     NewList,
-    NewBlock { list: u64, predecessor: u64 },
+    NewBlock {
+        list: u64,
+        predecessor: u64,
+    },
     // The data stand as hex digits in the line; so many bytes of them are lent.
-    Write { block: u64, lent: u64, digits: Word },
-    DeleteBlock { block: u64 },
-    DeleteList { list: u64 },
+    Write {
+        block: u64,
+        lent: u64,
+        race: u64,
+        digits: Word,
+    },
+    DeleteBlock {
+        block: u64,
+    },
+    DeleteList {
+        list: u64,
+    },
 }
 
 pub enum Look {

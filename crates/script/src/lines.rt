@@ -6,7 +6,7 @@ use text::put::put_bytes;
 ghost use mathlib.Core.Path.{_≡_};
 ghost use Rattle.text.specs.Written.{Puts};
 ghost use Rattle.listing.specs.Listing.{numbers, listLine};
-ghost use Rattle.script.specs.Lines.{numberLine, pairLine, tripleLine, cutLine, blockLine, unwrittenLine, spaced};
+ghost use Rattle.script.specs.Lines.{numberLine, pairLine, tripleLine, cutLine, racedText, blockLine, unwrittenLine, spaced};
 
 // `A`
 pub fn put_number(out: &mut [u8], at: usize, a: u64) -> usize
@@ -76,14 +76,26 @@ pub fn put_list(out: &mut [u8], at: usize, list: u8, blocks: &[u8]) -> usize
     put_byte(out, position, b'\n')
 }
 
-// `block B: HEX`
-pub fn put_block(out: &mut [u8], at: usize, block: u8, content: &[u8]) -> usize
-    ensures { λ r. ⌜ Puts (now (out .entry)) at (blockLine block (now (content .entry))) (now (out .exit)) r ⌝ }
+// `HEX race R`, `HEX` where the race is 0
+pub fn put_raced(out: &mut [u8], at: usize, content: &[u8], race: u8) -> usize
+    ensures { λ r. ⌜ Puts (now (out .entry)) at (racedText (now (content .entry)) race) (now (out .exit)) r ⌝ }
+{
+    let mut position = put_hex(out, at, content);
+    if race == 0 {
+        return position;
+    }
+    position = put_bytes(out, position, b" race ");
+    put_decimal(out, position, race as u64)
+}
+
+// `block B: HEX race R`
+pub fn put_block(out: &mut [u8], at: usize, block: u8, content: &[u8], race: u8) -> usize
+    ensures { λ r. ⌜ Puts (now (out .entry)) at (blockLine block (now (content .entry)) race) (now (out .exit)) r ⌝ }
 {
     let mut position = put_bytes(out, at, b"block ");
     position = put_decimal(out, position, block as u64);
     position = put_bytes(out, position, b": ");
-    position = put_hex(out, position, content);
+    position = put_raced(out, position, content, race);
     put_byte(out, position, b'\n')
 }
 

@@ -76,20 +76,23 @@ pub fn new_block(n: Three) -> Command
     }
 }
 
-pub fn write(n: Three, digits: Word) -> Command
-    ensures { λ r. ⌜ r ≡ ofWrite digits n ⌝ }
+// Stream and block; bytes lent and race.
+pub fn write(n: Two, m: Two, digits: Word) -> Command
+    ensures { λ r. ⌜ r ≡ ofWrite digits n m ⌝ }
 {
-    match n {
-        Three::Values(stream, block, lent) => {
-            let edit = Edit::Write {
-                block,
-                lent,
-                digits,
-            };
-            Command::Call(Request::Edit { stream, edit })
-        }
-        Three::Bad => Command::Unknown,
-    }
+    let Two::Values(stream, block) = n else {
+        return Command::Unknown;
+    };
+    let Two::Values(lent, race) = m else {
+        return Command::Unknown;
+    };
+    let edit = Edit::Write {
+        block,
+        lent,
+        race,
+        digits,
+    };
+    Command::Call(Request::Edit { stream, edit })
 }
 
 pub fn read(n: Three) -> Command

@@ -1,5 +1,8 @@
 // A line of a script as a command: the rows of the language's table, in order.
+use crate::arguments::BLOCK;
+use crate::arguments::MOST;
 use crate::arguments::is_end;
+use crate::arguments::lent_raced;
 use crate::arguments::number_lent;
 use crate::arguments::one_number;
 use crate::arguments::pair;
@@ -28,16 +31,12 @@ ghost use Rattle.script.specs.Commands.{alone as Commands·alone};
 // The most bytes of a line.
 const LONGEST_LINE: usize = 1023;
 
-// The bytes lent for a block, an inventory and a page where a line does not say how many. The language fixes the page's; the longest page has more.
-const BLOCK: u64 = 256;
-
+// The bytes lent for an inventory and a page where a line does not say how many. The language fixes the page's; the longest page has more.
 const LISTS: u64 = limits::LISTS as u64;
 
 const PAGE_LENT: u64 = 820;
 
-// The most that a line can say, and for a page.
-const MOST: u64 = 300;
-
+// The most that a line can say of a page.
 const MOST_PAGE: u64 = 1000;
 
 pub fn command(line: &[u8]) -> Command
@@ -172,8 +171,8 @@ fn write(line: &[u8], from: usize) -> Command
     }
     let stream = number(line, s.start, s.end);
     let block = number(line, b.start, b.end);
-    let lent = part_lent(line, digits.end, BLOCK, MOST);
-    numbered::write(triple(stream, pair(block, lent)), digits)
+    let lent = lent_raced(line, digits.end);
+    numbered::write(pair(stream, block), lent, digits)
 }
 
 fn read(line: &[u8], from: usize) -> Command

@@ -2,21 +2,22 @@
 use crate::lines::put_number;
 use crate::lines::put_numbers;
 use crate::lines::put_pair;
+use crate::lines::put_raced;
 use crate::lines::put_spaced;
 use crate::lines::put_triple;
 use disk::answer::FlushReply;
 use disk::answer::MountReply;
 use disk::answer::NumberReply;
+use disk::answer::ReadReply;
 use disk::answer::Refusal;
 use disk::answer::Reply;
 use text::decimal::put_decimal;
-use text::hex::put_hex;
 use text::line::part;
 use text::put::put_byte;
 use text::put::put_bytes;
 ghost use mathlib.Core.Path.{_≡_};
 ghost use Rattle.text.specs.Written.{Puts};
-ghost use Rattle.disk.specs.Answers.{number, replyAnswer, numberAnswer, mountAnswer, flushAnswer};
+ghost use Rattle.disk.specs.Answers.{number, replyAnswer, numberAnswer, readAnswer, mountAnswer, flushAnswer};
 ghost use Rattle.script.specs.Lines.{answerLine, numberedLine, mountLine, flushLine, endedLine, readLine, contentLine, inventoryLine, countedLine, lengthAndText, pageReply};
 
 // `A`
@@ -74,21 +75,21 @@ fn put_ended(out: &mut [u8], at: usize, a: u64, stores: u64, ending: &[u8]) -> u
     put_byte(out, position, b'\n')
 }
 
-// `A HEX`, refused: `A`
-pub fn put_read(out: &mut [u8], at: usize, reply: Reply, content: &[u8]) -> usize
-    ensures { λ r. ⌜ Puts (now (out .entry)) at (readLine (replyAnswer reply) (now (content .entry))) (now (out .exit)) r ⌝ }
+// `A HEX race R`, refused: `A`
+pub fn put_read(out: &mut [u8], at: usize, reply: ReadReply, content: &[u8]) -> usize
+    ensures { λ r. ⌜ Puts (now (out .entry)) at (readLine (readAnswer reply) (now (content .entry))) (now (out .exit)) r ⌝ }
 {
     match reply {
-        Reply::Accepted => put_content(out, at, content),
-        Reply::Refused(x) => put_number(out, at, number_of(x)),
+        ReadReply::Race(race) => put_content(out, at, content, race),
+        ReadReply::Refused(x) => put_number(out, at, number_of(x)),
     }
 }
 
-fn put_content(out: &mut [u8], at: usize, content: &[u8]) -> usize
-    ensures { λ r. ⌜ Puts (now (out .entry)) at (contentLine (now (content .entry))) (now (out .exit)) r ⌝ }
+fn put_content(out: &mut [u8], at: usize, content: &[u8], race: u8) -> usize
+    ensures { λ r. ⌜ Puts (now (out .entry)) at (contentLine (now (content .entry)) race) (now (out .exit)) r ⌝ }
 {
     let mut position = put_bytes(out, at, b"0 ");
-    position = put_hex(out, position, content);
+    position = put_raced(out, position, content, race);
     put_byte(out, position, b'\n')
 }
 

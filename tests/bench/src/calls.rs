@@ -198,9 +198,9 @@ fn start(call: Call, disk: &mut Disk) -> Option<Record> {
     match call {
         Call::Read(_) => {
             lent.begin(1, 1).ok()?;
-            lent.write(1, 1, &CONTENT).ok()?;
+            lent.write(1, 1, &CONTENT, 0).ok()?;
         }
-        Call::FlushWrite => lent.write(0, 1, &CONTENT).ok()?,
+        Call::FlushWrite => lent.write(0, 1, &CONTENT, 0).ok()?,
         Call::FlushLists => {
             for _ in 0..16 {
                 let list = lent.new_list(0).ok()?;
@@ -218,19 +218,19 @@ fn call_second(call: Call, disk: &mut Disk, record: &mut Record) -> Option<()> {
     let (tail, count) = (*tail, card[*tail]);
     match call {
         Call::Mount => disk.lend(record).mount().ok(),
-        Call::Write => disk.lend(record).write(0, 1, &CONTENT).ok(),
+        Call::Write => disk.lend(record).write(0, 1, &CONTENT, 0).ok(),
         Call::Read(view) => {
             let mut to = std::mem::take(&mut disk.destination);
             let answer = disk.lend(record).read(view as u64, 1, &mut to).ok();
             disk.destination = to;
-            answer
+            answer.map(|_race| ())
         }
         Call::Unit => {
             let mut lent = disk.lend(record);
             lent.begin(1, 1).ok()?;
-            lent.write(1, 1, &CONTENT).ok()?;
+            lent.write(1, 1, &CONTENT, 0).ok()?;
             let block = lent.new_block(1, 1, 1).ok()?;
-            lent.write(1, block.into(), &CONTENT).ok()?;
+            lent.write(1, block.into(), &CONTENT, 0).ok()?;
             lent.end(1).ok()
         }
         Call::FlushWrite | Call::FlushLists => {

@@ -11,16 +11,18 @@ pub enum Kind {
     Chains,
     Long,
     Writes,
+    Races,
     Units,
 }
 
 impl Kind {
-    pub const ALL: [Kind; 6] = [
+    pub const ALL: [Kind; 7] = [
         Kind::Lists,
         Kind::Blocks,
         Kind::Chains,
         Kind::Long,
         Kind::Writes,
+        Kind::Races,
         Kind::Units,
     ];
 
@@ -31,6 +33,7 @@ impl Kind {
             Kind::Chains => "chains",
             Kind::Long => "long",
             Kind::Writes => "writes",
+            Kind::Races => "races",
             Kind::Units => "units",
         }
     }
@@ -59,6 +62,7 @@ impl Kind {
             ],
             Kind::Long => [long_list(list), vec![vec![DELETE_LIST, list]]].concat(),
             Kind::Writes => vec![vec![WRITE, 1, 0]],
+            Kind::Races => vec![vec![RACE | WRITE, 1, 0, 1 + (number % 24) as u8]],
             Kind::Units => vec![
                 vec![MEMBER | PUT_FIRST, block, 1],
                 vec![MEMBER | DELETE_BLOCK, block],
@@ -75,6 +79,7 @@ const WRITE: u8 = 9;
 const COMMIT: u8 = 16;
 const DELETE_BLOCK: u8 = 33;
 const DELETE_LIST: u8 = 34;
+const RACE: u8 = 64;
 const MEMBER: u8 = 128;
 
 /// A card, and what its summaries hold.
@@ -146,11 +151,11 @@ fn filled(coming: impl Iterator<Item = Vec<u8>>, segments: usize) -> Card {
         let end = at + ENTRY_BYTES;
         while let Some(entry) = coming.next_if(|entry| fits(entry, at, end, slots)) {
             card.bytes[at..at + entry.len()].copy_from_slice(&entry);
-            at += entry.len();
-            if entry[0] == WRITE {
-                card.bytes[at - 1] = slots;
+            if is_write(&entry) {
+                card.bytes[at + 2] = slots;
                 slots += 1;
             }
+            at += entry.len();
             card.bytes[count_at(segment)] += 1;
             card.entries += 1;
         }
@@ -160,5 +165,9 @@ fn filled(coming: impl Iterator<Item = Vec<u8>>, segments: usize) -> Card {
 }
 
 fn fits(entry: &[u8], at: usize, end: usize, slots: u8) -> bool {
-    at + entry.len() <= end && (entry[0] != WRITE || slots < SLOTS)
+    at + entry.len() <= end && (!is_write(entry) || slots < SLOTS)
+}
+
+fn is_write(entry: &[u8]) -> bool {
+    entry[0] & !RACE == WRITE
 }

@@ -222,7 +222,7 @@ fn main() {
         _ => {
             eprintln!("bench [--calls proved|second CALL CARD TIMES]");
             eprintln!("bench [--long proved|second kept|deleted]");
-            eprintln!("bench [--once proved|second|sum lists|blocks|chains|long|writes|units SEGMENTS]");
+            eprintln!("bench [--once proved|second|sum lists|blocks|chains|long|writes|races|units SEGMENTS]");
             std::process::exit(2);
         }
     }

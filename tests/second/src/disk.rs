@@ -1,11 +1,11 @@
-//! The calls: document 01, "The calls", "Flush" and "The questions, in order"; document 02, E1, E4, E7.
+//! The calls: document 01, "The calls", "Flush" and "The questions, in order"; document 02, E1, E4, E7, E10.
 //!
 //! Each call asks its questions in the order of their numbers and returns the first that is answered no; "a call
 //! passes over what it doesn't use". Numbers come as wide as a caller may write them and are never cut.
 
 use crate::entry::{Change, Entry};
 use crate::limits::{
-    ALLOWANCE, BLOCKS, BLOCK_BYTES, JOURNAL, JOURNAL_BYTES, LISTS, QUEUE_BYTES, SEGMENT_BYTES, UNITS, WINDOWS,
+    ALLOWANCE, BLOCKS, BLOCK_BYTES, JOURNAL, JOURNAL_BYTES, LISTS, QUEUE_BYTES, RACES, SEGMENT_BYTES, UNITS, WINDOWS,
 };
 use crate::log::{self, Fault, Log, Stores};
 use crate::page;
@@ -180,15 +180,17 @@ impl Lent<'_> {
         Ok(block)
     }
 
-    /// Write: gives `block` the 256 bytes of `data`. Asks 1, 3, 4, 5, 8, then 11 or 13.
-    pub fn write(&mut self, stream: u64, block: u64, data: &[u8]) -> Result<(), Refusal> {
+    /// Write: gives `block` the 256 bytes of `data`, for a race or, with 0, for none. Asks 1, 3, 4, 5, 8, then 11 or 13;
+    /// "a race above 24 in a call is refused 5".
+    pub fn write(&mut self, stream: u64, block: u64, data: &[u8], race: u64) -> Result<(), Refusal> {
         let versions = self.versions()?;
         let to = self.stream(stream)?;
         let block = number_in_range(block, 1, BLOCKS)?;
+        let race = number_in_range(race, 0, RACES)?;
         length_is(data, BLOCK_BYTES)?;
         block_is_on_a_list(&self.view(&versions, stream)?, block)?;
         self.takes_change(to)?;
-        self.add(to, Change::Write { block }).copy_from_slice(data);
+        self.add(to, Change::Write { block, race }).copy_from_slice(data);
         Ok(())
     }
 
@@ -316,16 +318,16 @@ impl Lent<'_> {
 
     // ---- Look-ups ----------------------------------------------------------------------------------------------
 
-    /// Read: the 256 bytes of `block` in a view. Asks 1, 3, 4, 5, 8, 15.
-    pub fn read(&self, view: u64, block: u64, destination: &mut [u8]) -> Result<(), Refusal> {
+    /// Read: the 256 bytes of `block` in a view; "Read returns the race beside the content". Asks 1, 3, 4, 5, 8, 15.
+    pub fn read(&self, view: u64, block: u64, destination: &mut [u8]) -> Result<u8, Refusal> {
         let versions = self.versions()?;
         let view = self.view(&versions, view)?;
         let block = number_in_range(block, 1, BLOCKS)?;
         length_is(destination, BLOCK_BYTES)?;
         block_is_on_a_list(&view, block)?;
-        let content = view.content(block).ok_or(Refusal::Unwritten)?;
-        destination.copy_from_slice(self.bytes_of(content));
-        Ok(())
+        let written = view.written(block).ok_or(Refusal::Unwritten)?;
+        destination.copy_from_slice(self.bytes_of(written.content));
+        Ok(written.race)
     }
 
     /// The block after a given one on a list: 0 asks for the first, and 0 is returned at the end. Asks 1, 3, 4, 5, 7,

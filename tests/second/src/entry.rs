@@ -1,6 +1,6 @@
-//! Entries of the log and their bytes: document 01, "Entries".
+//! Entries of the log and their bytes: document 01, "Entries"; document 02, E10.
 
-use crate::limits::{BLOCKS, JOURNAL, LISTS, SLOTS};
+use crate::limits::{BLOCKS, JOURNAL, LISTS, RACES, SLOTS};
 
 /// A change of the state. The slot of a write is known only where it is stored, so it is no part of it.
 #[derive(Clone, Copy, PartialEq, Eq, Debug)]
@@ -30,6 +30,8 @@ pub enum Change {
     Write {
         /// 1 to 64.
         block: u8,
+        /// "A write now carries a race from 0 to 24, where 0 means none."
+        race: u8,
     },
     /// Take a block off its list.
     DeleteBlock {
@@ -56,7 +58,8 @@ impl Change {
                 list,
                 predecessor,
             } => block_in_range(block) && list_in_range(list) && block_in_range(predecessor),
-            Change::Write { block } | Change::DeleteBlock { block } => block_in_range(block),
+            Change::Write { block, race } => block_in_range(block) && race <= RACES,
+            Change::DeleteBlock { block } => block_in_range(block),
         }
     }
 
@@ -92,6 +95,8 @@ pub enum Cause {
     Map,
     /// One of its fields is out of range.
     Range,
+    /// Bit 6 stands and the race byte is 0.
+    Race,
     /// It doesn't end within the summary.
     Bounds,
     /// Its slot is not the next one.
@@ -111,15 +116,17 @@ const PREDECESSOR: u8 = 1 << 2;
 const SLOT: u8 = 1 << 3;
 const COUNT: u8 = 1 << 4;
 const REMOVAL: u8 = 1 << 5;
+const RACE: u8 = 1 << 6;
 const MEMBER: u8 = 1 << 7;
 /// The bits that carry a byte each.
-const FIELDS: u8 = BLOCK | LIST | PREDECESSOR | SLOT | COUNT;
+const FIELDS: u8 = BLOCK | LIST | PREDECESSOR | SLOT | COUNT | RACE;
 
-// The maps of the seven kinds.
+// The maps of the seven kinds; that of a write with a race besides.
 const TAKE_LIST: u8 = LIST;
 const PUT_FIRST: u8 = BLOCK | LIST;
 const PUT_AFTER: u8 = BLOCK | LIST | PREDECESSOR;
 const WRITE: u8 = BLOCK | SLOT;
+const WRITE_WITH_RACE: u8 = WRITE | RACE;
 const DELETE_BLOCK: u8 = REMOVAL | BLOCK;
 const DELETE_LIST: u8 = REMOVAL | LIST;
 const COMMIT: u8 = COUNT;
@@ -128,6 +135,7 @@ const COMMIT: u8 = COUNT;
 const MEMBER_PUT_FIRST: u8 = MEMBER | PUT_FIRST;
 const MEMBER_PUT_AFTER: u8 = MEMBER | PUT_AFTER;
 const MEMBER_WRITE: u8 = MEMBER | WRITE;
+const MEMBER_WRITE_WITH_RACE: u8 = MEMBER | WRITE_WITH_RACE;
 const MEMBER_DELETE_BLOCK: u8 = MEMBER | DELETE_BLOCK;
 const MEMBER_DELETE_LIST: u8 = MEMBER | DELETE_LIST;
 
@@ -178,7 +186,7 @@ impl Decoded {
     }
 }
 
-/// "1 plus the number of ones in bits 0 to 4".
+/// "1 plus the number of ones in bits 0 to 4"; with E10 "an entry's length counts bit 6 too".
 fn length_of_map(map: u8) -> usize {
     1 + (map & FIELDS).count_ones() as usize
 }
@@ -223,7 +231,9 @@ impl Entry {
             Change::TakeList { .. } => TAKE_LIST,
             Change::PutFirst { .. } => PUT_FIRST,
             Change::PutAfter { .. } => PUT_AFTER,
-            Change::Write { .. } => WRITE,
+            // "Race 0 is written without it".
+            Change::Write { race: 0, .. } => WRITE,
+            Change::Write { .. } => WRITE_WITH_RACE,
             Change::DeleteBlock { .. } => DELETE_BLOCK,
             Change::DeleteList { .. } => DELETE_LIST,
         }
@@ -242,7 +252,8 @@ impl Entry {
                     list,
                     predecessor,
                 } => Encoded::new(map, [block, list, predecessor]),
-                Change::Write { block } => Encoded::new(map, [block, slot]),
+                Change::Write { block, race: 0 } => Encoded::new(map, [block, slot]),
+                Change::Write { block, race } => Encoded::new(map, [block, slot, race]),
                 Change::DeleteBlock { block } => Encoded::new(map, [block]),
             },
         }
@@ -268,7 +279,12 @@ impl Entry {
                 };
                 (change, 0, length_of_map(PUT_AFTER))
             }
-            [WRITE | MEMBER_WRITE, block, slot, ..] => (Change::Write { block }, slot, length_of_map(WRITE)),
+            [WRITE | MEMBER_WRITE, block, slot, ..] => (Change::Write { block, race: 0 }, slot, length_of_map(WRITE)),
+            // "A race byte of 0 or above 24 is a fault in mounting"; that it is above 24 is judged with the other numbers.
+            [WRITE_WITH_RACE | MEMBER_WRITE_WITH_RACE, _, _, 0, ..] => return Err(Cause::Race),
+            [WRITE_WITH_RACE | MEMBER_WRITE_WITH_RACE, block, slot, race, ..] => {
+                (Change::Write { block, race }, slot, length_of_map(WRITE_WITH_RACE))
+            }
             [DELETE_BLOCK | MEMBER_DELETE_BLOCK, block, ..] => {
                 (Change::DeleteBlock { block }, 0, length_of_map(DELETE_BLOCK))
             }
@@ -307,7 +323,9 @@ mod tests {
                 7,
                 vec![64, 16, 1],
             ),
-            (Change::Write { block }, 9, vec![64, 13]),
+            (Change::Write { block, race: 0 }, 9, vec![64, 13]),
+            (Change::Write { block, race: 1 }, 73, vec![64, 13, 1]),
+            (Change::Write { block, race: 24 }, 73, vec![64, 13, 24]),
             (Change::DeleteBlock { block }, 33, vec![64]),
             (Change::DeleteList { list }, 34, vec![16]),
         ];
@@ -335,10 +353,22 @@ mod tests {
         }
     }
 
+    /// "A race byte of 0 or above 24 is a fault in mounting."
     #[test]
-    fn only_twelve_maps_are_legal() {
+    fn races_are_from_1_to_24() {
+        for map in [73, 201] {
+            let is_legal = |&race: &u8| Entry::decode(&[map, 1, 0, race]).is_ok();
+            let legal: Vec<u8> = (0..=255).filter(is_legal).collect();
+            assert_eq!(legal, (1..=24).collect::<Vec<u8>>());
+        }
+        assert!(Change::Write { block: 1, race: 24 }.in_range());
+        assert!(!Change::Write { block: 1, race: 25 }.in_range());
+    }
+
+    #[test]
+    fn only_fourteen_maps_are_legal() {
         let is_legal = |&map: &u8| Entry::decode(&[map, 1, 1, 1, 1, 1]).is_ok();
         let legal: Vec<u8> = (0..=255).filter(is_legal).collect();
-        assert_eq!(legal, [2, 3, 7, 9, 16, 33, 34, 131, 135, 137, 161, 162]);
+        assert_eq!(legal, [2, 3, 7, 9, 16, 33, 34, 73, 131, 135, 137, 161, 162, 201]);
     }
 }

@@ -1,4 +1,4 @@
-//! The sizes and ranges of document 01, "The card and the record"; document 02, E7.
+//! The sizes and ranges of document 01, "The card and the record"; document 02, E7, E10.
 
 /// Bytes of a block, and of a slot that holds one.
 pub const BLOCK_BYTES: usize = 256;
@@ -21,6 +21,8 @@ pub const LISTS: u8 = 16;
 pub const UNITS: u8 = 4;
 /// Windows are numbered from 1 to this.
 pub const WINDOWS: u8 = 16;
+/// Races are numbered from 1 to this; 0 means none.
+pub const RACES: u8 = 24;
 
 /// Entries that a unit's journal takes, and most members of a commit.
 pub const JOURNAL: usize = 15;

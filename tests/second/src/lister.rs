@@ -28,8 +28,8 @@ pub fn lines(card: &[u8]) -> String {
     }
     for block in (1..=BLOCKS).filter(|&block| state.is_on_a_list(block)) {
         // Writing to a string cannot fail.
-        let _ = match state.content(block) {
-            Some(content) => writeln!(lines, "block {block}: {}", sum(card, content)),
+        let _ = match state.written(block) {
+            Some(written) => writeln!(lines, "block {block}: {}", sum(card, written.content)),
             None => writeln!(lines, "block {block}: {UNWRITTEN}"),
         };
     }

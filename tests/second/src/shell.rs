@@ -20,10 +20,12 @@ const PAGE_BYTES: usize = 820;
 const MOST_PAGE_BYTES: usize = 1_000;
 /// The window of `begin` and `conflicts` if not told which.
 const WINDOW: u64 = 1;
+/// The race of `write` if not told which.
+const NO_RACE: u64 = 0;
 /// What a cut leaves in both data buffers.
 const CUT_BYTE: u8 = 165;
 /// Most words of a command.
-const WORDS: usize = 5;
+const WORDS: usize = 6;
 
 /// The shell's card, buffers and record, and how much of each is lent.
 #[derive(Clone)]
@@ -126,12 +128,17 @@ impl Shell {
             }
             ["write", stream, block, data] => {
                 let (stream, block, data) = (number(stream)?, number(block)?, data_of(data)?);
-                print_answer(output, self.lent().write(stream, block, &data[..BLOCK_BYTES]));
+                print_answer(output, self.lent().write(stream, block, &data[..BLOCK_BYTES], NO_RACE));
             }
             ["write", stream, block, data, length] => {
                 let (stream, block, data) = (number(stream)?, number(block)?, data_of(data)?);
                 let length = number_to(length, PART_BYTES)?;
-                print_answer(output, self.lent().write(stream, block, &data[..length]));
+                print_answer(output, self.lent().write(stream, block, &data[..length], NO_RACE));
+            }
+            ["write", stream, block, data, length, race] => {
+                let (stream, block, data) = (number(stream)?, number(block)?, data_of(data)?);
+                let (length, race) = (number_to(length, PART_BYTES)?, number(race)?);
+                print_answer(output, self.lent().write(stream, block, &data[..length], race));
             }
             ["read", view, block] => self.print_read(output, number(view)?, number(block)?, BLOCK_BYTES),
             ["read", view, block, length] => {
@@ -243,7 +250,7 @@ impl Shell {
         let mut destination = [0; PART_BYTES];
         let destination = &mut destination[..length];
         match self.lent().read(view, block, destination) {
-            Ok(()) => print(output, format_args!("0 {}", hex(destination))),
+            Ok(race) => print(output, format_args!("0 {}{}", hex(destination), race_words(race))),
             Err(refusal) => print(output, format_args!("{}", refusal.number())),
         }
     }
@@ -286,7 +293,10 @@ impl Shell {
         for block in state.lists().iter().flat_map(|&list| state.blocks_on(list)) {
             let mut data = [0; BLOCK_BYTES];
             match lent.read(view, u64::from(block), &mut data) {
-                Ok(()) => print(output, format_args!("block {block}: {}", hex(&data))),
+                Ok(race) => print(
+                    output,
+                    format_args!("block {block}: {}{}", hex(&data), race_words(race)),
+                ),
                 // The view is open and has the block on a list, so that nothing else is refused.
                 Err(_) => print(output, format_args!("block {block}: {}", lister::UNWRITTEN)),
             }
@@ -399,6 +409,14 @@ fn hex(data: &[u8]) -> String {
         .iter()
         .flat_map(|&byte| [digit(byte >> 4), digit(byte & 15)])
         .collect()
+}
+
+/// What stands behind the digits of a content: its race, "only where R is not 0".
+fn race_words(race: u8) -> String {
+    match race {
+        0 => String::new(),
+        race => format!(" race {race}"),
+    }
 }
 
 fn ending_word(ending: Ending) -> &'static str {

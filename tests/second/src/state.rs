@@ -1,5 +1,6 @@
 //! What a state is and how entries act on it: document 01, "What a state is", and document 02, E4: a block has a content
-//! only if it was "written since its present put".
+//! only if it was "written since its present put"; E10: with it stands the race "for which [..] a pool block was last
+//! written".
 
 use crate::entry::{Change, Entry};
 use crate::limits::{BLOCKS, JOURNAL, LISTS};
@@ -28,7 +29,16 @@ pub enum Content {
     },
 }
 
-/// The lists taken, the blocks on each in order, and the content of each of these blocks that is written.
+/// What the last write of a block brought.
+#[derive(Clone, Copy, PartialEq, Eq, Debug)]
+pub struct Written {
+    /// Where its bytes stand.
+    pub content: Content,
+    /// Its race, 0 if it has none.
+    pub race: u8,
+}
+
+/// The lists taken, the blocks on each in order, and what was last written to each of these blocks that is written.
 ///
 /// Tables have one element for each number and one for number 0, which means "none".
 #[derive(Clone, Copy, Debug)]
@@ -45,8 +55,8 @@ pub struct State {
     next: [u8; BLOCKS as usize + 1],
     /// The list that a block is on, 0 if it is on none.
     list_of: [u8; BLOCKS as usize + 1],
-    /// The content of a block that is on a list, none if it was not written since its put.
-    content: [Option<Content>; BLOCKS as usize + 1],
+    /// What was last written to a block that is on a list, none if it was not written since its put.
+    written: [Option<Written>; BLOCKS as usize + 1],
 }
 
 impl State {
@@ -58,7 +68,7 @@ impl State {
         first: [0; LISTS as usize + 1],
         next: [0; BLOCKS as usize + 1],
         list_of: [0; BLOCKS as usize + 1],
-        content: [None; BLOCKS as usize + 1],
+        written: [None; BLOCKS as usize + 1],
     };
 
     /// The lists taken, in the order of their taking.
@@ -84,9 +94,9 @@ impl State {
         self.list_of(block).is_some()
     }
 
-    /// The content of `block`, 1 to 64, if it is on some list and was "written since its present put".
-    pub fn content(&self, block: u8) -> Option<Content> {
-        self.content[usize::from(block)].filter(|_| self.is_on_a_list(block))
+    /// What was last written to `block`, 1 to 64, if it is on some list and was "written since its present put".
+    pub fn written(&self, block: u8) -> Option<Written> {
+        self.written[usize::from(block)].filter(|_| self.is_on_a_list(block))
     }
 
     /// The block after `predecessor` on `list`; predecessor 0 asks for the first, and 0 is the end.
@@ -137,10 +147,10 @@ impl State {
                 }
                 applies
             }
-            Change::Write { block } => {
+            Change::Write { block, race } => {
                 let applies = self.is_on_a_list(block);
                 if applies {
-                    self.content[usize::from(block)] = Some(content);
+                    self.written[usize::from(block)] = Some(Written { content, race });
                 }
                 applies
             }
@@ -172,7 +182,7 @@ impl State {
         self.next[usize::from(block)] = self.block_after(list, predecessor);
         self.set_block_after(list, predecessor, block);
         self.list_of[usize::from(block)] = list;
-        self.content[usize::from(block)] = None;
+        self.written[usize::from(block)] = None;
     }
 
     fn delete_block(&mut self, block: u8, list: u8) {

@@ -1,6 +1,7 @@
 //! The book of document 01 ("Flush", demand 3), kept beside random scripts: the committed state is what the history
 //! makes, the persistent one what its longest prefix makes whose closing stores are on the card, and a mount gives
-//! that state, whatever was cut. Which blocks are unwritten is part of a state (document 02, E4).
+//! that state, whatever was cut. Which blocks are unwritten is part of a state (document 02, E4), and so is the race of each
+//! that is written (E10).
 //!
 //! The book is fed the lines of a script, which calls are accepted, which are refused 12, and the numbers given. It
 //! shares nothing with the library but the sizes: states are lists of lists here.
@@ -20,23 +21,31 @@ const LINES_BETWEEN_LOOKS: u64 = 5;
 enum Change {
     TakeList { list: u8 },
     Put { block: u8, list: u8, predecessor: u8 },
-    Write { block: u8, data: Box<[u8; BLOCK_BYTES]> },
+    Write { block: u8, written: Written },
     DeleteBlock { block: u8 },
     DeleteList { list: u8 },
+}
+
+/// What a write brings: its bytes and its race (document 02, E10).
+#[derive(Clone)]
+struct Written {
+    data: Box<[u8; BLOCK_BYTES]>,
+    race: u8,
 }
 
 impl Change {
     fn length(&self) -> usize {
         match self {
             Change::TakeList { .. } | Change::DeleteBlock { .. } | Change::DeleteList { .. } => 2,
-            Change::Put { predecessor: 0, .. } | Change::Write { .. } => 3,
+            Change::Put { predecessor: 0, .. } => 3,
             Change::Put { .. } => 4,
+            Change::Write { written, .. } => 3 + usize::from(written.race > 0),
         }
     }
 }
 
-/// A block's number and its bytes, none until it is written.
-type Block = (u8, Option<[u8; BLOCK_BYTES]>);
+/// A block's number and what was last written to it, none until it is written.
+type Block = (u8, Option<Written>);
 
 /// Lists taken in the order of their taking, each with its blocks.
 #[derive(Default)]
@@ -86,12 +95,12 @@ impl Model {
                 };
                 blocks.insert(place, (block, None));
             }
-            Change::Write { block, ref data } => {
+            Change::Write { block, ref written } => {
                 let mut blocks = self.lists.iter_mut().flat_map(|(_, blocks)| blocks);
                 blocks
                     .find(|(other, _)| *other == block)
                     .expect("the block is on a list")
-                    .1 = Some(**data);
+                    .1 = Some(written.clone());
             }
             Change::DeleteBlock { block } => {
                 let before: usize = self.lists.iter().map(|(_, blocks)| blocks.len()).sum();
@@ -115,9 +124,13 @@ impl Model {
             let numbers: String = blocks.iter().map(|(block, _)| format!(" {block}")).collect();
             writeln!(lines, "list {list}:{numbers}").unwrap();
         }
-        for (block, data) in self.lists.iter().flat_map(|(_, blocks)| blocks) {
-            let digits = data.map_or("unwritten".to_string(), |data| digits(&data));
-            writeln!(lines, "block {block}: {digits}").unwrap();
+        for (block, written) in self.lists.iter().flat_map(|(_, blocks)| blocks) {
+            let words = match written {
+                None => "unwritten".to_string(),
+                Some(Written { data, race: 0 }) => digits(data),
+                Some(Written { data, race }) => format!("{} race {race}", digits(data)),
+            };
+            writeln!(lines, "block {block}: {words}").unwrap();
         }
         lines
     }
@@ -341,7 +354,9 @@ impl Keeper {
                     *byte = u8::from_str_radix(std::str::from_utf8(pair).unwrap(), 16).unwrap();
                 }
                 let block = number(2) as u8;
-                book.change(number(1) as usize, Change::Write { block, data });
+                let race = if words.len() > 5 { number(5) as u8 } else { 0 };
+                let written = Written { data, race };
+                book.change(number(1) as usize, Change::Write { block, written });
             }
             ("delblock", true) => {
                 let block = number(2) as u8;

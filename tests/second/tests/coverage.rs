@@ -201,7 +201,7 @@ fn view_of(line: &str) -> &'static str {
 /// Whether a block that is on lists of both states is written in `state` and unwritten in `other`.
 fn loses_a_content(state: &State, other: &State) -> bool {
     (1..=BLOCKS)
-        .any(|block| state.content(block).is_some() && other.is_on_a_list(block) && other.content(block).is_none())
+        .any(|block| state.written(block).is_some() && other.is_on_a_list(block) && other.written(block).is_none())
 }
 
 #[test]

@@ -1,5 +1,5 @@
 //! The "Runs with known outcome" of document 01, in their order; those that it marks P are named so. Then what document 02
-//! says of blocks that nobody wrote (E4), of printed pages (E1) and of windows (E7).
+//! says of blocks that nobody wrote (E4), of printed pages (E1), of windows (E7) and of races (E10).
 
 use second::disk::{Ending, Flushed, Lent, MountRefusal, Refusal};
 use second::entry::Cause;
@@ -44,7 +44,7 @@ impl Owner {
         let mut owner = Owner::formatted(segments);
         assert_eq!(owner.lend().new_list(0), Ok(1));
         assert_eq!(owner.lend().new_block(0, 1, 0), Ok(1));
-        assert_eq!(owner.lend().write(0, 1, &seven()), Ok(()));
+        assert_eq!(owner.lend().write(0, 1, &seven(), 0), Ok(()));
         owner
     }
 
@@ -60,7 +60,7 @@ impl Owner {
         let mut owner = Owner::begun_and_flushed();
         assert_eq!(owner.lend().begin(1, 1), Ok(()));
         assert_eq!(owner.lend().new_block(1, 1, 1), Ok(2));
-        assert_eq!(owner.lend().write(1, 2, &[9; BLOCK_BYTES]), Ok(()));
+        assert_eq!(owner.lend().write(1, 2, &[9; BLOCK_BYTES], 0), Ok(()));
         owner
     }
 
@@ -77,13 +77,23 @@ impl Owner {
         assert_eq!(self.lend().mount(), Ok(()));
     }
 
-    /// A read; refused, it leaves the destination as it was.
+    /// A read without its race.
     fn read(&mut self, view: u64, block: u64) -> Result<[u8; BLOCK_BYTES], Refusal> {
+        self.read_with_race(view, block).map(|(data, _)| data)
+    }
+
+    /// The race that a read returns.
+    fn race(&mut self, view: u64, block: u64) -> Result<u8, Refusal> {
+        self.read_with_race(view, block).map(|(_, race)| race)
+    }
+
+    /// A read; refused, it leaves the destination as it was.
+    fn read_with_race(&mut self, view: u64, block: u64) -> Result<([u8; BLOCK_BYTES], u8), Refusal> {
         const BEFORE: [u8; BLOCK_BYTES] = [165; BLOCK_BYTES];
         let mut data = BEFORE;
         let answer = self.lend().read(view, block, &mut data);
         assert!(answer.is_ok() || data == BEFORE);
-        answer.map(|()| data)
+        answer.map(|race| (data, race))
     }
 
     /// The answers of reads of `block` in these views: 0, or the refusal's number.
@@ -189,7 +199,7 @@ fn p_before_end_view_1_has_2() {
 fn p_unit_that_wrote_a_deleted_block_is_refused_12() {
     let mut owner = Owner::begun_and_flushed();
     assert_eq!(owner.lend().begin(2, 1), Ok(()));
-    assert_eq!(owner.lend().write(2, 1, &[5; BLOCK_BYTES]), Ok(()));
+    assert_eq!(owner.lend().write(2, 1, &[5; BLOCK_BYTES], 0), Ok(()));
     assert_eq!(owner.lend().delete_block(0, 1), Ok(()));
     assert_eq!(owner.lend().end(2), Err(Refusal::Conflict));
     assert_eq!(owner.lend().conflicts(1), Ok(1));
@@ -227,7 +237,7 @@ fn two_byte_entries_fill_510_bytes_and_a_256th_opens_the_next_segment() {
 fn a_15th_write_opens_the_next_segment() {
     let mut owner = Owner::begun(2);
     for _ in 0..14 {
-        assert_eq!(owner.lend().write(0, 1, &[3; BLOCK_BYTES]), Ok(()));
+        assert_eq!(owner.lend().write(0, 1, &[3; BLOCK_BYTES], 0), Ok(()));
     }
     assert_eq!(owner.flush(65_535), flushed(7 + 15 * 260, Ending::Drained));
     assert_eq!((owner.summary(0)[0], owner.summary(1)[0]), (16, 1));
@@ -240,7 +250,7 @@ fn a_15th_write_opens_the_next_segment() {
 fn a_15th_write_on_one_segment_ends_full() {
     let mut owner = Owner::begun(1);
     for _ in 0..14 {
-        assert_eq!(owner.lend().write(0, 1, &[3; BLOCK_BYTES]), Ok(()));
+        assert_eq!(owner.lend().write(0, 1, &[3; BLOCK_BYTES], 0), Ok(()));
     }
     assert_eq!(owner.flush(65_535), flushed(7 + 14 * 260, Ending::Full));
     assert_eq!(owner.flush(0), flushed(0, Ending::Full));
@@ -254,18 +264,21 @@ fn journal_takes_15_entries() {
     let mut owner = Owner::begun(1);
     assert_eq!(owner.lend().begin(4, 1), Ok(()));
     for _ in 0..15 {
-        assert_eq!(owner.lend().write(4, 1, &[1; BLOCK_BYTES]), Ok(()));
+        assert_eq!(owner.lend().write(4, 1, &[1; BLOCK_BYTES], 0), Ok(()));
     }
-    assert_eq!(owner.lend().write(4, 1, &[1; BLOCK_BYTES]), Err(Refusal::JournalFull));
+    assert_eq!(
+        owner.lend().write(4, 1, &[1; BLOCK_BYTES], 0),
+        Err(Refusal::JournalFull)
+    );
 }
 
 #[test]
 fn queue_takes_32_entries() {
     let mut owner = Owner::begun(1);
     for _ in 3..32 {
-        assert_eq!(owner.lend().write(0, 1, &[1; BLOCK_BYTES]), Ok(()));
+        assert_eq!(owner.lend().write(0, 1, &[1; BLOCK_BYTES], 0), Ok(()));
     }
-    assert_eq!(owner.lend().write(0, 1, &[1; BLOCK_BYTES]), Err(Refusal::QueueFull));
+    assert_eq!(owner.lend().write(0, 1, &[1; BLOCK_BYTES], 0), Err(Refusal::QueueFull));
     assert_eq!(owner.lend().new_list(0), Err(Refusal::QueueFull));
 }
 
@@ -400,7 +413,7 @@ fn dead_members_stay_dead() {
 fn a_write_of_zeros_counts() {
     let mut owner = Owner::unwritten();
     assert_eq!(owner.reads(1, [0, 5]), [15, 15]);
-    assert_eq!(owner.lend().write(0, 1, &[0; BLOCK_BYTES]), Ok(()));
+    assert_eq!(owner.lend().write(0, 1, &[0; BLOCK_BYTES], 0), Ok(()));
     assert_eq!(owner.read(0, 1), Ok([0; BLOCK_BYTES]));
     assert_eq!(owner.read(5, 1), Err(Refusal::Unwritten));
     assert_eq!(owner.flush(65_535), flushed(260, Ending::Drained));
@@ -429,7 +442,7 @@ fn a_block_deleted_and_put_again_is_unwritten_again() {
     assert_eq!(owner.reads(1, [0, 5]), [15, 15]);
     owner.remount();
     assert_eq!(owner.reads(1, [0, 5]), [15, 15]);
-    assert_eq!(owner.lend().write(0, 1, &seven()), Ok(()));
+    assert_eq!(owner.lend().write(0, 1, &seven(), 0), Ok(()));
     assert_eq!(owner.read(0, 1), Ok(seven()));
 }
 
@@ -456,7 +469,7 @@ fn a_units_write_is_seen_in_its_view_until_end() {
     let mut owner = Owner::unwritten();
     assert_eq!(owner.lend().begin(1, 1), Ok(()));
     assert_eq!(owner.lend().begin(2, 1), Ok(()));
-    assert_eq!(owner.lend().write(1, 1, &seven()), Ok(()));
+    assert_eq!(owner.lend().write(1, 1, &seven(), 0), Ok(()));
     assert_eq!(owner.read(1, 1), Ok(seven()));
     assert_eq!(owner.reads(1, [0, 1, 2, 5]), [15, 0, 15, 15]);
     assert_eq!(owner.lend().end(1), Ok(()));
@@ -491,7 +504,7 @@ fn a_block_put_in_a_unit_is_unwritten_there() {
 fn a_lost_units_write_does_not_count() {
     let mut owner = Owner::unwritten();
     assert_eq!(owner.lend().begin(1, 1), Ok(()));
-    assert_eq!(owner.lend().write(1, 1, &seven()), Ok(()));
+    assert_eq!(owner.lend().write(1, 1, &seven(), 0), Ok(()));
     let mut open = owner.clone();
     open.remount();
     assert_eq!(open.reads(1, [0, 1, 5]), [15, 4, 15]);
@@ -822,8 +835,8 @@ fn other_refusals_raise_no_count() {
     assert_eq!(owner.lend().new_list(1), Ok(2));
     assert_eq!(owner.lend().new_block(1, 1, 0), Err(Refusal::List));
     assert_eq!(owner.lend().new_block(0, 2, 0), Ok(2));
-    while owner.lend().write(0, 2, &seven()).is_ok() {}
-    assert_eq!(owner.lend().write(0, 2, &seven()), Err(Refusal::QueueFull));
+    while owner.lend().write(0, 2, &seven(), 0).is_ok() {}
+    assert_eq!(owner.lend().write(0, 2, &seven(), 0), Err(Refusal::QueueFull));
     assert_eq!(owner.lend().end(1), Err(Refusal::QueueFull));
     assert_eq!(owner.counts(), counts(&[(2, 1)]));
     assert!(owner.flush(65_535).is_ok());
@@ -909,4 +922,209 @@ fn question_3_judges_windows_of_open_units() {
             if is_sound { Ok(()) } else { Err(Refusal::Record) }
         );
     }
+}
+
+// ---- Document 02, E10 -----------------------------------------------------------------------------------------------
+
+/// "Bit 6 of the map says that a race byte follows, after the slot": 256 data bytes, four entry bytes and the count.
+#[test]
+fn a_write_with_a_race_takes_261_stores() {
+    for (race, stores, bytes) in [
+        (0, 260, &[9, 1, 0][..]),
+        (1, 261, &[73, 1, 0, 1]),
+        (24, 261, &[73, 1, 0, 24]),
+    ] {
+        let mut owner = Owner::unwritten();
+        assert_eq!(owner.lend().write(0, 1, &seven(), race), Ok(()));
+        assert_eq!(owner.race(0, 1), Ok(race as u8));
+        assert_eq!(owner.flush(stores - 1), flushed(stores as u32 - 1, Ending::Spent));
+        assert_eq!(owner.race(5, 1), Err(Refusal::Unwritten));
+        assert_eq!(owner.flush(1), flushed(1, Ending::Drained));
+        assert_eq!(owner.summary(0)[0], 3);
+        assert_eq!(&owner.summary(0)[6..6 + bytes.len()], bytes);
+        // What stands behind the entry was not stored.
+        assert_eq!(owner.summary(0)[6 + bytes.len()], 165);
+        owner.remount();
+        assert_eq!(owner.read_with_race(5, 1), Ok((seven(), race as u8)));
+    }
+}
+
+/// "Maps 73 and 201 become legal": in a unit, and End's copying keeps the race.
+#[test]
+fn a_unit_has_its_races() {
+    let mut owner = Owner::begun_and_flushed();
+    assert_eq!(owner.lend().begin(1, 1), Ok(()));
+    assert_eq!(owner.lend().new_block(1, 1, 1), Ok(2));
+    assert_eq!(owner.lend().write(1, 2, &[9; BLOCK_BYTES], 24), Ok(()));
+    assert_eq!(owner.lend().write(1, 1, &[8; BLOCK_BYTES], 3), Ok(()));
+    assert_eq!(owner.lend().write(1, 1, &[8; BLOCK_BYTES], 5), Ok(()));
+    assert_eq!((owner.race(1, 2), owner.race(1, 1)), (Ok(24), Ok(5)));
+    assert_eq!((owner.race(0, 2), owner.race(0, 1)), (Err(Refusal::Block), Ok(0)));
+    assert_eq!(owner.lend().end(1), Ok(()));
+    assert_eq!((owner.race(0, 2), owner.race(0, 1)), (Ok(24), Ok(5)));
+    assert_eq!(owner.race(5, 1), Ok(0));
+    assert_eq!(owner.flush(65_535), flushed(5 + 3 * 261 + 3, Ending::Drained));
+    assert_eq!(
+        owner.summary(0)[9..27],
+        [135, 2, 1, 1, 201, 2, 1, 24, 201, 1, 2, 3, 201, 1, 3, 5, 16, 4]
+    );
+    owner.remount();
+    assert_eq!((owner.race(5, 2), owner.race(5, 1)), (Ok(24), Ok(5)));
+}
+
+/// "For which race a pool block was last written": a later write has its own race, or none; so has a block put again.
+#[test]
+fn the_last_write_has_the_race() {
+    let mut owner = Owner::begun(1);
+    for race in [7, 0, 24, 24, 1, 0] {
+        assert_eq!(owner.lend().write(0, 1, &seven(), race), Ok(()));
+        assert_eq!(owner.race(0, 1), Ok(race as u8));
+    }
+    assert_eq!(owner.lend().write(0, 1, &seven(), 9), Ok(()));
+    assert_eq!(owner.flush(65_535), flushed(267 + 2 * 260 + 5 * 261, Ending::Drained));
+    assert_eq!(owner.lend().delete_block(0, 1), Ok(()));
+    assert_eq!(owner.flush(65_535), flushed(3, Ending::Drained));
+    owner.remount();
+    assert_eq!(owner.lend().new_block(0, 1, 0), Ok(1));
+    assert_eq!(owner.race(0, 1), Err(Refusal::Unwritten));
+    assert_eq!(owner.lend().write(0, 1, &seven(), 0), Ok(()));
+    assert_eq!(owner.race(0, 1), Ok(0));
+}
+
+/// "A race above 24 in a call is refused 5", in question 5's place.
+#[test]
+fn a_race_above_24_is_refused_5() {
+    let mut owner = Owner::begun(1);
+    for race in [25, 26, 255, 256, 65_536, 1 << 32, u64::MAX] {
+        assert_eq!(owner.lend().write(0, 1, &seven(), race), Err(Refusal::Range));
+        // Before 8, behind 4.
+        assert_eq!(owner.lend().write(0, 2, &seven(), race), Err(Refusal::Range));
+        assert_eq!(owner.lend().write(1, 1, &seven(), race), Err(Refusal::Stream));
+    }
+    assert_eq!(owner.lend().write(0, 2, &seven(), 24), Err(Refusal::Block));
+    assert_eq!(owner.lend().begin(1, 1), Ok(()));
+    for _ in 0..15 {
+        assert_eq!(owner.lend().write(1, 1, &seven(), 24), Ok(()));
+    }
+    assert_eq!(owner.lend().write(1, 1, &seven(), 24), Err(Refusal::JournalFull));
+    assert_eq!(owner.lend().write(1, 1, &seven(), 25), Err(Refusal::Range));
+    let sound = owner.record;
+    owner.record = Record::UNSOUND;
+    assert_eq!(owner.lend().write(0, 1, &seven(), 25), Err(Refusal::Record));
+    owner.record = sound;
+    owner.journal_data.pop();
+    assert_eq!(owner.lend().write(0, 1, &seven(), 25), Err(Refusal::Lengths));
+}
+
+/// "An entry's length counts bit 6 too": where three bytes are left a write without a race fits, and one with a race opens
+/// the next segment, or ends full.
+#[test]
+fn an_entry_with_a_race_is_a_byte_longer() {
+    for (segments, race, ending) in [
+        (1, 0, Ending::Drained),
+        (1, 24, Ending::Full),
+        (2, 0, Ending::Drained),
+        (2, 24, Ending::Drained),
+    ] {
+        // A take, a put, commits of no member and a dead member: 2 + 3 + 250 × 2 + 3 = 508 bytes.
+        let mut owner = Owner::formatted(segments);
+        let summary: Vec<u8> = [2, 1, 3, 1, 1]
+            .into_iter()
+            .chain([16, 0].into_iter().cycle().take(500))
+            .chain([131, 9, 1])
+            .collect();
+        owner.card[SUMMARY_AT] = 2 + 250 + 1;
+        owner.card[SUMMARY_AT + 1..][..summary.len()].copy_from_slice(&summary);
+        owner.remount();
+        assert_eq!(owner.lend().write(0, 1, &seven(), race), Ok(()));
+        let answer = owner.flush(65_535).expect("the record is sound");
+        assert_eq!(answer.ending, ending);
+        if segments == 2 {
+            assert_eq!(owner.summary(1)[0], u8::from(race > 0));
+        }
+        if ending == Ending::Drained {
+            owner.remount();
+            assert_eq!(owner.race(5, 1), Ok(race as u8));
+        }
+    }
+}
+
+/// "A race byte of 0 or above 24 is a fault in mounting", "maps 73 and 201 become legal", and no others.
+#[test]
+fn race_faults_have_their_place() {
+    const START: [u8; 6] = [0, 2, 1, 3, 1, 1];
+    let mount = |behind: &[u8], entries: u8| {
+        let mut owner = Owner::formatted(1);
+        owner.card[SUMMARY_AT..][..START.len()].copy_from_slice(&START);
+        owner.card[SUMMARY_AT] = 2 + entries;
+        owner.card[SUMMARY_AT + START.len()..][..behind.len()].copy_from_slice(behind);
+        match owner.lend().mount() {
+            Ok(()) => {
+                let race = owner.race(5, 1).unwrap_or(0);
+                Ok(race)
+            }
+            Err(MountRefusal::Log(fault)) => Err((fault.segment, fault.entry)),
+            Err(MountRefusal::Lengths) => panic!("the lengths are right"),
+        }
+    };
+    for race in 0..=255 {
+        let is_race = (1..=24).contains(&race);
+        let expected = |entry| if is_race { Ok(race) } else { Err((0, entry)) };
+        assert_eq!(mount(&[73, 1, 0, race], 1), expected(2));
+        assert_eq!(mount(&[201, 1, 0, race, 16, 1], 2), expected(2));
+        // A dead member is judged too.
+        assert_eq!(mount(&[201, 1, 0, race], 1), if is_race { Ok(0) } else { Err((0, 2)) });
+    }
+    // Bit 6 with any other map: the fields that it would have, and a race.
+    for map in (64..128).chain(192..=255).filter(|&map| map != 73 && map != 201) {
+        for fields in [[2, 1, 1, 1, 1], [1, 1, 0, 1, 1], [1, 0, 1, 1, 1]] {
+            let bytes = [&[map][..], &fields].concat();
+            assert_eq!(mount(&bytes, 1), Err((0, 2)), "{map}");
+        }
+    }
+    // The race before the slot; the next entry behind an entry of four bytes; a later write without a race.
+    assert_eq!(mount(&[73, 1, 5, 0], 1), Err((0, 2)));
+    assert_eq!(mount(&[73, 1, 0, 2, 2, 2], 2), Ok(2));
+    assert_eq!(mount(&[73, 1, 0, 2, 9, 1, 1], 2), Ok(0));
+    assert_eq!(mount(&[73, 1, 0, 2, 73, 1, 1, 24], 2), Ok(24));
+    assert_eq!(mount(&[73, 1, 0, 2, 201, 1, 1, 24], 2), Ok(2));
+}
+
+/// An entry with a race whose last byte is behind the summary.
+#[test]
+fn an_entry_with_a_race_ends_within_the_summary() {
+    for left in 1..=4 {
+        // A take, a put, and commits of no member.
+        let mut summary = vec![2, 1, 3, 1, 1];
+        while summary.len() + 2 <= 511 - left {
+            summary.extend([16, 0]);
+        }
+        let mut entries = 2 + (summary.len() - 5) / 2;
+        if summary.len() + left < 511 {
+            // One byte too many is left: a dead member of three bytes takes the last commit's place.
+            summary.truncate(summary.len() - 2);
+            summary.extend([131, 9, 1]);
+        }
+        assert_eq!(summary.len(), 511 - left);
+        summary.extend([73, 1, 0, 5].iter().take(left));
+        entries += 1;
+        let mut owner = Owner::formatted(1);
+        owner.card[SUMMARY_AT] = entries as u8;
+        owner.card[SUMMARY_AT + 1..].copy_from_slice(&summary);
+        let is_whole = left == 4;
+        assert_eq!(owner.lend().mount().is_ok(), is_whole, "{left} bytes");
+        if is_whole {
+            assert_eq!(owner.race(5, 1), Ok(5));
+        }
+    }
+}
+
+/// "Cards written before this mount as before, with race 0"; one without a race has the bytes that it had.
+#[test]
+fn a_card_without_races_is_as_it_was() {
+    let mut owner = Owner::begun_and_flushed();
+    assert_eq!(owner.summary(0)[..10], [3, 2, 1, 3, 1, 1, 9, 1, 0, 165]);
+    owner.remount();
+    assert_eq!(owner.read_with_race(0, 1), Ok((seven(), 0)));
+    assert_eq!(owner.read_with_race(5, 1), Ok((seven(), 0)));
 }

@@ -169,6 +169,57 @@ fn windows_are_named() {
     ]);
 }
 
+/// A race is printed "only where R is not 0".
+#[test]
+fn races_are_written_and_read() {
+    check(&[
+        ("write 0 1 07 256 25", "1\n"),
+        ("card 4096 0", "ok\n"),
+        ("write 0 1 07 256 25", "3\n"),
+        ("format", "0\n"),
+        ("newlist 0", "0 1\n"),
+        ("newblock 0 1 0", "0 1\n"),
+        ("write 6 1 07 256 25", "4\n"),
+        ("write 0 2 07 256 25", "5\n"),
+        ("write 0 2 07 256 24", "8\n"),
+        ("write 0 1 07 256 25", "5\n"),
+        ("write 0 1 07 255 24", "5\n"),
+        ("write 0 1 07 256 18446744073709551615", "5\n"),
+        ("write 0 1 07 256 256", "5\n"),
+        ("write 0 1 07 256 4294967297", "5\n"),
+        ("read 0 1", "15\n"),
+        ("write 0 1 07 256 24", "0\n"),
+        ("read 0 1", "0 07 race 24\n"),
+        ("read 0 1 256", "0 07 race 24\n"),
+        ("read 0 1 255", "5\n"),
+        ("show 0", "list 1: 1\nblock 1: 07 race 24\n"),
+        ("begin 1", "0\n"),
+        ("write 1 1 - 256 1", "0\n"),
+        ("read 1 1", "0 - race 1\n"),
+        ("show 1", "list 1: 1\nblock 1: - race 1\n"),
+        ("read 0 1", "0 07 race 24\n"),
+        ("end 1", "0\n"),
+        ("read 0 1", "0 - race 1\n"),
+        ("write 0 1 08", "0\n"),
+        ("read 0 1", "0 08\n"),
+        ("write 0 1 09 256 00000000000000000000000012", "0\n"),
+        ("read 0 1", "0 09 race 12\n"),
+        ("write 0 1 09 256 0", "0\n"),
+        ("show 0", "list 1: 1\nblock 1: 09\n"),
+        ("flush 65535", "0 1313 drained\n"),
+        ("read 5 1", "0 09\n"),
+        ("list", "segments 1 used 1 entries 8\nlist 1: 1\nblock 1: 9\n"),
+        ("write 0 1 07 256 x", "?\n"),
+        ("write 0 1 07 256 -1", "?\n"),
+        ("write 0 1 07 256 +1", "?\n"),
+        ("write 0 1 07 256 18446744073709551616", "?\n"),
+        ("write 0 1 07 301 1", "?\n"),
+        ("write 0 1 07 - 1", "?\n"),
+        ("write 0 1 07 256 1 1", "?\n"),
+        ("read 0 1 256 1", "?\n"),
+    ]);
+}
+
 #[test]
 fn what_is_not_a_command() {
     check(&[
@@ -202,7 +253,7 @@ fn what_is_not_a_command() {
         ("write 0 1 - 300", "5\n"),
         ("write 0 1 ff 0", "5\n"),
         ("write 0 1 ff 256", "0\n"),
-        ("write 0 1 - 256 0", "?\n"),
+        ("write 0 1 ff 256 0 0", "?\n"),
         ("read 0 1 255", "5\n"),
         ("read 0 1 256", "0 ff\n"),
         ("cut now", "?\n"),

@@ -10,6 +10,7 @@ use Rattle.lists.specs.Change.{mapChange}
 use Rattle.lists.specs.State.{State, applyAll}
 use Rattle.lists.specs.promises.Tables.{Tables, Shows}
 use Rattle.log.specs.declared.entry.LogEntry.{LogEntry}
+use Rattle.log.specs.Raced.{withBody}
 use Rattle.log.specs.Card.{slot}
 use Rattle.log.specs.Entry.{member, raw, legal, asChange}
 use Rattle.disk.specs.Record.{Record, unitAt, unitTurned, releasing}
@@ -29,7 +30,7 @@ closed u r = releasing u (unitTurned 0 u r)
 
 -- entry e of a journal, its data at place k of the journal data j, joins queue data q and record r; the card is not looked at
 abbrev pub QueuesMember : List ℕ → List ℕ → Record → LogEntry → ℕ → List ℕ → Record → Type 0
-QueuesMember q j r e k q′ r′ = (c : List ℕ) → enqueue (member (mapChange (λ s. slot j k) (asChange e))) (disk c q j r) ≡ disk c q′ j r′
+QueuesMember q j r e k q′ r′ = (c : List ℕ) → enqueue (member (mapChange (withBody (slot j k)) (asChange e))) (disk c q j r) ≡ disk c q′ j r′
 
 -- what a sound disk has: queue data q and journal data j, record r and its unit u
 pub record Ready (q j : List ℕ) (r : Record) (u : ℕ) : Type 0 where

@@ -10,6 +10,7 @@ use Rattle.lists.specs.Basic.{isSome, all, each, from}
 use Rattle.lists.specs.Change.{Change}
 use Rattle.lists.specs.State.{Row, State, placed, applyAll, overlay}
 use Rattle.lists.specs.promises.Tables.{Tables, Shows}
+use Rattle.log.specs.Raced.{Raced}
 use Rattle.log.specs.Entry.{Entry, member, raw, legal, isBlock, isList, asChange}
 use Rattle.log.specs.Cell.{entryIn}
 use Rattle.log.specs.Reader.{Reader, replay}
@@ -17,18 +18,18 @@ use Rattle.log.specs.promises.Feed.{Memory, Keeps}
 use Rattle.disk.specs.Record.{Unit, Record, noCell, unitAt, isOpen, holderOf, queuePlaces, journalPlaces, unitCount, windowCount}
 use Rattle.disk.specs.Disk.{disk, queued}
 use Rattle.disk.specs.Sound.{putBy, headStanding}
-use Rattle.inspect.specs.promises.Located.{queueHere, journalHere}
+use Rattle.inspect.specs.promises.Located.{queueSaid, queueHere, journalHere}
 
 -- "counts and numbers in range"
 unfoldable pub numbersRight : Record → Bool
 numbersRight r = each (leb (r .ring .len) queuePlaces ∷ ltb (r .ring .head) queuePlaces ∷ isBlock (r .tally .lastBlock) ∷ isList (r .tally .lastList) ∷ [])
 
 -- may change c stand in unit u's journal, hs being the holders?
-unfoldable pub changeRight : List ℕ → ℕ → Change ℕ → Bool
+unfoldable pub changeRight : List ℕ → ℕ → Change (Raced ℕ) → Bool
 changeRight hs u c = legal (raw 0 (member c)) && all (λ b. eqb (getD hs (b - 1) 0) u) (putBy c)
 
 -- change k of a journal, a write's slot as it stands there
-abbrev pub changeIn : Unit → ℕ → Change ℕ
+abbrev pub changeIn : Unit → ℕ → Change (Raced ℕ)
 changeIn x k = asChange (entryIn (getD (x .journal) k noCell))
 
 -- unit u of the record, x: its count and its window, a journal only if it is open, and each change of it
@@ -54,17 +55,17 @@ holdersRight r rs = all (holderRight r rs) (from (λ b. b) 1 64)
 -- What is promised where the queue is fed to the reader that lent tables keep.
 
 -- is every entry one that may stand in the queue?
-abbrev pub lawful : List (Entry ℕ) → Bool
+abbrev pub lawful : List (Entry (Raced ℕ)) → Bool
 lawful es = all (λ e. legal (raw 0 e)) es
 
--- entries es replayed from reader x: whether they are lawful and apply, and what the tables show then
-abbrev pub ReplayTo : List (Entry ℕ) → Reader ℕ → Bool → Tables → Type 0
-ReplayTo es x false t = lawful es && isSome (replay x es) ≡ false
-ReplayTo es x true t = (lawful es ≡ true) × (y : Reader ℕ) × (replay x es ≡ some y) × Shows t (y .state .lists)
+-- the queue replayed from reader x: whether its entries are lawful and apply, and what the tables show then
+abbrev pub ReplayTo : Record → Reader ℕ → Bool → Tables → Type 0
+ReplayTo r x false t = lawful (queueSaid r) && isSome (replay x (queueHere r)) ≡ false
+ReplayTo r x true t = (lawful (queueSaid r) ≡ true) × (y : Reader ℕ) × (replay x (queueHere r) ≡ some y) × Shows t (y .state .lists)
 
 -- the queue, from whichever reader the lent tables keep
 abbrev pub Replays : Memory → ℕ → Record → Bool → Tables → Type 0
-Replays m run r b t = (x : Reader ℕ) → Keeps m run x → ReplayTo (queueHere r) x b t
+Replays m run r b t = (x : Reader ℕ) → Keeps m run x → ReplayTo r x b t
 
 -- the lists of the state that a replay led to, if it did
 abbrev pub rowsOf : Option (Reader ℕ) → List (Row ℕ)
@@ -75,7 +76,7 @@ rowsOf (some x) = x .state .lists
 unfoldable pub settledRight : List ℕ → List ℕ → Record → Reader ℕ → Bool
 settledRight c q r x =
     let o = replay x (queueHere r) in
-    each (lawful (queueHere r) ∷ isSome o ∷ holdersRight r (rowsOf o) ∷ headStanding c (r .ring .done) (queued (disk c q [] r)) ∷ [])
+    each (lawful (queueSaid r) ∷ isSome o ∷ holdersRight r (rowsOf o) ∷ headStanding c (r .ring .done) (queued (disk c q [] r)) ∷ [])
 
 -- the answer b to it, whichever reader the lent tables keep
 abbrev pub Settled : List ℕ → List ℕ → Memory → ℕ → Record → Bool → Type 0

@@ -10,6 +10,7 @@ use Rattle.lists.specs.Change.{Change, takeList}
 use Rattle.lists.specs.State.{State, apply}
 use Rattle.lists.specs.promises.Tables.{Tables, tablesIn, Shows, Ranged, Represents, ofKind}
 use Rattle.log.specs.Entry.{commit, mapEntry, raw, legal, asEntry}
+use Rattle.log.specs.promises.Location.{numberAt}
 use Rattle.log.specs.Reader.{Reader, read}
 use Rattle.log.specs.declared.entry.LogEntry.{LogEntry}
 use Rattle.log.specs.declared.entry.LogEntry.the-variants.{Take, PutFirst, PutAfter, Write, DeleteBlock, DeleteList, Commit}
@@ -17,8 +18,8 @@ use Rattle.log.specs.declared.feed.Fields.{Fields}
 use Rattle.log.specs.declared.feed.Fed.{Fed}
 use Rattle.log.specs.declared.feed.Fed.the-variants.{Run, Refused}
 
--- The tables of the state; the last members of the run, up to 16, each in six bytes: its kind, block, list and predecessor, and its location's low and
--- high byte.
+-- The tables of the state; the last members of the run, up to 16, each in six bytes: its kind, block, list and predecessor, and the low and the high
+-- byte of its number in a table, which says location and race.
 pub record Memory : Type 0 where
   pub tables : Tables
   pub members : List ℕ
@@ -68,13 +69,13 @@ Commits m run n b m′ = (r : Reader ℕ) → Keeps m run r → n ≤ 15 → Rea
 
 -- an entry by its fields
 abbrev pub fieldsOf : LogEntry → Fields
-fieldsOf (Take l) = record { kind = 1; block = 0; list = l; predecessor = 0; count = 0 }
-fieldsOf (PutFirst b l) = record { kind = 2; block = b; list = l; predecessor = 0; count = 0 }
-fieldsOf (PutAfter b l p) = record { kind = 3; block = b; list = l; predecessor = p; count = 0 }
-fieldsOf (Write b s) = record { kind = 4; block = b; list = 0; predecessor = 0; count = 0 }
-fieldsOf (DeleteBlock b) = record { kind = 5; block = b; list = 0; predecessor = 0; count = 0 }
-fieldsOf (DeleteList l) = record { kind = 6; block = 0; list = l; predecessor = 0; count = 0 }
-fieldsOf (Commit n) = record { kind = 0; block = 0; list = 0; predecessor = 0; count = n }
+fieldsOf (Take l) = record { kind = 1; block = 0; list = l; predecessor = 0; count = 0; race = 0 }
+fieldsOf (PutFirst b l) = record { kind = 2; block = b; list = l; predecessor = 0; count = 0; race = 0 }
+fieldsOf (PutAfter b l p) = record { kind = 3; block = b; list = l; predecessor = p; count = 0; race = 0 }
+fieldsOf (Write b s n) = record { kind = 4; block = b; list = 0; predecessor = 0; count = 0; race = n }
+fieldsOf (DeleteBlock b) = record { kind = 5; block = b; list = 0; predecessor = 0; count = 0; race = 0 }
+fieldsOf (DeleteList l) = record { kind = 6; block = 0; list = l; predecessor = 0; count = 0; race = 0 }
+fieldsOf (Commit n) = record { kind = 0; block = 0; list = 0; predecessor = 0; count = n; race = 0 }
 
 abbrev pub FedTo : Option (Reader ℕ) → Fed → Memory → Type 0
 FedTo o Refused m = o ≡ none
@@ -89,7 +90,7 @@ abbrev pub RunUpTo : ℕ → Fed → Type 0
 RunUpTo n Refused = Unit {0}
 RunUpTo n (Run k) = k ≤ n
 
--- a legal entry, a write's data standing at location d, which is not 0
+-- a legal entry, a write's bytes standing at location d, which is not 0
 pub record Feeds (m : Memory) (run : ℕ) (t : Bool) (e : LogEntry) (d : ℕ) (f : Fed) (m′ : Memory) : Type 0 where
   pub short : RunUpTo (run + 1) f
-  pub reads : (r : Reader ℕ) → Keeps m run r → legal (raw 0 (asEntry t e)) ≡ true → 1 ≤ d → FedTo (read r (mapEntry (λ s. d) (asEntry t e))) f m′
+  pub reads : (r : Reader ℕ) → Keeps m run r → legal (raw 0 (asEntry t e)) ≡ true → 1 ≤ d → FedTo (read r (mapEntry (numberAt d) (asEntry t e))) f m′

@@ -6,6 +6,7 @@ use mathlib.Core.List.{List}
 use Prim.Native.Nat.{ℕ, _+_, _*_, _≤_}
 use lib.ListN.{length}
 use Rattle.lists.specs.Basic.{bind}
+use Rattle.log.specs.Raced.{Raced}
 use Rattle.log.specs.Entry.{Entry, carried, asEntry, legal}
 use Rattle.log.specs.Card.{part, isNext, entryAt, segmentBytes}
 use Rattle.log.specs.declared.entry.LogEntry.{LogEntry}
@@ -13,13 +14,13 @@ use Rattle.log.specs.declared.entry.LogEntry.the-variants.{Take, PutFirs
 use Rattle.log.specs.declared.reader.Found.{Found}
 use Rattle.log.specs.declared.reader.Found.the-variants.{Plain, Member, Bad}
 
--- what a parsed entry stands for, t telling whether its map has the mark of a member: "131, 135, 137, 161, 162. No other map is legal"
-abbrev pub entered : Bool → LogEntry → Option (Entry ℕ)
+-- what a parsed entry stands for, t telling whether its map has the mark of a member: "131, 135, 137, 161, 162. No other map is legal", but 201
+abbrev pub entered : Bool → LogEntry → Option (Entry (Raced ℕ))
 entered false e = some (asEntry false e)
 entered true (Take l) = none
 entered true (PutFirst b l) = some (asEntry true (PutFirst b l))
 entered true (PutAfter b l p) = some (asEntry true (PutAfter b l p))
-entered true (Write b s) = some (asEntry true (Write b s))
+entered true (Write b s n) = some (asEntry true (Write b s n))
 entered true (DeleteBlock b) = some (asEntry true (DeleteBlock b))
 entered true (DeleteList l) = some (asEntry true (DeleteList l))
 entered true (Commit n) = none

@@ -4,7 +4,7 @@ use mathlib.Core.Bool.{true, false}
 use mathlib.Core.List.{List}
 use Prim.Native.Nat.{ℕ}
 use Rattle.log.specs.Reader.{Reader}
-use Rattle.log.specs.Card.{Content, cardLength, sound, fault, mounted}
+use Rattle.log.specs.Card.{Written, cardLength, sound, fault, mounted}
 use Rattle.log.specs.Store.{tail}
 use Rattle.log.specs.declared.place.Place.{Place}
 use Rattle.log.specs.declared.mount.Mounted.{Mounted}
@@ -13,7 +13,7 @@ use Rattle.log.specs.declared.mount.Mounted.the-variants.{WrongLength, F
 pub record Acceptable (c : List ℕ) (p : Place) : Type 0 where
   pub right : cardLength c ≡ true
   pub place : p ≡ tail c
-  pub reader : Reader Content
+  pub reader : Reader Written
   pub walked : mounted c ≡ sound reader
 
 abbrev pub Mounts : List ℕ → Mounted → Type 0

@@ -9,11 +9,12 @@ use Prim.Native.Nat.{ℕ, suc, _+_, _-_, _*_, _≤_, _<_}
 use lib.Dec.{ltb, eqb}
 use lib.ListN.{length}
 use Rattle.lists.specs.Basic.{bind}
+use Rattle.log.specs.Raced.{Raced}
 use Rattle.log.specs.Entry.{Entry, mapEntry, carried, entryLength, asEntry, legal}
 use Rattle.log.specs.Reader.{Reader, read}
-use Rattle.log.specs.Card.{part, count, usedBy, Item, good, bad, itemsOf, segmentItems, afterEmpty, sound, fault, walk, walkCard, segmentBytes}
-use Rattle.log.specs.promises.Location.{cardLocation}
-use Rattle.log.specs.promises.Found.{entered}
+use Rattle.log.specs.Card.{count, usedBy, entryAt, Item, bad, itemsOf, segmentItems, afterEmpty, sound, fault, walk, walkCard, segmentBytes}
+use Rattle.log.specs.promises.Location.{numberAt, cardNumber}
+use Rattle.log.specs.promises.Found.{entered, bytesFrom}
 use Rattle.log.specs.promises.Feed.{Memory, Keeps, ReadTo}
 use Rattle.log.specs.Store.{opened, behindAll, tail}
 use Rattle.log.specs.declared.entry.LogEntry.{LogEntry}
@@ -30,10 +31,10 @@ use Rattle.log.specs.declared.walk.Walked.the-variants.{Sound, Fault}
 abbrev pub runAfter : Bool → ℕ → ℕ
 runAfter t run = cond t (run + 1) 0
 
--- a parsed entry read, a write's data standing at location d
+-- a parsed entry read, a write's bytes standing at location d
 abbrev pub Reads : Memory → ℕ → Bool → LogEntry → ℕ → Bool → Memory → Type 0
 Reads m run t e d b m′ =
-    (r : Reader ℕ) → Keeps m run r → legal (asEntry false e) ≡ true → ReadTo (bind (entered t e) (λ x. read r (mapEntry (λ s. d) x))) b m′ (runAfter t run)
+    (r : Reader ℕ) → Keeps m run r → legal (asEntry false e) ≡ true → ReadTo (bind (entered t e) (λ x. read r (mapEntry (numberAt d) x))) b m′ (runAfter t run)
 
 abbrev pub stepIf : Bool → ℕ → ℕ → ℕ → Step
 stepIf true a k run = Next (record { at = a; slots = k; run = run })
@@ -60,18 +61,22 @@ pub record OnCard (c : List ℕ) (g run : ℕ) : Type 0 where
   pub used : count c g ≢ 0
   pub short : run ≤ 64 * 255
 
+-- a write's slot and race, as they stand there: what places in the log go by
+abbrev pub asThere : ℕ → Raced ℕ → Raced ℕ
+asThere g s = s
+
 -- the items of segment g from the cursor on, of which n are to come, the next being number i
-abbrev pub itemsFrom : List ℕ → ℕ → Cursor → ℕ → ℕ → List (Item ℕ)
-itemsFrom c g cur n i = itemsOf cardLocation g n i (cur .slots) (part c (cur .at) (segmentBytes * g + segmentBytes))
+abbrev pub itemsFrom : {D : Type 0} → (ℕ → Raced ℕ → D) → List ℕ → ℕ → Cursor → ℕ → ℕ → List (Item D)
+itemsFrom f c g cur n i = itemsOf f g n i (cur .slots) (bytesFrom c g (cur .at))
 
 -- one entry of segment g passed by reader r
 pub record Went (c : List ℕ) (g : ℕ) (cur : Cursor) (r : Reader ℕ) (next : Cursor) (m : Memory) : Type 0 where
-  pub entry : Entry ℕ
-  pub items : (n i : ℕ) → itemsFrom c g cur (suc n) i ≡ good g i entry ∷ itemsFrom c g next n (suc i)
+  pub entry : Entry (Raced ℕ)
+  pub found : entryAt (cur .slots) (bytesFrom c g (cur .at)) ≡ some (entry, bytesFrom c g (next .at))
   pub at : next .at ≡ cur .at + entryLength entry
   pub slots : next .slots ≡ cur .slots + usedBy (carried entry)
   pub reader : Reader ℕ
-  pub reads : read r entry ≡ some reader
+  pub reads : read r (mapEntry (cardNumber g) entry) ≡ some reader
   pub kept : Keeps m (next .run) reader
 
 pub record Stepped (c : List ℕ) (g : ℕ) (cur : Cursor) (m : Memory) (next : Cursor) (m′ : Memory) : Type 0 where
@@ -82,7 +87,7 @@ pub record Stepped (c : List ℕ) (g : ℕ) (cur : Cursor) (m : Memory) (next : 
   pub went : (r : Reader ℕ) → Keeps m (cur .run) r → Went c g cur r next m′
 
 abbrev pub Advances : List ℕ → ℕ → Cursor → Memory → Step → Memory → Type 0
-Advances c g cur m Stuck m′ = (r : Reader ℕ) → Keeps m (cur .run) r → (n i : ℕ) (is : List (Item ℕ)) → walk r (itemsFrom c g cur (suc n) i ++ is) ≡ fault g i
+Advances c g cur m Stuck m′ = (r : Reader ℕ) → Keeps m (cur .run) r → (n i : ℕ) (is : List (Item ℕ)) → walk r (itemsFrom cardNumber c g cur (suc n) i ++ is) ≡ fault g i
 Advances c g cur m (Next next) m′ = Stepped c g cur m next m′
 
 -- the place in segment g that is entered from a place before
@@ -91,10 +96,10 @@ seat g p = cond (eqb (p .segment) g) p (opened g)
 
 -- segment g passed by reader r: the place behind it, and the reader there
 pub record Through (c : List ℕ) (g : ℕ) (r : Reader ℕ) (p : Place) (n : ℕ) (m : Memory) : Type 0 where
-  pub place : (p₀ : Place) → seat g p₀ ≡ opened g → (is : List (Item ℕ)) → behindAll p₀ (segmentItems cardLocation c g ++ is) ≡ behindAll p is
+  pub place : (p₀ : Place) → seat g p₀ ≡ opened g → (is : List (Item (Raced ℕ))) → behindAll p₀ (segmentItems asThere c g ++ is) ≡ behindAll p is
   pub reader : Reader ℕ
   pub kept : Keeps m n reader
-  pub walked : (is : List (Item ℕ)) → walk r (segmentItems cardLocation c g ++ is) ≡ walk reader is
+  pub walked : (is : List (Item ℕ)) → walk r (segmentItems cardNumber c g ++ is) ≡ walk reader is
 
 pub record Passed (c : List ℕ) (g run : ℕ) (m : Memory) (p : Place) (n : ℕ) (m′ : Memory) : Type 0 where
   pub here : p .segment ≡ g
@@ -102,7 +107,7 @@ pub record Passed (c : List ℕ) (g run : ℕ) (m : Memory) (p : Place) (n : ℕ
   pub through : (r : Reader ℕ) → Keeps m run r → Through c g r p n m′
 
 abbrev pub Passes : List ℕ → ℕ → ℕ → Memory → Segment → Memory → Type 0
-Passes c g run m (Broken i) m′ = (r : Reader ℕ) → Keeps m run r → (is : List (Item ℕ)) → walk r (segmentItems cardLocation c g ++ is) ≡ fault g i
+Passes c g run m (Broken i) m′ = (r : Reader ℕ) → Keeps m run r → (is : List (Item ℕ)) → walk r (segmentItems cardNumber c g ++ is) ≡ fault g i
 Passes c g run m (Done p n) m′ = Passed c g run m p n m′
 
 -- behind an empty segment, from g up to n: the first used segment, or n
@@ -115,8 +120,8 @@ pub record Sounds (c : List ℕ) (p : Place) (n : ℕ) (m : Memory) : Type 0 whe
   pub short : n ≤ 64 * 255
   pub reader : Reader ℕ
   pub kept : Keeps m n reader
-  pub walked : walkCard cardLocation c ≡ sound reader
+  pub walked : walkCard cardNumber c ≡ sound reader
 
 abbrev pub Walks : List ℕ → Walked → Memory → Type 0
-Walks c (Fault g i) m = walkCard cardLocation c ≡ fault g i
+Walks c (Fault g i) m = walkCard cardNumber c ≡ fault g i
 Walks c (Sound p n) m = Sounds c p n m

@@ -9,7 +9,7 @@ use Rattle.log.specs.declared.place.Place.{Place}
 use Rattle.log.specs.declared.place.Home.{Home}
 use Rattle.log.specs.declared.place.Home.the-variants.{At, Full}
 use Rattle.log.specs.Entry.{Entry}
-use Rattle.log.specs.Card.{Content, slotCount, entryBytes, segmentsIn}
+use Rattle.log.specs.Card.{Written, slotCount, entryBytes, segmentsIn}
 use Rattle.log.specs.Store.{fits, entryStores}
 
 -- A place holds no more than a segment does, and each entry has two bytes or more.
@@ -19,7 +19,7 @@ pub record Within (p : Place) : Type 0 where
   pub slots : p .slots ≤ slotCount
 
 -- What store n of an entry asks for: a place on the card with room for the entry, and that there is such a store.
-pub record Storable (c : List ℕ) (p : Place) (e : Entry Content) (n : ℕ) : Type 0 where
+pub record Storable (c : List ℕ) (p : Place) (e : Entry Written) (n : ℕ) : Type 0 where
   pub within : Within p
   pub room : fits p e ≡ true
   pub inside : p .segment < segmentsIn c

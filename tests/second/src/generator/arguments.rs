@@ -236,6 +236,6 @@ pub(super) fn blocks_of(state: &State) -> Vec<u8> {
 /// The blocks on lists that were not written since their put.
 fn unwritten_of(state: &State) -> Vec<u8> {
     let mut blocks = blocks_of(state);
-    blocks.retain(|&block| state.content(block).is_none());
+    blocks.retain(|&block| state.written(block).is_none());
     blocks
 }

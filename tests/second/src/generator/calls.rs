@@ -55,8 +55,8 @@ impl Generator<'_> {
         let state = self.state(stream);
         let block = self.block(state.as_ref());
         let hex = self.hex();
-        let part = self.part(BLOCK_BYTES as u64);
-        self.run(format_args!("write {stream} {block} {hex}{part}"));
+        let part_and_race = self.part_and_race();
+        self.run(format_args!("write {stream} {block} {hex}{part_and_race}"));
     }
 
     pub(super) fn delete_block(&mut self, stream: u64) {
@@ -326,7 +326,7 @@ impl Generator<'_> {
         let mut blocks = blocks_of(&state);
         blocks.retain(|&block| (1..block).all(|lower| state.is_on_a_list(lower)));
         if self.random.chance(70) {
-            blocks.retain(|&block| state.content(block).is_some());
+            blocks.retain(|&block| state.written(block).is_some());
         }
         let block = self.random.pick_if_any(&blocks)?;
         let list = state.list_of(block)?;
@@ -341,7 +341,7 @@ impl Generator<'_> {
     }
 
     /// Reads `block` in view 0, in the views of open units and in view 5, each most of the time.
-    fn read_in_views(&mut self, block: u64) {
+    pub(super) fn read_in_views(&mut self, block: u64) {
         let mut views = self.units(true);
         views.extend([0, 5]);
         for view in views {

@@ -9,10 +9,11 @@ use crate::shell::LINE_BYTES;
 
 /// Maps that are legal, and their nearest neighbours that are not.
 const MAPS: &[u8] = &[
-    0, 1, 2, 3, 7, 9, 11, 15, 16, 17, 33, 34, 35, 37, 41, 48, 66, 130, 131, 135, 137, 144, 161, 162, 163, 194, 255,
+    0, 1, 2, 3, 7, 9, 11, 15, 16, 17, 33, 34, 35, 37, 41, 48, 64, 65, 66, 67, 71, 72, 73, 75, 80, 97, 98, 105, 130,
+    131, 135, 137, 144, 161, 162, 163, 194, 195, 199, 201, 208, 225, 226, 255,
 ];
 /// Values at the borders of fields.
-const FIELD_VALUES: &[u8] = &[0, 1, 2, 3, 4, 13, 14, 15, 16, 17, 63, 64, 65, 128, 255];
+const FIELD_VALUES: &[u8] = &[0, 1, 2, 3, 4, 13, 14, 15, 16, 17, 24, 25, 63, 64, 65, 128, 255];
 
 impl Generator<'_> {
     // ---- Someone else writes -----------------------------------------------------------------------------------
@@ -120,7 +121,8 @@ impl Generator<'_> {
     fn damaged_entry_byte(&mut self, at: usize, length: usize) -> (usize, u8) {
         let map = self.shell.card()[at];
         match self.random.below(10) {
-            0..=1 => (at, map ^ 128),
+            0 => (at, map ^ 128),
+            1 => (at, map ^ 64),
             2 => (at, map ^ 1 << self.random.below(8)),
             3 => (at, self.random.pick(MAPS)),
             _ => {
@@ -261,7 +263,7 @@ impl Generator<'_> {
     /// A line that is no command, or only just one.
     pub(super) fn nonsense(&mut self) {
         let number = self.strange_number();
-        match self.random.below(29) {
+        match self.random.below(34) {
             0 => self.run(format_args!("")),
             1 => self.run(format_args!("   ")),
             2 => self.run(format_args!("# newlist 0")),
@@ -290,6 +292,11 @@ impl Generator<'_> {
             25 => self.run(format_args!("begin 1 {number}")),
             26 => self.run(format_args!("conflicts {number}")),
             27 => self.run(format_args!("begin 1 1 1")),
+            28 => self.run(format_args!("write 0 1 07 256 {number}")),
+            29 => self.run(format_args!("write 0 1 07 {number} 1")),
+            30 => self.run(format_args!("write 0 1 07 256 1 1")),
+            31 => self.run(format_args!("write 0 1 07 256 race 1")),
+            32 => self.run(format_args!("read 0 1 256 1")),
             _ => self.words(),
         }
         .ignore();
@@ -344,13 +351,15 @@ impl Generator<'_> {
             "2",
             "5",
             "16",
+            "24",
+            "256",
             "-",
             "07",
             "820",
             "4096",
             "x",
         ];
-        let count = self.random.between(1, 6);
+        let count = self.random.between(1, 7);
         let words: Vec<_> = (0..count).map(|_| self.random.pick(WORDS)).collect();
         self.run(format_args!("{}", words.join(" ")))
     }

@@ -2,9 +2,10 @@
 //! early, and ones with a single fault.
 
 use super::arguments::blocks_of;
+use super::races::any_race;
 use super::Generator;
 use crate::entry::{Change, Entry};
-use crate::limits::{BLOCKS, BLOCK_BYTES, ENTRY_BYTES, JOURNAL, LISTS, SEGMENT_BYTES, SLOTS};
+use crate::limits::{BLOCKS, BLOCK_BYTES, ENTRY_BYTES, JOURNAL, LISTS, RACES, SEGMENT_BYTES, SLOTS};
 use crate::log::{count_at, entries_at, slot_at};
 use crate::random::Random;
 use crate::state::{Content, Reading, State};
@@ -33,10 +34,38 @@ impl Generator<'_> {
         }
     }
 
+    /// The same where just the race byte of a write has no room in the last segment in use.
+    pub(super) fn full_log_for_a_race(&mut self) {
+        let segments = self.segments_of_profile();
+        let mut writer = Writer::new(segments);
+        let steps = self.random.below(4);
+        writer.write_log(&mut self.random, steps, 0);
+        let Some(block) = writer.block_on_a_list(&mut self.random) else {
+            return self.any_call();
+        };
+        let left = self.random.pick(&[3, 3, 3, 4]);
+        writer.leave(left);
+        self.store_log(&writer.card);
+        for _ in 0..self.random.between(1, 3) {
+            self.write_for_a_race(0, u64::from(block));
+            if self.random.chance(60) {
+                let allowance = self.random.pick(&[0, 1, 256, 259, 260, 261, 65_535]);
+                self.run(format_args!("flush {allowance}"));
+            }
+        }
+        self.read_in_views(u64::from(block));
+        self.flush();
+        self.mount();
+    }
+
     /// The same with a short log that has a fault.
     pub(super) fn faulty_log(&mut self) {
         let segments = self.segments_of_profile();
-        let log = random_faulty_log(&mut self.random, segments);
+        let log = if self.random.chance(40) {
+            random_faulty_race(&mut self.random, segments)
+        } else {
+            random_faulty_log(&mut self.random, segments)
+        };
         self.store_log(&log);
     }
 
@@ -105,6 +134,18 @@ pub(super) fn random_faulty_log(random: &mut Random, segments: usize) -> Vec<u8>
     let steps = random.between(2, 8);
     writer.write_log(random, steps, 10);
     writer.add_fault(random);
+    writer.card
+}
+
+/// The same with a write for a race, or for none, that has a fault, or nearly one.
+pub(super) fn random_faulty_race(random: &mut Random, segments: usize) -> Vec<u8> {
+    let mut writer = Writer::new(segments);
+    let steps = random.between(2, 8);
+    writer.write_log(random, steps, 10);
+    writer.add_faulty_race(random);
+    if random.chance(30) {
+        writer.add_unit(random);
+    }
     writer.card
 }
 
@@ -218,6 +259,28 @@ impl Writer {
         }
     }
 
+    /// Commits and a dead member until just `left` bytes of the summary are left, if there are enough.
+    fn leave(&mut self, left: usize) {
+        self.fill(left + 3);
+        match ENTRY_BYTES - left - self.bytes.min(ENTRY_BYTES - left) {
+            3 => self.store(&[131, 1, 1]),
+            4 => self.fill(left),
+            _ => {}
+        }
+    }
+
+    /// A block on a list, put there if none is.
+    fn block_on_a_list(&mut self, random: &mut Random) -> Option<u8> {
+        if self.reading.state.lists().is_empty() {
+            self.add(random, Entry::Plain(Change::TakeList { list: 1 }));
+        }
+        let list = random.pick_if_any(self.reading.state.lists())?;
+        if blocks_of(&self.reading.state).is_empty() {
+            self.add(random, Entry::Plain(Change::PutFirst { block: 1, list }));
+        }
+        random.pick_if_any(&blocks_of(&self.reading.state))
+    }
+
     /// Members that no commit takes.
     fn add_dead_members(&mut self, random: &mut Random, most: u64) -> bool {
         for _ in 0..random.below(most + 1) {
@@ -308,9 +371,61 @@ impl Writer {
     /// The summary ends in the middle of an entry.
     fn add_half_an_entry(&mut self, random: &mut Random) {
         self.fill(random.between(1, 3) as usize);
-        let put_after = [random.pick(&[7, 135]), 1, 1];
-        let length = put_after.len().min(ENTRY_BYTES - self.bytes);
-        self.store(&put_after[..length]);
+        let map = random.pick(&[7, 135, 73, 201]);
+        let entry = [map, 1, if map % 128 == 7 { 1 } else { self.slots }];
+        let length = entry.len().min(ENTRY_BYTES - self.bytes);
+        self.store(&entry[..length]);
+    }
+
+    /// A write for a race whose bytes are at the border of what is legal, or bit 6 on an entry that has no race; plain or a
+    /// member, dead or committed.
+    fn add_faulty_race(&mut self, random: &mut Random) {
+        let block = self.block_on_a_list(random).unwrap_or(1);
+        let race = random.between(1, u64::from(RACES)) as u8;
+        let slot = self.slots;
+        let mut bytes = match random.below(12) {
+            0..=3 => vec![
+                73,
+                block,
+                slot,
+                random.pick(&[0, 0, 1, RACES, RACES + 1, RACES + 1, 32, 128, 255]),
+            ],
+            // The race stands before the slot.
+            4 => vec![73, block, race, slot],
+            // A race byte without its bit.
+            5 => vec![9, block, slot, race],
+            6..=10 => self.with_bit_6(random, race),
+            _ => return self.add_half_an_entry(random),
+        };
+        if random.chance(40) {
+            bytes[0] |= 128;
+        }
+        let is_member = bytes[0] >= 128;
+        self.add_bytes(&bytes);
+        if is_member && random.chance(60) {
+            self.add_bytes(&[16, 1]);
+        }
+    }
+
+    /// The bytes of an entry that is no write and applies, if one of its kind does, or of a write that is more than that, with
+    /// bit 6 and a race byte.
+    fn with_bit_6(&mut self, random: &mut Random, race: u8) -> Vec<u8> {
+        let state = &self.reading.state;
+        let block = random.pick_if_any(&blocks_of(state)).unwrap_or(1);
+        let list = state.list_of(block).unwrap_or(1);
+        let free_list = (1..=LISTS).find(|&list| !state.is_taken(list)).unwrap_or(1);
+        let free_block = (1..=BLOCKS).find(|&block| !state.is_on_a_list(block)).unwrap_or(1);
+        match random.below(8) {
+            0 => vec![66, free_list, race],
+            1 => vec![67, free_block, list, race],
+            2 => vec![71, free_block, list, block, race],
+            3 => vec![97, block, race],
+            4 => vec![98, list, race],
+            // A write with a removal, or with a list.
+            5 => vec![105, block, self.slots, race],
+            6 => vec![75, block, list, self.slots, race],
+            _ => vec![80, 0, race],
+        }
     }
 
     /// A commit of 15, 16 or more, behind as many members that apply: puts and deletions of one block, or writes.
@@ -322,7 +437,8 @@ impl Writer {
         let members: u8 = random.pick(&[15, 16, 16, 17, 20]);
         if let Some(block) = random.pick_if_any(&blocks_of(&state)).filter(|_| random.chance(50)) {
             for _ in 0..members {
-                self.add(random, Entry::Member(Change::Write { block }));
+                let race = any_race(random);
+                self.add(random, Entry::Member(Change::Write { block, race }));
             }
         } else if let Some(block) = (1..=BLOCKS).find(|&block| !state.is_on_a_list(block)) {
             for _ in 0..members.div_ceil(2) {
@@ -337,7 +453,10 @@ impl Writer {
     fn add_commit_behind_an_ended_run(&mut self, random: &mut Random) {
         let state = self.reading.state;
         let change = match random.pick_if_any(&blocks_of(&state)) {
-            Some(block) => Change::Write { block },
+            Some(block) => Change::Write {
+                block,
+                race: any_race(random),
+            },
             None => any_member_change(random),
         };
         self.add(random, Entry::Member(change));
@@ -391,6 +510,7 @@ impl Writer {
             (Change::TakeList { .. } | Change::DeleteList { .. }, _) => [0, LISTS, LISTS + 1],
             (Change::PutFirst { .. } | Change::PutAfter { .. }, 2) => [0, LISTS, LISTS + 1],
             (Change::Write { .. }, 2) => [0, SLOTS - 1, SLOTS],
+            (Change::Write { .. }, 3) => [0, RACES, RACES + 1],
             _ => [0, BLOCKS, BLOCKS + 1],
         };
         bytes[field] = random.pick(&borders);
@@ -414,7 +534,8 @@ fn change_of(random: &mut Random, state: &State) -> Change {
         return Change::DeleteBlock { block };
     }
     if let (5..=9, Some(block)) = (kind, random.pick_if_any(&blocks)) {
-        return Change::Write { block };
+        let race = any_race(random);
+        return Change::Write { block, race };
     }
     let (list, block) = (random.pick_if_any(state.lists()), random.pick_if_any(&free_blocks));
     if let (10..=18, Some(list), Some(block)) = (kind, list, block) {
@@ -441,6 +562,7 @@ fn any_member_change(random: &mut Random) -> Change {
     let list = random.between(1, u64::from(LISTS)) as u8;
     let block = random.between(1, u64::from(BLOCKS)) as u8;
     let predecessor = random.between(1, u64::from(BLOCKS)) as u8;
+    let race = any_race(random);
     random.pick(&[
         Change::PutFirst { block, list },
         Change::PutAfter {
@@ -448,7 +570,7 @@ fn any_member_change(random: &mut Random) -> Change {
             list,
             predecessor,
         },
-        Change::Write { block },
+        Change::Write { block, race },
         Change::DeleteBlock { block },
         Change::DeleteList { list },
     ])

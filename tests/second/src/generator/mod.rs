@@ -11,6 +11,7 @@ mod damage;
 mod logs;
 mod pages;
 mod power;
+mod races;
 mod windows;
 
 pub use cards::card;
@@ -54,6 +55,8 @@ enum Action {
     LongestPage,
     /// Units of several windows, and their conflicts.
     Windows,
+    /// Writes for races and for none.
+    Races,
     /// Stores, cuts, and what comes after them.
     Flush,
     CutFlush,
@@ -93,6 +96,7 @@ const COMMON: &[(Action, u64)] = &[
     (Action::Unwritten, 2),
     (Action::Pages, 1),
     (Action::Windows, 1),
+    (Action::Races, 1),
     (Action::CutFlush, 1),
     (Action::Cut, 1),
     (Action::Mount, 1),
@@ -280,6 +284,24 @@ const PROFILES: &[Profile] = &[
         segments: (1, 9),
         lines: (400, 1_200),
     },
+    // Races.
+    Profile {
+        actions: &[
+            (Action::Races, 30),
+            (Action::FullLog, 2),
+            (Action::Conflict, 3),
+            (Action::FillJournal, 3),
+            (Action::FillQueue, 3),
+            (Action::End, 8),
+            (Action::Show, 6),
+            (Action::Flush, 15),
+            (Action::CutFlush, 6),
+            (Action::Mount, 3),
+            (Action::Damage, 4),
+        ],
+        segments: (1, 9),
+        lines: (400, 1_200),
+    },
     // Formattings and remounts.
     Profile {
         actions: &[
@@ -412,6 +434,7 @@ impl Generator<'_> {
             Action::Pages => self.pages(),
             Action::LongestPage => self.longest_page(),
             Action::Windows => self.windows(),
+            Action::Races => self.races(),
             Action::Flush => self.flush(),
             Action::CutFlush => self.cut_flush(),
             Action::Cut => self.cut(),
@@ -420,6 +443,7 @@ impl Generator<'_> {
             Action::Format => self.format(),
             Action::NewCard => self.new_card(),
             Action::StoredLog => self.stored_log(),
+            Action::FullLog if self.random.chance(30) => self.full_log_for_a_race(),
             Action::FullLog => self.full_log(),
             Action::FaultyLog => self.faulty_log(),
             Action::Damage => self.damage(),

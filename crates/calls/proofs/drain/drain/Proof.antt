@@ -5,7 +5,7 @@ use native.Mathlib.Omega.{arith}
 use Rattle.disk.specs.Record.{recordIn}
 use borrow.Author.Needs.{needs}
 use Rattle.log.specs.Entry.{Entry}
-use Rattle.log.specs.Card.{Content}
+use Rattle.log.specs.Card.{Written}
 use Rattle.calls.specs.promises.Flushing.{HeadReady, Flushable}
 use Rattle.calls.proofs.Storing.{few-stores}
 use Rattle.calls.proofs.Draining.{dataAt, data-size, entry-met, heads-met, Going, going-start, going-head, going-on, flushes-full, flushes-spent, flushes-drained}
@@ -61,7 +61,7 @@ store-head-requires c κs =
     let l = c .before .before .before .before .before .loop in
     let q = c .before .before .queue-entry in
     let x = entry-met (a .queue-data .now) r _ (l .gone) (q .result .member) (q .result .entry) (c .before .before .before .before .before .before .before .before .before .before .head .ensures) (rw (l .inv .0) at (q .ensures .0)) (rw (l .inv .0) at (q .ensures .1)) in (
-      subst (λ (e : Entry Content). HeadReady (l .card) (l .place) e (l .done)) (sym x) (going-head (a .card .now) (a .queue-data .now) r (a .allowance) (a .behind) (l .card) (l .place) (l .done) (l .left) (l .gone) (l .inv .2) (omega (arith, c .before .before .before .before .loop-test .taken, c .before .before .before .before .before .before .before .before .len .ensures))),
+      subst (λ (e : Entry Written). HeadReady (l .card) (l .place) e (l .done)) (sym x) (going-head (a .card .now) (a .queue-data .now) r (a .allowance) (a .behind) (l .card) (l .place) (l .done) (l .left) (l .gone) (l .inv .2) (omega (arith, c .before .before .before .before .loop-test .taken, c .before .before .before .before .before .before .before .before .len .ensures))),
       data-size (a .queue-data .now) ((c .before .before .before .before .before .before .before .before .before .before .head .result + l .gone) % 32) (l .inv .1 .queueData) (omega arith),
     )
 

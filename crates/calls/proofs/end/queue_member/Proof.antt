@@ -52,7 +52,7 @@ returns : tie.Need-returns
 returns c d =
     let a = c .before .before .before .before .before .before .before .before .before .before .before .before .before .before .before .before .args in
     rw (c .before .before .before .before .before .before .before .before .before .before .before .before .e .given .1)
-    (member-write (a .queue-data .now) (a .journal-data .now) (recordIn (a .rec .now)) (a .k) _ _ _ (recordIn (c .append .last .0))
+    (member-write (a .queue-data .now) (a .journal-data .now) (recordIn (a .rec .now)) (a .k) _ _ _ _ (recordIn (c .append .last .0))
     (c .before .before .before .before .copy-in .ensures ∙ rw (c .before .before .before .before .before .before .before .before .before .head .ensures, c .before .before .before .before .before .before .before .len .ensures) (part-slot (a .queue-data .now) (a .journal-data .now) _ (a .k))) (c .append .ensures) d)
 
 returns-2 : tie.Need-returns-2

@@ -9,7 +9,7 @@ use borrow.Author.Needs.{needs}
 use borrow.Author.Tests.{not-true, not-false}
 use Rattle.lists.specs.Basic.{isSome}
 use Rattle.log.specs.Reader.{Reader}
-use Rattle.log.specs.Card.{Content, cardLength, sound, fault, mounted}
+use Rattle.log.specs.Card.{Written, cardLength, sound, fault, mounted}
 use Rattle.disk.specs.declared.answer.Refusal.the-variants.{WrongLength}
 use Rattle.disk.specs.declared.answer.MountReply.the-variants.{Accepted, Fault, Refused}
 use Rattle.disk.specs.Record.{freshRecord}
@@ -36,7 +36,7 @@ mount-fault : (d : Disk) (g i : ℕ) → lengthsRight d ≡ true → mounted (d 
 unfolding refusal questions firstNo ask mountable readerOf isSome refused ends refusalAnswer faultAt destination mountAnswer
 mount-fault d g i h m = perform-refused mount d 1 (rw (h, m)) ∙ rw m
 
-mount-accepted : (d : Disk) (r : Reader Content) → lengthsRight d ≡ true → mounted (d .card) ≡ sound r
+mount-accepted : (d : Disk) (r : Reader Written) → lengthsRight d ≡ true → mounted (d .card) ≡ sound r
     → Performs mount d (withRecord d freshRecord) (mountAnswer Accepted) []
 unfolding refusal questions firstNo ask mountable readerOf isSome accepted mountAnswer
 mount-accepted d r h m = perform-accepted mount d (rw (h, m))

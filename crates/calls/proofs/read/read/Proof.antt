@@ -2,9 +2,10 @@
 use mathlib.Core.Path.{sym, _∙_}
 use native.Mathlib.Omega.{arith}
 use lib.ListN.{length}
+use Rattle.log.specs.promises.Location.{contentAt}
 use Rattle.disk.specs.Disk.{diskIn}
 use Rattle.disk.specs.Call.{lentTo}
-use Rattle.disk.specs.Answers.{replyAnswer}
+use Rattle.disk.specs.Answers.{readAnswer}
 use Rattle.lists.proofs.Lookup.{location-said, placed-said}
 use borrow.Author.Needs.{needs}
 use borrow.Author.Tests.{not-true, not-false}
@@ -20,7 +21,7 @@ enum-known-x : tie.Need-enum-known-x
 enum-known-x c = search needs
 
 returns : tie.Need-returns
-unfolding lentTo replyAnswer
+unfolding lentTo readAnswer
 returns c = look-unseen _ _ _ _ (rw (c .before .x .given .1) at (c .before .before .before .look-view .ensures))
 
 enum-told : tie.Need-enum-told
@@ -88,12 +89,17 @@ copy-content-requires c κs =
       read-range (a .block) (length (a .dest .now)) w .1,
     )
 
+race-in-requires : tie.Need-race-in-requires
+race-in-requires c κs = omega (arith, c .before .before .before .before .if3 .left)
+
 same-length : tie.Need-same-length
 same-length c = search needs
 
 returns-5 : tie.Need-returns-5
+unfolding contentAt
 returns-5 c =
-    let l = c .before .before .before .before .before in
+    let k = c .before .before .before in
+    let l = k .before .before .before in
     let m = l .before .before in
     let q = m .before .before .before in
     let e = q .before .before .before in
@@ -101,7 +107,7 @@ returns-5 c =
     let w = sym r ∙ not-false (q .before .both .result) (q .if1 .left) in
     let s = rw (e .enum-told .given .1) at (e .before .before .look-view .ensures) in
     read-given _ _ _ _ _ s w _ (placed-said (m .before .is-placed .ensures)) (not-false (m .before .is-placed .result) (m .if2 .left))
-    (l .location-of .result) (location-said (l .location-of .ensures)) (c .before .before .before .before .if3 .left) _ (c .before .before .copy-content .ensures)
+    (l .location-of .result) (location-said (l .location-of .ensures)) (k .before .before .if3 .left) _ _ (k .copy-content .ensures) (c .race-in .ensures)
 
 pub read-spec : {M : Type 1} → statement M
 read-spec =
@@ -120,5 +126,6 @@ read-spec =
     location-of-requires
     returns-4
     copy-content-requires
+    race-in-requires
     same-length
     returns-5)

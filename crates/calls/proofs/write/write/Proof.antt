@@ -25,7 +25,7 @@ returns : tie.Need-returns
 unfolding replyAnswer
 returns c =
     let a = c .before .before .before .before .before .before .before .before .before .before .before .before .args in
-    edit-unseen (diskIn (a .card .now) (a .queue-data .now) (a .journal-data .now) (a .rec .now)) (a .stream) (writeBlock (a .block) (a .content .now)) _ (rw (c .before .x .given .1) at (c .before .before .before .look-stream .ensures))
+    edit-unseen (diskIn (a .card .now) (a .queue-data .now) (a .journal-data .now) (a .rec .now)) (a .stream) (writeBlock (a .block) (a .race) (a .content .now)) _ (rw (c .before .x .given .1) at (c .before .before .before .look-stream .ensures))
 
 enum-told : tie.Need-enum-told
 enum-told c = search needs
@@ -48,8 +48,8 @@ copy-content-requires c κs =
     let r = recordIn (w .last .0) in
     let d = diskIn (a .card .now) (a .queue-data .now) (a .journal-data .now) (a .rec .now) in
     let z = rw (c .before .before .before .before .before .before .before .before .before .enum-told .given .1) at (c .before .before .before .before .before .before .before .before .before .before .before .look-stream .ensures) in
-    let h = write-decides d (a .stream) (a .block) (a .content .now) (w .result) r _ z (w .ensures) in
-    rw (c .before .before .before .before .before .before .before .place-next .ensures) (write-fits d (a .stream) (a .block) (a .content .now) (w .result) r _ z (c .before .before .enum-told2 .given .1) h)
+    let h = write-decides d (a .stream) (a .block) (a .race) (a .content .now) (w .result) r _ z (w .ensures) in
+    rw (c .before .before .before .before .before .before .before .place-next .ensures) (write-fits d (a .stream) (a .block) (a .race) (a .content .now) (w .result) r _ z (c .before .before .enum-told2 .given .1) h)
 
 enum-told-3 : tie.Need-enum-told-3
 enum-told-3 c = search needs
@@ -67,8 +67,8 @@ returns-2 c =
     let r = recordIn (w .last .0) in
     let d = diskIn (a .card .now) (a .queue-data .now) (a .journal-data .now) (a .rec .now) in
     let z = rw (c .before .before .before .before .before .before .before .before .before .before .before .before .before .before .enum-told .given .1) at (c .before .before .before .before .before .before .before .before .before .before .before .before .before .before .before .before .look-stream .ensures) in
-    let h = write-decides d (a .stream) (a .block) (a .content .now) (w .result) r _ z (w .ensures) in
-    write-accepted d (a .stream) (a .block) (a .content .now) (w .result) r (c .before .before .before .before .before .before .before .enum-told2 .given .1) h _ _ (rw (c .before .before .before .before .before .before .before .before .before .before .before .before .place-next .ensures) at (c .before .before .before .before .copy-content .ensures))
+    let h = write-decides d (a .stream) (a .block) (a .race) (a .content .now) (w .result) r _ z (w .ensures) in
+    write-accepted d (a .stream) (a .block) (a .race) (a .content .now) (w .result) r (c .before .before .before .before .before .before .before .enum-told2 .given .1) h _ _ (rw (c .before .before .before .before .before .before .before .before .before .before .before .before .place-next .ensures) at (c .before .before .before .before .copy-content .ensures))
 
 same-length-5 : tie.Need-same-length-5
 same-length-5 c = search needs
@@ -83,8 +83,8 @@ returns-3 c =
     let r = recordIn (w .last .0) in
     let d = diskIn (a .card .now) (a .queue-data .now) (a .journal-data .now) (a .rec .now) in
     let z = rw (c .before .before .before .before .before .before .before .enum-told .given .1) at (c .before .before .before .before .before .before .before .before .before .look-stream .ensures) in
-    let h = write-decides d (a .stream) (a .block) (a .content .now) (w .result) r _ z (w .ensures) in
-    write-refused d (a .stream) (a .block) (a .content .now) (w .result) r _ (c .enum-told3 .given .1) h
+    let h = write-decides d (a .stream) (a .block) (a .race) (a .content .now) (w .result) r _ z (w .ensures) in
+    write-refused d (a .stream) (a .block) (a .race) (a .content .now) (w .result) r _ (c .enum-told3 .given .1) h
 
 pub write-spec : {M : Type 1} → statement M
 write-spec =

@@ -11,8 +11,8 @@ slice-aggregate-read c = search needs
 read-requires : tie.Need-read-requires
 read-requires c κs = search needs
 
-enum-told : tie.Need-enum-told
-enum-told c = search needs
+enum-known-race : tie.Need-enum-known-race
+enum-known-race c = search needs
 
 slice-aggregate-put-block : tie.Need-slice-aggregate-put-block
 slice-aggregate-put-block c = search needs
@@ -20,8 +20,8 @@ slice-aggregate-put-block c = search needs
 put-block-requires : tie.Need-put-block-requires
 put-block-requires c κs = search needs
 
-enum-told-2 : tie.Need-enum-told-2
-enum-told-2 c = search needs
+enum-told : tie.Need-enum-told
+enum-told c = search needs
 
 put-unwritten-requires : tie.Need-put-unwritten-requires
 put-unwritten-requires c κs = search needs
@@ -31,11 +31,11 @@ same-length c = search needs
 
 returns : tie.Need-returns
 returns c =
-    let e = c .before .before .before .before .before in
+    let e = c .before .before .before .before .before .before in
     let r = e .before .before .before in
     let a = r .before .before .before .before .before .before .args in
     let d = diskIn (a .card .now) (a .queue .now) (a .journal .now) (a .rec .now) in
-    rw (block-read d (a .view) (a .block) _ (rw (e .enum-told .given .1) at (r .read .ensures))) (c .before .before .put-block .ensures)
+    rw (block-read d (a .view) (a .block) _ _ (rw (e .race .given .1) at (r .read .ensures))) (c .before .before .put-block .ensures)
 
 same-length-2 : tie.Need-same-length-2
 same-length-2 c = search needs
@@ -46,7 +46,7 @@ returns-2 c =
     let r = e .before .before .before in
     let a = r .before .before .before .before .before .before .args in
     let d = diskIn (a .card .now) (a .queue .now) (a .journal .now) (a .rec .now) in
-    rw (block-unread d (a .view) (a .block) _ _ (rw (e .enum-told2 .given .1) at (r .read .ensures))) (c .before .before .put-unwritten .ensures)
+    rw (block-unread d (a .view) (a .block) _ _ (rw (e .enum-told .given .1) at (r .read .ensures))) (c .before .before .put-unwritten .ensures)
 
 pub show-block-spec : {M : Type 1} → statement M
 show-block-spec =
@@ -54,10 +54,10 @@ show-block-spec =
     (tie.spec
     slice-aggregate-read
     read-requires
-    enum-told
+    enum-known-race
     slice-aggregate-put-block
     put-block-requires
-    enum-told-2
+    enum-told
     put-unwritten-requires
     same-length
     returns

@@ -1,6 +1,6 @@
 -- The invariant: the changes from number k on lead from the state that the tables show to where all of them led, and so far every one applied if
 -- `every` says so. Assumes nothing.
-use mathlib.Core.Path.{_≡_}
+use mathlib.Core.Path.{_≡_, _∙_}
 use mathlib.Core.Logic.{inl, inr, ⊎-elim}
 use Prim.Native.Nat.{ℕ, _+_, _-_, _*_, _≤_}
 use native.Mathlib.Omega.{arith}
@@ -8,7 +8,7 @@ use borrow.Author.Tests.{not-true, not-false}
 use Rattle.lists.specs.State.{State}
 use Rattle.lists.specs.promises.Tables.{Shows, tablesIn}
 use Rattle.disk.specs.Record.{recordIn, unitAt}
-use Rattle.inspect.proofs.Overlaying.{Laid, laid-none, laid-turn, laid-all}
+use Rattle.inspect.proofs.Overlaying.{Laid, journal-race, laid-none, laid-turn, laid-all}
 use borrow.Author.Needs.{needs}
 use Rattle.inspect.proofs.journal.enter_journal.Statement.{statement}
 use Rattle.inspect.proofs.journal.enter_journal.Tie as tie
@@ -45,11 +45,18 @@ journal-entry-requires c κs = search needs
 fields-of-requires : tie.Need-fields-of-requires Inv-loop μ-loop
 fields-of-requires c κs = search needs
 
-cast-act : tie.Need-cast-act Inv-loop μ-loop
-cast-act c = search needs
+cast-number-of : tie.Need-cast-number-of Inv-loop μ-loop
+cast-number-of c = search needs
 
-add-act : tie.Need-add-act Inv-loop μ-loop
-add-act c = search needs
+add-number-of : tie.Need-add-number-of Inv-loop μ-loop
+add-number-of c = search needs
+
+number-of-requires : tie.Need-number-of-requires Inv-loop μ-loop
+number-of-requires c κs =
+    let f = c .before in
+    let o = f .before .before .before in
+    let s = o .before .before in
+    (omega arith, rw (f .fields-of .ensures, f .before .journal-entry .ensures) (journal-race (unitAt (recordIn (s .args .rec .now)) (s .args .u)) (s .pre .3) (o .loop .k) (omega arith)))
 
 act-requires : tie.Need-act-requires Inv-loop μ-loop
 act-requires c κs = search needs
@@ -63,15 +70,16 @@ loop-less c = search needs
 loop-again : tie.Need-loop-again Inv-loop μ-loop
 loop-again c =
     let a = c .before .act in
-    let f = c .before .before .before in
+    let w = c .before .before .number-of in
+    let f = c .before .before .before .before in
     let o = f .before .before .before in
     let s₀ = o .before .before in (
       omega arith,
       o .loop .inv .1,
       λ s h.
-          laid-turn _ _ s (s₀ .pre .3) _ (a .result) _ (o .loop .k) (1057 + (s₀ .args .u - 1) * 15 + o .loop .k)
+          laid-turn _ _ s (s₀ .pre .3) _ (a .result) _ (o .loop .k) (w .result)
           (tablesIn (o .loop .nodes))
-          (tablesIn (a .last .0)) (omega arith) (omega arith)
+          (tablesIn (a .last .0)) (omega arith) ((rw (f .fields-of .ensures, f .before .journal-entry .ensures) at (w .ensures)) ∙ omega arith)
           (⊎-elim (λ w. inl (not-true (a .result) (w .0 .taken), w .1)) (λ w. inr (not-false (a .result) (w .0 .left), w .1)) (c .if1 .came))
           (rw (f .fields-of .ensures, f .before .journal-entry .ensures) at (a .ensures))
           (o .loop .inv .2 s h),
@@ -94,8 +102,9 @@ enter-journal-spec =
     loop-holds
     journal-entry-requires
     fields-of-requires
-    cast-act
-    add-act
+    cast-number-of
+    add-number-of
+    number-of-requires
     act-requires
     add-k
     loop-less

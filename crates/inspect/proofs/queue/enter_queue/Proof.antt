@@ -56,7 +56,10 @@ add-feed : tie.Need-add-feed Inv-loop μ-loop
 add-feed c = search needs
 
 feed-requires : tie.Need-feed-requires Inv-loop μ-loop
-feed-requires c κs = search needs
+feed-requires c κs =
+    let i = c .before .before in
+    let a = i .before .is-legal in
+    (omega arith, omega arith, sym (a .ensures) ∙ not-false (a .result) (i .if1 .left))
 
 enum-known-fed : tie.Need-enum-known-fed Inv-loop μ-loop
 enum-known-fed c = search needs

@@ -1,4 +1,4 @@
--- The word where the location is 0, else the sum. Assumes nothing.
+-- The word where the number is 0, else the sum. Assumes nothing.
 use native.Mathlib.Omega.{arith}
 use borrow.Author.Needs.{needs}
 use Rattle.lists.proofs.Owners.{located-some}
@@ -33,7 +33,7 @@ unfolding contentText
 returns-2 c =
     let s = c .before .before .before in
     let a = s .before .before .before .before .before .args in
-    rw (located-some (a .location) (omega arith), ← s .sum-at .ensures) (c .before .before .put-decimal .ensures)
+    rw (located-some (a .number) (omega arith), ← s .sum-at .ensures) (c .before .before .put-decimal .ensures)
 
 pub put-content-spec : {M : Type 1} → statement M
 put-content-spec =

@@ -1,5 +1,6 @@
 -- A slot of the card, or nothing. Assumes nothing.
 use mathlib.Core.Path.{ap, _∙_}
+use Prim.Native.Nat.{_-_, _%_}
 use native.Mathlib.Omega.{arith}
 use borrow.Author.Needs.{needs}
 use Rattle.listing.specs.Listing.{total}
@@ -9,10 +10,13 @@ use Rattle.listing.proofs.block_lines.sum_at.Statement.{statement}
 use Rattle.listing.proofs.block_lines.sum_at.Tie as tie
 
 returns : tie.Need-returns
-returns c = let a = c .before .before .args in sum-out (a .card .now) (a .location) (omega arith)
+returns c = let a = c .before .before .args in sum-out (a .card .now) (a .number) (omega arith)
 
-sub-from : tie.Need-sub-from
-sub-from c = search needs
+sub-at : tie.Need-sub-at
+sub-at c = search needs
+
+cast-from : tie.Need-cast-from
+cast-from c = search needs
 
 mul-from : tie.Need-mul-from
 mul-from c = search needs
@@ -24,13 +28,13 @@ part-requires : tie.Need-part-requires
 part-requires c κs = search needs
 
 sum-requires : tie.Need-sum-requires
-sum-requires c κs = let a = c .before .before .before .args in rw (c .part .ensures) (part-length (a .card .now) (a .location))
+sum-requires c κs = let a = c .before .before .before .args in rw (c .part .ensures) (part-length (a .card .now) ((a .number - 1) % 2048))
 
 returns-2 : tie.Need-returns-2
 returns-2 c =
     let a = c .before .before .before .before .args in
-    c .sum .ensures ∙ ap total (c .before .part .ensures) ∙ sum-in (a .card .now) (a .location) (omega arith)
+    c .sum .ensures ∙ ap total (c .before .part .ensures) ∙ sum-in (a .card .now) (a .number) (omega arith)
 
 pub sum-at-spec : {M : Type 1} → statement M
 sum-at-spec =
-    tie.close (tie.spec returns sub-from mul-from add-part part-requires sum-requires returns-2)
+    tie.close (tie.spec sub-at returns cast-from mul-from add-part part-requires sum-requires returns-2)

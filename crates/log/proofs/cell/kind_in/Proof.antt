@@ -30,10 +30,14 @@ returns-6 c = rw (c .match .keys6)
 
 returns-7 : tie.Need-returns-7
 unfolding kindIn
-returns-7 c =
+returns-7 c = rw (c .match .keys7)
+
+returns-8 : tie.Need-returns-8
+unfolding kindIn
+returns-8 c =
     let r = c .match .rest in
     let k = c .before .args .kind in
-    simp (ne-eqb k 2 (r .0 .0 .0 .0 .0 .1), ne-eqb k 3 (r .0 .0 .0 .0 .1), ne-eqb k 7 (r .0 .0 .0 .1), ne-eqb k 9 (r .0 .0 .1), ne-eqb k 33 (r .0 .1), ne-eqb k 34 (r .1))
+    simp (ne-eqb k 2 (r .0 .0 .0 .0 .0 .0 .1), ne-eqb k 3 (r .0 .0 .0 .0 .0 .1), ne-eqb k 7 (r .0 .0 .0 .0 .1), ne-eqb k 9 (r .0 .0 .0 .1), ne-eqb k 73 (r .0 .0 .1), ne-eqb k 33 (r .0 .1), ne-eqb k 34 (r .1))
 
 pub kind-in-spec : {M : Type 1} → statement M
-kind-in-spec = tie.close (tie.spec returns returns-2 returns-3 returns-4 returns-5 returns-6 returns-7)
+kind-in-spec = tie.close (tie.spec returns returns-2 returns-3 returns-4 returns-5 returns-6 returns-7 returns-8)

@@ -81,7 +81,7 @@ returns-5 : tie.Need-returns-5
 returns-5 c =
     let s = c .before .before .before .before in
     let a = s .before .args in
-    rw (c .before .before .e4 .given .1, c .field4 .ensures) (code-field (a .member) (a .slot) (Write _ _) (a .i) (s .if1 .left))
+    rw (c .before .before .e4 .given .1, c .field4 .ensures) (code-field (a .member) (a .slot) (Write _ _ _) (a .i) (s .if1 .left))
 
 returns-6 : tie.Need-returns-6
 returns-6 c =

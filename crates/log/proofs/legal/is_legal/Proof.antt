@@ -80,7 +80,7 @@ returns-3 c = cc (legal-tested (c .before .before .before .args .member) (PutAft
 
 -- src/legal.rt:41:1
 returns-4 : tie.Need-returns-4
-returns-4 c = cc (legal-tested (c .before .before .before .args .member) (Write (c .before .enum-told3 .given .0 .0) (c .before .enum-told3 .given .0 .1 .0)))
+returns-4 c = cc (legal-tested (c .before .before .before .args .member) (Write (c .before .enum-told3 .given .0 .0) (c .before .enum-told3 .given .0 .1 .0) (c .before .enum-told3 .given .0 .1 .1 .0)))
 
 -- src/legal.rt:41:1
 returns-5 : tie.Need-returns-5

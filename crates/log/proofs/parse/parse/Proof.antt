@@ -1,4 +1,4 @@
--- Each arm picks the fields of its kind, which stand before the end if the entry fits; the kinds with one field are `parse_short`'s. Assumes nothing.
+-- Each arm picks the fields of its kind, which stand before the end if the entry fits; a write with a race is `parse_raced`'s, the kinds with one field are `parse_short`'s. Assumes nothing.
 use mathlib.Core.Path.{refl, sym, _∙_}
 use native.Mathlib.Omega.{arith}
 use lib.Count.{ones}
@@ -129,6 +129,9 @@ length-requires-3 c κs = search needs
 add-t39 : tie.Need-add-t39
 add-t39 c = search needs
 
+parse-raced-requires : tie.Need-parse-raced-requires
+parse-raced-requires c κs = search needs
+
 parse-short-requires : tie.Need-parse-short-requires
 parse-short-requires c κs = search needs
 
@@ -221,7 +224,10 @@ returns-9 c =
     (sym (z .before .fits4 .ensures) ∙ false-not _ (z .if5 .left)) (d .before .field6 .ensures) (d .field7 .ensures) t refl))
 
 returns-10 : tie.Need-returns-10
-returns-10 c = search needs
+returns-10 c = rw (c .before .match .keys4) (c .parse-raced .ensures)
+
+returns-11 : tie.Need-returns-11
+returns-11 c = search needs
 
 pub parse-spec : {M : Type 1} → statement M
 parse-spec =
@@ -259,6 +265,7 @@ parse-spec =
     both-requires-5
     length-requires-3
     add-t39
+    parse-raced-requires
     parse-short-requires
     returns-4
     returns-5
@@ -266,4 +273,5 @@ parse-spec =
     returns-7
     returns-8
     returns-9
-    returns-10)
+    returns-10
+    returns-11)

@@ -186,7 +186,7 @@ returns-13 c =
     let s = c .before .before in
     let r = c .match .rest in
     let p = s .pre in
-    parsed-none (s .args .card .now) (s .args .at) (s .args .end) (s .args .slots) (s .args .kind) (p .1) (r .0 .0 .0 .1) (p .2) (p .3) (p .4) (r .0 .0 .1) (r .0 .1) (r .1)
+    parsed-none (s .args .card .now) (s .args .at) (s .args .end) (s .args .slots) (s .args .kind) (p .1) (r .0 .0 .0 .1) (p .2) (p .3) (p .4) (p .5) (r .0 .0 .1) (r .0 .1) (r .1)
 
 pub parse-short-spec : {M : Type 1} → statement M
 parse-short-spec =

@@ -1,6 +1,6 @@
 -- Each arm keeps its fields; a take and a commit have no member's map. Assumes nothing.
 use mathlib.Core.Path.{refl, sym}
-use Prim.Native.Nat.{_+_}
+use Prim.Native.Nat.{_+_, _*_}
 use native.Mathlib.Omega.{arith}
 use native.Mathlib.Nat.{add-zero}
 use Rattle.lists.specs.Change.{carriedBy}
@@ -8,6 +8,8 @@ use Rattle.lists.specs.promises.Tables.{ofKind}
 use Rattle.log.specs.Entry.{asEntry, carried}
 use Rattle.log.specs.Card.{usedBy}
 use Rattle.log.specs.promises.Location.{cardLocation}
+use Rattle.log.specs.declared.entry.LogEntry.the-variants.{Write}
+use Rattle.log.proofs.Feeding.{legal-race}
 use Rattle.log.proofs.Entering.{enters-later, enters-never}
 use borrow.Author.Needs.{needs}
 use Rattle.log.proofs.walk.member.Statement.{statement}
@@ -45,6 +47,12 @@ enum-known-e-3 c = search needs
 
 card-location-requires : tie.Need-card-location-requires
 card-location-requires c κs = search needs
+
+number-of-requires : tie.Need-number-of-requires
+number-of-requires c κs =
+    let s = c .before .before .before .before in
+    let g = c .before .before .e3 .given in
+    (rw (c .card-location .ensures) (omega (arith, s .pre .0, s .pre .1)), legal-race (Write (g .0 .0) (g .0 .1 .0) (g .0 .1 .1 .0)) (rw (g .1) at (s .pre .3)))
 
 keep-requires-3 : tie.Need-keep-requires-3
 keep-requires-3 c κs = search needs
@@ -113,10 +121,13 @@ returns-4 : tie.Need-returns-4
 unfolding ofKind carried carriedBy asEntry usedBy
 returns-4 c =
     λ t.
-    let s = c .before .before .before .before .before .before .before .args in
+    let s = c .before .before .before .before .before .before .before .before .args in
     let k = c .before .keep3 .ensures in
-    rw (k .1, c .before .before .before .card-location .ensures)
-    (enters-later (record { tables = t; members = s .members .now }) (s .run) (s .e) _ (c .before .before .before .before .before .e3 .given .1) (cardLocation (s .g) (s .slots)) (s .at) (s .slots) (omega arith) (cardLocation (s .g) (s .slots)) _ (s .slots + 1) (rw (k .0) at (c .go3 .ensures)) refl (λ z. omega arith) refl refl)
+    let n = c .before .before .before .number-of .ensures in
+    let l = c .before .before .before .before .card-location .ensures in
+    let g = c .before .before .before .before .before .before .e3 .given in
+    rw (k .1, n, l)
+    (enters-later (record { tables = t; members = s .members .now }) (s .run) (s .e) _ (g .1) (cardLocation (s .g) (s .slots)) (s .at) (s .slots) (omega arith) (cardLocation (s .g) (s .slots) + 2048 * g .0 .1 .1 .0) _ (s .slots + 1) (rw (k .0) at (c .go3 .ensures)) refl (λ z. omega arith) refl refl)
 
 returns-5 : tie.Need-returns-5
 unfolding ofKind carried carriedBy asEntry usedBy
@@ -157,6 +168,7 @@ member-spec =
     go-requires-2
     enum-known-e-3
     card-location-requires
+    number-of-requires
     keep-requires-3
     add-go-3
     add-go-4

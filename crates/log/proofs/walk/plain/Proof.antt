@@ -9,6 +9,8 @@ use Rattle.log.specs.Entry.{asEntry, carried}
 use Rattle.log.specs.Card.{usedBy}
 use Rattle.log.specs.promises.Feed.{memory}
 use Rattle.log.specs.promises.Location.{cardLocation}
+use Rattle.log.specs.declared.entry.LogEntry.the-variants.{Write}
+use Rattle.log.proofs.Feeding.{legal-race}
 use Rattle.log.proofs.Entering.{enters-now, enters-commit}
 use borrow.Author.Needs.{needs}
 use Rattle.log.proofs.walk.plain.Statement.{statement}
@@ -46,6 +48,12 @@ enum-known-e-4 c = search needs
 
 card-location-requires : tie.Need-card-location-requires
 card-location-requires c κs = search needs
+
+number-of-requires : tie.Need-number-of-requires
+number-of-requires c κs =
+    let s = c .before .before .before .before in
+    let g = c .before .before .e4 .given in
+    (rw (c .card-location .ensures) (omega (arith, s .pre .0, s .pre .1)), legal-race (Write (g .0 .0) (g .0 .1 .0) (g .0 .1 .1 .0)) (rw (g .1) at (s .pre .2)))
 
 act-requires-4 : tie.Need-act-requires-4
 act-requires-4 c κs = search needs
@@ -113,10 +121,10 @@ returns-3 c =
 returns-4 : tie.Need-returns-4
 unfolding ofKind carried carriedBy asEntry usedBy
 returns-4 c =
-    let s = c .before .before .before .before .before .before .before .args in
+    let s = c .before .before .before .before .before .before .before .before .args in
     let a = c .before .act4 in
-    enters-now (memory (s .nodes .now) (s .members .now)) (s .run) (s .e) _ (c .before .before .before .before .before .e4 .given .1) (cardLocation (s .g) (s .slots)) (s .at) (s .slots) (omega arith) (a .result) (tablesIn (a .last .0)) _ (s .slots + 1) (c .go4 .ensures) refl (λ z. omega arith)
-    (rw (c .before .before .before .card-location .ensures) at (a .ensures))
+    enters-now (memory (s .nodes .now) (s .members .now)) (s .run) (s .e) _ (c .before .before .before .before .before .before .e4 .given .1) (cardLocation (s .g) (s .slots)) (s .at) (s .slots) (omega arith) (a .result) (tablesIn (a .last .0)) _ (s .slots + 1) (c .go4 .ensures) refl (λ z. omega arith)
+    (rw (c .before .before .before .number-of .ensures, c .before .before .before .before .card-location .ensures) at (a .ensures))
 
 returns-5 : tie.Need-returns-5
 unfolding ofKind carried carriedBy asEntry usedBy
@@ -154,6 +162,7 @@ plain-spec =
     go-requires-3
     enum-known-e-4
     card-location-requires
+    number-of-requires
     act-requires-4
     add-go
     go-requires-4

@@ -1,5 +1,6 @@
 -- Found, then entered: what each way says of the segment's items from the cursor on. Assumes nothing.
 use mathlib.Core.Bool.{true, false}
+use native.Mathlib.Omega.{arith}
 use Rattle.lists.specs.promises.Tables.{tablesIn}
 use Rattle.log.specs.promises.Feed.{memory}
 use Rattle.log.proofs.Entering.{steps-bad, steps-entered}
@@ -14,13 +15,19 @@ enum-known-e : tie.Need-enum-known-e
 enum-known-e c = search needs
 
 member-requires : tie.Need-member-requires
-member-requires c κs = search needs
+member-requires c κs =
+    let p = c .before .before .before .before .before .before .pre in
+    let f = rw (c .before .before .e .given .1) at (c .before .before .before .before .entry-at .ensures) in
+    (omega (arith, p .holds, p .small), p .few, p .short, f .ranged)
 
 enum-known-e-2 : tie.Need-enum-known-e-2
 enum-known-e-2 c = search needs
 
 plain-requires : tie.Need-plain-requires
-plain-requires c κs = search needs
+plain-requires c κs =
+    let p = c .before .before .before .before .before .before .before .pre in
+    let f = rw (c .before .before .before .e2 .given .1) at (c .before .before .before .before .before .entry-at .ensures) in
+    (omega (arith, p .holds, p .small), p .few, f .ranged)
 
 enum-told : tie.Need-enum-told
 enum-told c = search needs

@@ -21,8 +21,8 @@ slice-aggregate-put-bytes-2 c = search needs
 put-bytes-requires-2 : tie.Need-put-bytes-requires-2
 put-bytes-requires-2 c κs = search needs
 
-put-hex-requires : tie.Need-put-hex-requires
-put-hex-requires c κs = search needs
+put-raced-requires : tie.Need-put-raced-requires
+put-raced-requires c κs = search needs
 
 put-byte-requires : tie.Need-put-byte-requires
 put-byte-requires c κs = search needs
@@ -32,7 +32,7 @@ same-length c = search needs
 
 returns : tie.Need-returns
 unfolding blockLine bytes
-returns c = puts-more (puts-more (puts-more (puts-more (c .before .before .before .before .before .before .before .before .before .before .before .before .before .before .before .before .before .before .before .put-bytes .ensures) (c .before .before .before .before .before .before .before .before .before .before .before .before .before .before .before .put-decimal .ensures)) (c .before .before .before .before .before .before .before .before .before .before .put-bytes2 .ensures)) (c .before .before .before .before .before .before .put-hex .ensures)) (c .before .before .put-byte .ensures)
+returns c = puts-more (puts-more (puts-more (puts-more (c .before .before .before .before .before .before .before .before .before .before .before .before .before .before .before .before .before .before .before .put-bytes .ensures) (c .before .before .before .before .before .before .before .before .before .before .before .before .before .before .before .put-decimal .ensures)) (c .before .before .before .before .before .before .before .before .before .before .put-bytes2 .ensures)) (c .before .before .before .before .before .before .put-raced .ensures)) (c .before .before .put-byte .ensures)
 
 pub put-block-spec : {M : Type 1} → statement M
 put-block-spec =
@@ -43,7 +43,7 @@ put-block-spec =
     put-decimal-requires
     slice-aggregate-put-bytes-2
     put-bytes-requires-2
-    put-hex-requires
+    put-raced-requires
     put-byte-requires
     same-length
     returns)

@@ -10,10 +10,21 @@ enum-told : tie.Need-enum-told
 enum-told c = search needs
 
 returns : tie.Need-returns
-returns c = rw (c .before .n .given .1)
+returns c = search needs
+
+enum-known-m : tie.Need-enum-known-m
+enum-known-m c = search needs
+
+enum-told-2 : tie.Need-enum-told-2
+enum-told-2 c = search needs
 
 returns-2 : tie.Need-returns-2
 returns-2 c = search needs
 
+returns-3 : tie.Need-returns-3
+returns-3 c = rw (c .before .before .before .before .n .given .1, c .before .m .given .1)
+
 pub write-spec : {M : Type 1} → statement M
-write-spec = tie.close (tie.spec enum-known-n enum-told returns returns-2)
+write-spec =
+    tie.close
+    (tie.spec enum-known-n enum-told returns enum-known-m enum-told-2 returns-2 returns-3)

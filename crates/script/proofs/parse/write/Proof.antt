@@ -31,21 +31,21 @@ number-requires c κs = search needs
 number-requires-2 : tie.Need-number-requires-2
 number-requires-2 c κs = search needs
 
-part-lent-requires : tie.Need-part-lent-requires
-part-lent-requires c κs = search needs
+lent-raced-requires : tie.Need-lent-raced-requires
+lent-raced-requires c κs = search needs
 
 pair-requires : tie.Need-pair-requires
 pair-requires c κs = search needs
-
-triple-requires : tie.Need-triple-requires
-triple-requires c κs = search needs
 
 write-requires : tie.Need-write-requires
 write-requires c κs = search needs
 
 returns-2 : tie.Need-returns-2
 unfolding writeFrom
-returns-2 c = rw (← (c .before .before .before .before .before .before .before .before .before .before .before .word .ensures), ← (c .before .before .before .before .before .before .before .before .before .before .word2 .ensures), ← (c .before .before .before .before .before .before .before .before .before .word3 .ensures), ← (c .before .before .before .before .before .before .before .before .part .ensures), sym (c .before .before .before .before .before .before .before .is-hex .ensures) ∙ not-false _ (c .before .before .before .before .before .before .if1 .left), ← (c .before .before .before .before .before .number .ensures), ← (c .before .before .before .before .number2 .ensures), ← (c .before .before .before .part-lent .ensures), ← (c .before .before .pair .ensures), ← (c .before .triple .ensures)) (c .write .ensures)
+returns-2 c =
+    let i = c .before .before .before .before .before in
+    let x = i .before .before in
+    rw (← (x .before .before .before .word .ensures), ← (x .before .before .word2 .ensures), ← (x .before .word3 .ensures), ← (x .part .ensures), sym (i .before .is-hex .ensures) ∙ not-false _ (i .if1 .left), ← (c .before .before .before .before .number .ensures), ← (c .before .before .before .number2 .ensures), ← (c .before .before .lent-raced .ensures), ← (c .before .pair .ensures)) (c .write .ensures)
 
 pub write-spec : {M : Type 1} → statement M
 write-spec =
@@ -59,8 +59,7 @@ write-spec =
     returns
     number-requires
     number-requires-2
-    part-lent-requires
+    lent-raced-requires
     pair-requires
-    triple-requires
     write-requires
     returns-2)

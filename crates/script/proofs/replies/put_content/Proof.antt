@@ -12,8 +12,8 @@ slice-aggregate-put-bytes c = search needs
 put-bytes-requires : tie.Need-put-bytes-requires
 put-bytes-requires c κs = search needs
 
-put-hex-requires : tie.Need-put-hex-requires
-put-hex-requires c κs = search needs
+put-raced-requires : tie.Need-put-raced-requires
+put-raced-requires c κs = search needs
 
 put-byte-requires : tie.Need-put-byte-requires
 put-byte-requires c κs = search needs
@@ -23,7 +23,7 @@ same-length c = search needs
 
 returns : tie.Need-returns
 unfolding contentLine bytes
-returns c = puts-more (puts-more (c .before .before .before .before .before .before .before .before .before .before .put-bytes .ensures) (c .before .before .before .before .before .before .put-hex .ensures)) (c .before .before .put-byte .ensures)
+returns c = puts-more (puts-more (c .before .before .before .before .before .before .before .before .before .before .put-bytes .ensures) (c .before .before .before .before .before .before .put-raced .ensures)) (c .before .before .put-byte .ensures)
 
 pub put-content-spec : {M : Type 1} → statement M
 put-content-spec =
@@ -31,7 +31,7 @@ put-content-spec =
     (tie.spec
     slice-aggregate-put-bytes
     put-bytes-requires
-    put-hex-requires
+    put-raced-requires
     put-byte-requires
     same-length
     returns)
