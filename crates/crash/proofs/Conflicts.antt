@@ -22,7 +22,7 @@ use Rattle.disk.proofs.Counting.{counts-move}
 use Rattle.disk.proofs.Windows.{Other, window-stays, window-begun, reset-closed}
 use Rattle.crash.specs.Event.{Event, called, cutBetween, cutFlush, cutFormat, Parts, World, lend, giveBack, lentWhole, isAccepted, step, mayHappen}
 use Rattle.crash.specs.Demand3.{Scene, sceneStep, play, valid, begun}
-use Rattle.crash.specs.Conflicts.{heard, heardAll, names, windowNamed, refusedEnds, ConflictsByHistory}
+use Rattle.crash.specs.Conflicts.{heard, heardAll, windowNamed, refusedEnds, ConflictsByHistory}
 
 abbrev Heard : Type 0
 Heard = List (Call × ℕ)
@@ -53,7 +53,7 @@ reset-counted c d xs r h = record {
 
 -- What the last call says of unit u's window.
 named-same : (c : Call) (d : Disk) (u : ℕ) (xs : Heard) → Other c d u → windowNamed u ((c, refusal c d) ∷ xs) ≡ windowNamed u xs
-unfolding windowNamed names
+unfolding windowNamed
 named-same format d u xs o = refl
 named-same mount d u xs o = refl
 named-same (conflictCount w) d u xs o = refl
@@ -69,7 +69,7 @@ named-same (end v) d u xs o = refl
 named-same (flush a) d u xs o = refl
 
 named-begun : (u w : ℕ) (d : Disk) (xs : Heard) → refusal (begin u w) d ≡ 0 → windowNamed u ((begin u w, refusal (begin u w) d) ∷ xs) ≡ w
-unfolding windowNamed names
+unfolding windowNamed
 named-begun u w d xs h = rw h (rw (eqb-same u))
 
 decide : (c : Call) (d : Disk) (u : ℕ) → Other c d u ⊎ ((w : ℕ) × (c ≡ begin u w) × (refusal c d ≡ 0))

@@ -23,8 +23,7 @@ use Rattle.disk.specs.Answers.{flushAnswer}
 use Rattle.disk.proofs.Performing.{perform-accepted, perform-refused, refusal-code}
 use Rattle.crash.specs.Event.{Event, called, Parts, lend, lentWhole, isAccepted, answered, mayHappen}
 use Rattle.crash.specs.Book.{Book, Waiting, entriesOf, longest, closingOnCard, onCard, bookFlush, bookAccepted, bookCalled, bookStep}
-use Rattle.crash.specs.Demand3.{Scene, sceneStep, play, valid, begun}
-use Rattle.crash.specs.Covered.{DrainedCovers}
+use Rattle.crash.specs.Demand3.{Scene, sceneStep, play, valid, begun, DrainedCovers}
 use Rattle.crash.proofs.History.{tell, on-card}
 use Rattle.crash.proofs.Told.{Told}
 use Rattle.crash.proofs.Lending.{lend-whole}

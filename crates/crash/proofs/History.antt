@@ -13,18 +13,18 @@ use lib.Seq.{drop-at}
 use Rattle.lists.specs.Basic.{bind, guard, any, joined}
 use Rattle.lists.specs.Change.{Change}
 use Rattle.lists.specs.State.{State, apply, applyAll}
-use Rattle.lists.proofs.Basic.{eqb-false, eqb-neq, any-joined}
+use Rattle.lists.proofs.Basic.{eqb-false, eqb-neq, any-joined, bind-bind, bind-ext}
 use Rattle.log.specs.Entry.{Entry, plain, member, commit}
 use Rattle.log.specs.Reader.{Reader, reader, settled, lastOf, read, replay}
 use Rattle.log.specs.Card.{Written}
-use Rattle.crash.specs.Book.{Act, simple, whole, act, acts, Waiting, longest, closingOnCard, isNumber, memberOf, entriesOf}
+use Rattle.crash.specs.Book.{Act, Waiting, longest, closingOnCard, isNumber, memberOf, entriesOf}
 
 -- the serial history that entries tell to a reader with a run behind it
 unfoldable pub tell : List (Change Written) → List (Entry Written) → List Act
 tell run [] = []
-tell run (plain c ∷ es) = simple c ∷ tell [] es
+tell run (plain c ∷ es) = (c ∷ []) ∷ tell [] es
 tell run (member c ∷ es) = tell (run ++ c ∷ []) es
-tell run (commit n ∷ es) = whole (lastOf n run) ∷ tell [] es
+tell run (commit n ∷ es) = lastOf n run ∷ tell [] es
 
 -- the run that they leave
 unfoldable pub runAfter : List (Change Written) → List (Entry Written) → List (Change Written)
@@ -36,9 +36,9 @@ runAfter run (commit n ∷ es) = runAfter [] es
 pub tell-append : (run : List (Change Written)) (xs ys : List (Entry Written)) → tell run (xs ++ ys) ≡ tell run xs ++ tell (runAfter run xs) ys
 unfolding tell runAfter
 tell-append run [] ys = refl
-tell-append run (plain c ∷ xs) ys = ap (λ (l : List Act). simple c ∷ l) (tell-append [] xs ys)
+tell-append run (plain c ∷ xs) ys = ap (λ (l : List Act). (c ∷ []) ∷ l) (tell-append [] xs ys)
 tell-append run (member c ∷ xs) ys = tell-append (run ++ c ∷ []) xs ys
-tell-append run (commit n ∷ xs) ys = ap (λ (l : List Act). whole (lastOf n run) ∷ l) (tell-append [] xs ys)
+tell-append run (commit n ∷ xs) ys = ap (λ (l : List Act). lastOf n run ∷ l) (tell-append [] xs ys)
 
 -- A replay that succeeds gives the state of the history that it tells.
 through : (o : Option (State Written)) (f : Reader Written → Option (Reader Written)) (g : State Written → Option (State Written)) (z : Reader Written)
@@ -51,14 +51,21 @@ unguarded : (b : Bool) (o : Option (Reader Written)) (f : Reader Written → Opt
 unguarded true o f z h = h
 unguarded false o f z h = absurd (Option·none-ne-some _ h)
 
-pub replay-acts : (es : List (Entry Written)) (r z : Reader Written) → replay r es ≡ some z → acts (tell (r .run) es) (r .state) ≡ some (z .state)
-unfolding replay tell acts act read
+all-append : (xs ys : List (Change Written)) (s : State Written) → applyAll (xs ++ ys) s ≡ bind (applyAll xs s) (λ t. applyAll ys t)
+unfolding applyAll
+all-append [] ys s = refl
+all-append (x ∷ xs) ys s =
+    bind-ext (apply x s) _ _ (λ t. all-append xs ys t) ∙ sym (bind-bind (apply x s) (λ t. applyAll xs t) (λ t. applyAll ys t))
+
+pub replay-acts : (es : List (Entry Written)) (r z : Reader Written) → replay r es ≡ some z → applyAll (joined (tell (r .run) es)) (r .state) ≡ some (z .state)
+unfolding replay tell joined applyAll read
 replay-acts [] r z h = ap {B = Option (State Written)} (λ o. bind o (λ (q : Reader Written). some (q .state))) h
 replay-acts (plain c ∷ es) r z h =
-    through (apply c (r .state)) (λ q. replay q es) (λ t. acts (tell [] es) t) z (λ t. replay-acts es (settled t) z) h
+    through (apply c (r .state)) (λ q. replay q es) (λ t. applyAll (joined (tell [] es)) t) z (λ t. replay-acts es (settled t) z) h
 replay-acts (member c ∷ es) r z h = replay-acts es (reader (r .run ++ c ∷ []) (r .state)) z h
 replay-acts (commit n ∷ es) r z h =
-    through (applyAll (lastOf n (r .run)) (r .state)) (λ q. replay q es) (λ t. acts (tell [] es) t) z (λ t. replay-acts es (settled t) z)
+    all-append (lastOf n (r .run)) (joined (tell [] es)) (r .state)
+    ∙ through (applyAll (lastOf n (r .run)) (r .state)) (λ q. replay q es) (λ t. applyAll (joined (tell [] es)) t) z (λ t. replay-acts es (settled t) z)
     (unguarded (leb n (length (r .run))) (bind (applyAll (lastOf n (r .run)) (r .state)) (λ s. some (settled s))) (λ q. replay q es) z h)
 
 -- A unit's members and its commit tell the unit whole, whatever dead run stands before.
@@ -66,15 +73,15 @@ lastOf-append : (xs ys : List (Change Written)) → lastOf (length ys) (xs ++ ys
 unfolding lastOf
 lastOf-append xs ys = drop-at xs ys (length (xs ++ ys) - length ys) (omega (arith, length-append xs ys))
 
-tell-members : (n : ℕ) (ds run : List (Change Written)) → tell run (map member ds ++ commit n ∷ []) ≡ whole (lastOf n (run ++ ds)) ∷ []
+tell-members : (n : ℕ) (ds run : List (Change Written)) → tell run (map member ds ++ commit n ∷ []) ≡ lastOf n (run ++ ds) ∷ []
 unfolding tell
 tell-members n [] run = simp append-nil
-tell-members n (d ∷ ds) run = tell-members n ds (run ++ d ∷ []) ∙ ap (λ (l : List (Change Written)). whole (lastOf n l) ∷ []) (append-assoc run (d ∷ []) ds)
+tell-members n (d ∷ ds) run = tell-members n ds (run ++ d ∷ []) ∙ ap (λ (l : List (Change Written)). lastOf n l ∷ []) (append-assoc run (d ∷ []) ds)
 
-pub tell-unit : (cs run : List (Change Written)) → tell run (map member cs ++ commit (length cs) ∷ []) ≡ whole cs ∷ []
-tell-unit cs run = tell-members (length cs) cs run ∙ ap (λ (l : List (Change Written)). whole l ∷ []) (lastOf-append run cs)
+pub tell-unit : (cs run : List (Change Written)) → tell run (map member cs ++ commit (length cs) ∷ []) ≡ cs ∷ []
+tell-unit cs run = tell-members (length cs) cs run ∙ ap (λ (l : List (Change Written)). l ∷ []) (lastOf-append run cs)
 
-pub tell-plain : (run : List (Change Written)) (c : Change Written) → tell run (plain c ∷ []) ≡ simple c ∷ []
+pub tell-plain : (run : List (Change Written)) (c : Change Written) → tell run (plain c ∷ []) ≡ (c ∷ []) ∷ []
 unfolding tell
 tell-plain run c = refl
 

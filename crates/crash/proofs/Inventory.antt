@@ -1,11 +1,11 @@
 -- The inventory's order: the state of every view is that of a history, and the law of takings (`lists-by-takings` in lists) holds of its changes.
 use mathlib.Core.Path.{_≡_, refl, sym, ap, _∙_, subst}
 use mathlib.Core.Bool.{Bool, true, false, _||_, not, or-false, true≢false}
-use mathlib.Core.Option.{some}
 use mathlib.Core.List.{List, []}
 use Prim.Native.Nat.{ℕ, zero, suc}
 use lib.Dec.{eqb, eqb·suc-zero}
-use Rattle.lists.specs.State.{State, state, overlay}
+use Rattle.lists.specs.Basic.{joined}
+use Rattle.lists.specs.State.{State, state, applyAll, overlay}
 use Rattle.lists.specs.Lookup.{listNums}
 use Rattle.lists.specs.Takings.{undeleted, inForce}
 use Rattle.lists.proofs.Basic.{and-true, not-false}
@@ -23,41 +23,36 @@ use Rattle.disk.proofs.Clauses.{Right, right}
 use Rattle.disk.proofs.Performing.{perform-refused, refusal-code}
 use Rattle.disk.proofs.Inventory.{unit-takes-none, inventory-fills}
 use Rattle.crash.specs.Event.{called, Parts, World, lend, lentWhole, isAccepted, mayHappen}
-use Rattle.crash.specs.Book.{Book, Act, acts, batchOf, onCard}
+use Rattle.crash.specs.Book.{Book, Act, batchOf, onCard}
 use Rattle.crash.specs.Demand3.{play, begun}
-use Rattle.crash.specs.Unwritten.{changesOf}
-use Rattle.crash.specs.Inventory.{listsIn, InventoryInOrder, MountedInOrder}
+use Rattle.crash.specs.History.{listsIn, InventoryInOrder, MountedInOrder}
 use Rattle.crash.proofs.History.{replay-acts}
 use Rattle.crash.proofs.Lending.{lend-whole}
 use Rattle.crash.proofs.Invariant.{Inv, Live, inv-kept}
 use Rattle.crash.proofs.Joining.{committed-state}
 use Rattle.crash.proofs.Demand3.{begun-inv, play-inv, demand3}
-use Rattle.crash.proofs.Unwritten.{acts-all, persistent-kept}
-
--- The lists of a history's state.
-history-lists : (hs : List Act) (s : State Written) → acts hs (state []) ≡ some s → listNums (s .lists) ≡ inForce (changesOf hs)
-history-lists hs s h = lists-by-takings (changesOf hs) s (sym (acts-all hs (state [])) ∙ h)
+use Rattle.crash.proofs.Unwritten.{persistent-kept}
 
 pub mounted-in-order : MountedInOrder
 mounted-in-order d h es v x l n =
     let k = demand3 d h es v in
-    ap (λ (s : State Written). listNums (s .lists)) (k .shows x l n) ∙ history-lists (onCard (play (begun d) es .book)) (k .state) (k .prefix)
+    ap (λ (s : State Written). listNums (s .lists)) (k .shows x l n) ∙ lists-by-takings (joined (onCard (play (begun d) es .book))) (k .state) (k .prefix)
 
 -- Each view of a disk that no cut has touched since its last mounting.
 module _ (d : Disk) (b : Book) (i : Live d b) where
-  persistent-lists : listNums (persistent d .lists) ≡ inForce (changesOf (onCard b))
+  persistent-lists : listNums (persistent d .lists) ≡ inForce (joined (onCard b))
   persistent-lists =
       let k = inv-kept (record { disk = d; down = false }) b i in
-      ap (λ (s : State Written). listNums (s .lists)) (persistent-kept d b k) ∙ history-lists (onCard b) (k .state) (k .prefix)
+      ap (λ (s : State Written). listNums (s .lists)) (persistent-kept d b k) ∙ lists-by-takings (joined (onCard b)) (k .state) (k .prefix)
 
-  committed-lists : listNums (committed d .lists) ≡ inForce (changesOf (b .history))
+  committed-lists : listNums (committed d .lists) ≡ inForce (joined (b .history))
   committed-lists =
       let t = i .told in
       ap (λ (s : State Written). listNums (s .lists)) (committed-state d b i)
-      ∙ history-lists (b .history) (t .reader .state) (ap (λ (l : List Act). acts l (state [])) (t .history) ∙ replay-acts (t .entries) start (t .reader) (t .replays))
+      ∙ lists-by-takings (joined (b .history)) (t .reader .state) (ap (λ (l : List Act). applyAll (joined l) (state [])) (t .history) ∙ replay-acts (t .entries) start (t .reader) (t .replays))
 
   module _ (k : Right d) where
-    unit-lists : (u : ℕ) → isOpenUnit d u ≡ true → listNums (overlay (journalOf d u) (committed d) .lists) ≡ undeleted (batchOf b u) (inForce (changesOf (b .history)))
+    unit-lists : (u : ℕ) → isOpenUnit d u ≡ true → listNums (overlay (journalOf d u) (committed d) .lists) ≡ undeleted (batchOf b u) (inForce (joined (b .history)))
     unit-lists u h =
         let (p, q, o) = unit-range d u h in
         lists-undeleted (journalOf d u) (committed d) (unit-takes-none d k u h)

@@ -1,7 +1,7 @@
 -- Changes that join the line or a batch keep the invariant: one on stream 0, one in a unit, and a unit's end.
 use mathlib.Core.Path.{_≡_, refl, sym, ap, _∙_, subst}
 use mathlib.Core.Option.{some}
-use mathlib.Core.List.{List, [], _∷_, _++_, map, append-assoc}
+use mathlib.Core.List.{List, [], _∷_, _++_, map}
 use Prim.Native.Nat.{ℕ, suc, _+_, _-_, _≤_, _<_}
 use native.Mathlib.Omega.{arith}
 use native.Mathlib.Decide.{ℕ-discrete}
@@ -22,7 +22,7 @@ use Rattle.disk.proofs.Queue.{queued-add, AllSized, queued-all, beside-one, bes
 use Rattle.disk.proofs.Journal.{journal-add, journal-other, journal-enqueue, journal-enqueueAll, journal-closing, journal-closing-other, unit-entries}
 use Rattle.disk.proofs.Clauses.{Right, committed-is}
 use Rattle.disk.proofs.Changes.{replay-unit}
-use Rattle.crash.specs.Book.{Book, Waiting, Act, simple, whole, entriesOf, placedEntries, memberOf, batchOf, withBatch, joinPlain, joinUnit}
+use Rattle.crash.specs.Book.{Book, Waiting, Act, entriesOf, placedEntries, memberOf, batchOf, withBatch, joinHistory, joinUnit}
 use Rattle.crash.proofs.History.{tell, tell-unit, tell-plain, runAfter, closing, label, label-plain, label-unit, entries-label}
 use Rattle.crash.proofs.Book.{entries-append, entries-joined, batch-same, batch-other, batch-dropped}
 use Rattle.crash.proofs.Told.{Told, Shown, told-shown, told-add, withBatch-told}
@@ -91,10 +91,10 @@ unfolding replay read
 replay-plain r c s a = rw a
 
 pub join-plain : (d : Disk) (b : Book) (c : Change Written) (s : State Written) → Right d → Live d b → d .rec .ring .len < 32 → Good (plain c)
-    → apply c (committed d) ≡ some s → Live (enqueue (plain c) d) (joinPlain c b)
-unfolding joinPlain batchOf
+    → apply c (committed d) ≡ some s → Live (enqueue (plain c) d) (joinHistory (c ∷ []) [] (plain c) b)
+unfolding joinHistory batchOf
 join-plain d b c s r i m g a =
-    join-line d (enqueue (plain c) d) b (joinPlain c b) (plain c ∷ []) (simple c ∷ []) (settled s) i
+    join-line d (enqueue (plain c) d) b (joinHistory (c ∷ []) [] (plain c) b) (plain c ∷ []) ((c ∷ []) ∷ []) (settled s) i
     (record {
       card = beside-one (plain c) d .card;
       queue = queued-add (plain c) d (r .log .queueData) (r .log .places) m (g .sized);
@@ -131,21 +131,20 @@ join-batch d b u c r i p q m z =
         ∙ sym (batch-other b u v (batchOf b u ++ c ∷ []) (omega arith))
 
 -- A unit's batch as it goes to the line.
-line-unit : (l : List Waiting) (n : ℕ) (cs : List (Change Written)) → l ++ map memberOf cs ++ closing (commit (length cs)) n ∷ [] ≡ l ++ label n (unitEntries cs)
+line-unit : (l : List Waiting) (n : ℕ) (cs : List (Change Written)) → l ++ (map memberOf cs ++ closing (commit (length cs)) n ∷ []) ≡ l ++ label n (unitEntries cs)
 unfolding unitEntries
-line-unit l n cs =
-    append-assoc l (map memberOf cs) (closing (commit (length cs)) n ∷ []) ∙ ap (λ (x : List Waiting). l ++ x) (sym (label-unit n (length cs) cs))
+line-unit l n cs = ap (λ (x : List Waiting). l ++ x) (sym (label-unit n (length cs) cs))
 
-unit-tells : (cs run : List (Change Written)) → whole cs ∷ [] ≡ tell run (unitEntries cs)
+unit-tells : (cs run : List (Change Written)) → cs ∷ [] ≡ tell run (unitEntries cs)
 unfolding unitEntries
 unit-tells cs run = sym (tell-unit cs run)
 
 pub join-unit : (d : Disk) (b : Book) (u : ℕ) (s : State Written) → Right d → Live d b → 1 ≤ u → u ≤ 4 → d .rec .ring .len + suc (length (journalOf d u)) ≤ 32
     → AllGood (unitEntries (journalOf d u)) → AllSized (unitEntries (journalOf d u)) → applyAll (journalOf d u) (committed d) ≡ some s
     → Live (closingUnit u (enqueueAll (unitEntries (journalOf d u)) d)) (joinUnit u b)
-unfolding joinUnit withBatch closingUnit batchOf
+unfolding joinUnit joinHistory withBatch closingUnit batchOf
 join-unit d b u s r i p q m g z a =
-    join-line d (closingUnit u x) b (joinUnit u b) es (whole (batchOf b u) ∷ []) (settled s) i
+    join-line d (closingUnit u x) b (joinUnit u b) es (batchOf b u ∷ []) (settled s) i
     (record {
       card = beside-all es d .card;
       queue = queued-closing u x ∙ queued-all es d (r .log .queueData) (r .log .places) (omega (arith, unit-entries (journalOf d u))) z;

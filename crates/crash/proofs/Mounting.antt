@@ -5,8 +5,8 @@ use mathlib.Core.List.{List, [], map}
 use Prim.Native.Nat.{ℕ, _*_, _/_, _%_, _≤_, _<_}
 use native.Mathlib.Omega.{arith}
 use lib.ListN.{length, length-map}
-use Rattle.lists.specs.Basic.{isSome}
-use Rattle.lists.specs.State.{State, state}
+use Rattle.lists.specs.Basic.{isSome, joined}
+use Rattle.lists.specs.State.{State, state, applyAll}
 use Rattle.lists.proofs.Basic.{eq-true, le-true}
 use Rattle.log.specs.Reader.{Reader, start, replay}
 use Rattle.log.specs.Card.{Written, cardLength, sound, mounted}
@@ -19,7 +19,7 @@ use Rattle.disk.specs.Questions.{mountable, questions, ask, firstNo, refusal}
 use Rattle.disk.specs.Perform.{accepted, perform}
 use Rattle.disk.proofs.Fresh.{fresh-view}
 use Rattle.crash.specs.Event.{Rest, leaves}
-use Rattle.crash.specs.Book.{Book, Act, acts, onCard, entriesOf, placedEntries}
+use Rattle.crash.specs.Book.{Book, Act, onCard, entriesOf, placedEntries}
 use Rattle.crash.specs.Demand3.{Lent, Kept}
 use Rattle.crash.proofs.History.{entries-label, replay-acts}
 use Rattle.crash.proofs.Book.{entries-joined}
@@ -44,7 +44,7 @@ unfolding placedEntries onCard
 kept c b h m s =
     record {
       state = s .reader .state;
-      prefix = ap (λ (l : List Act). acts l (state [])) (s .prefix) ∙ replay-acts (s .entries) start (s .reader) (s .replays);
+      prefix = ap (λ (l : List Act). applyAll (joined l) (state [])) (s .prefix) ∙ replay-acts (s .entries) start (s .reader) (s .replays);
       mounts = λ x l. accepts x l;
       shows = λ x l v. mount-shows c x (s .reader) walks (accepts x l) v;
     }

@@ -7,6 +7,7 @@ use mathlib.Core.Option.{none}
 use mathlib.Core.List.{List, [], _∷_}
 use Prim.Native.Nat.{ℕ}
 use lib.ListN.{replicate}
+use Rattle.lists.specs.Basic.{joined}
 use Rattle.lists.specs.Change.{takeList, putFirst}
 use Rattle.lists.specs.State.{State, state, row, block}
 use Rattle.lists.specs.Takings.{undeleted, inForce}
@@ -17,10 +18,9 @@ use Rattle.disk.specs.Call.{newList, newBlock, deleteList, inventory, Call, mou
 use Rattle.disk.specs.Perform.{perform}
 use Rattle.disk.proofs.Computing.{computing}
 use Rattle.crash.specs.Event.{Part, Rest, Event, called, cutFlush, cutFormat, partOf, putBack, lend, giveBack, isWhole, lentWhole, leaves, isAccepted, answered, step, mayHappen}
-use Rattle.crash.specs.Book.{simple, whole, emptyBook, joinPlain, batchOf, withBatch, join, memberOf, joinUnit, cost, entriesOf, placedEntries, lastInUse, placeOf, moveTo, bookStore, bookFlush, keepFirst, bookFormat, isNumber, closingOnCard, longest, onCard, settle, bookAccepted, bookRefused, bookCalled, bookStep}
+use Rattle.crash.specs.Book.{emptyBook, batchOf, withBatch, joinHistory, join, memberOf, joinUnit, cost, entriesOf, placedEntries, lastInUse, placeOf, moveTo, bookStore, bookFlush, keepFirst, bookFormat, isNumber, closingOnCard, longest, onCard, settle, bookAccepted, bookRefused, bookCalled, bookStep}
 use Rattle.crash.specs.Demand3.{Scene, sceneStep, play, valid, begun}
-use Rattle.crash.specs.Unwritten.{changesOf}
-use Rattle.crash.specs.Inventory.{listsIn}
+use Rattle.crash.specs.History.{listsIn}
 
 -- two segments and both data buffers full of 170
 pub blank : Disk
@@ -70,7 +70,7 @@ mountedState = state (row 1 (block 2 none ∷ block 1 none ∷ []) ∷ [])
 
 -- opens what the events and the book compute with
 playing : Unit {0}
-unfolding computing blank front wholly partly other events partOf putBack lend giveBack isWhole lentWhole leaves isAccepted answered step mayHappen emptyBook joinPlain batchOf withBatch join memberOf joinUnit cost entriesOf placedEntries lastInUse placeOf moveTo bookStore bookFlush keepFirst bookFormat isNumber closingOnCard longest onCard settle bookAccepted bookRefused bookCalled bookStep sceneStep play valid begun
+unfolding computing blank front wholly partly other events partOf putBack lend giveBack isWhole lentWhole leaves isAccepted answered step mayHappen emptyBook batchOf withBatch joinHistory join memberOf joinUnit cost entriesOf placedEntries lastInUse placeOf moveTo bookStore bookFlush keepFirst bookFormat isNumber closingOnCard longest onCard settle bookAccepted bookRefused bookCalled bookStep sceneStep play valid begun
 playing = tt
 
 pub may-happen : valid (begun blank) events ≡ true
@@ -79,7 +79,7 @@ may-happen = refl
 
 -- unit 1 is lost whole, unit 2 is there, and the cut formatting took nothing of segment 0
 pub comes-to :
-    (onCard (last .book) ≡ simple (takeList 1) ∷ simple (putFirst 1 1) ∷ whole (putFirst 2 1 ∷ []) ∷ [])
+    (onCard (last .book) ≡ (takeList 1 ∷ []) ∷ (putFirst 1 1 ∷ []) ∷ (putFirst 2 1 ∷ []) ∷ [])
     × (view (last .world .disk) 0 ≡ mountedState)
 unfolding playing last mountedState
 comes-to = (refl, refl)
@@ -105,5 +105,5 @@ pub again-listed :
     (valid (begun blank) retaken ≡ true)
     × (listsIn (again .book) 0 ≡ 2 ∷ 1 ∷ []) × (listsIn (again .book) 5 ≡ 2 ∷ []) × (listsIn (again .book) 1 ≡ 1 ∷ [])
     × (perform (inView 0 (inventory (replicate 16 9))) (again .world .disk) .lent ≡ 2 ∷ 1 ∷ replicate 14 9)
-unfolding playing retaken again listsIn changesOf inForce undeleted
+unfolding playing retaken again listsIn joined inForce undeleted
 again-listed = (refl, refl, refl, refl, refl)

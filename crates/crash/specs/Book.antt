@@ -7,7 +7,6 @@ use lib.Dec.{eqb}
 use lib.ListN.{length, getD, set, replicate}
 use Rattle.lists.specs.Basic.{bind, any}
 use Rattle.lists.specs.Change.{Change}
-use Rattle.lists.specs.State.{State, apply, applyAll}
 use Rattle.log.specs.Entry.{Entry, plain, member, commit, carried, entryLength}
 use Rattle.log.specs.Card.{Written, usedBy, slotBytes}
 use Rattle.log.specs.Store.{opened, afterAll, home}
@@ -17,10 +16,9 @@ use Rattle.disk.specs.Call.{Call, format, mount, conflictCount, onStream, inVie
 use Rattle.disk.specs.Perform.{Answer, streamFor, changeFor}
 use Rattle.crash.specs.Event.{Event, called, cutBetween, cutFlush, cutFormat}
 
--- an entry of the serial history: a simple change, or a unit's changes as one
-pub data Act : Type 0 where
-  simple : Change Written → Act
-  whole : List (Change Written) → Act
+-- an entry of the serial history: a simple change alone, or a unit's changes as one
+abbrev pub Act : Type 0
+Act = List (Change Written)
 
 -- a log entry that waits or is placed, with the number of the history's entry that its last store closes
 pub record Waiting : Type 0 where
@@ -38,40 +36,33 @@ pub record Book : Type 0 where
 unfoldable pub emptyBook : ℕ → Book
 emptyBook n = record { history = []; line = []; done = 0; batches = replicate unitCount []; segs = replicate n [] }
 
--- "An accepted simple change or NewList joins the serial history, and its log entry the waiting line."
-unfoldable pub joinPlain : Change Written → Book → Book
-joinPlain c b = record {
-  history = b .history ++ simple c ∷ [];
-  line = b .line ++ record { entry = plain c; closes = some (length (b .history)) } ∷ [];
-  done = b .done;
-  batches = b .batches;
-  segs = b .segs;
-}
-
 unfoldable pub batchOf : Book → ℕ → List (Change Written)
 batchOf b u = getD (b .batches) (u - 1) []
 
 unfoldable pub withBatch : Book → ℕ → List (Change Written) → Book
 withBatch b u cs = record { history = b .history; line = b .line; done = b .done; batches = set (b .batches) (u - 1) cs; segs = b .segs }
 
--- "Other accepted changes in a unit join that unit's batch"
+-- an entry joins the serial history; log entries join the waiting line, e behind the others, whose last store closes it
+unfoldable pub joinHistory : Act → List Waiting → Entry Written → Book → Book
+joinHistory cs ws e b = record {
+  history = b .history ++ cs ∷ [];
+  line = b .line ++ (ws ++ record { entry = e; closes = some (length (b .history)) } ∷ []);
+  done = b .done;
+  batches = b .batches;
+  segs = b .segs;
+}
+
+-- "An accepted simple change or NewList joins the serial history, and its log entry the waiting line." "Other accepted changes in a unit join that unit's
+-- batch"
 unfoldable pub join : ℕ → Change Written → Book → Book
-join s c b = elim s [ zero ↦ joinPlain c b | suc u ↦ withBatch b (suc u) (batchOf b (suc u) ++ c ∷ []) ]
+join s c b = elim s [ zero ↦ joinHistory (c ∷ []) [] (plain c) b | suc u ↦ withBatch b (suc u) (batchOf b (suc u) ++ c ∷ []) ]
 
 unfoldable pub memberOf : Change Written → Waiting
 memberOf c = record { entry = member c; closes = none }
 
 -- "An accepted End joins the history as one entry; its batch as members, then the commit, goes to the line."
 unfoldable pub joinUnit : ℕ → Book → Book
-joinUnit u b =
-    let cs = batchOf b u in
-    withBatch (record {
-      history = b .history ++ whole cs ∷ [];
-      line = b .line ++ map memberOf cs ++ record { entry = commit (length cs); closes = some (length (b .history)) } ∷ [];
-      done = b .done;
-      batches = b .batches;
-      segs = b .segs;
-    }) u []
+joinUnit u b = let cs = batchOf b u in withBatch (joinHistory cs (map memberOf cs) (commit (length cs)) b) u []
 
 -- "each entry takes one store more than its length, a write 256 besides"
 unfoldable pub cost : Entry Written → ℕ
@@ -173,12 +164,3 @@ bookStep b (called c p) (some a) = bookCalled c a b
 bookStep b (cutBetween x) a = settle b
 bookStep b (cutFlush m k x) a = settle (bookFlush k b)
 bookStep b (cutFormat k x) a = settle (bookFormat k b)
-
--- "A prefix acts on the empty state, an End's changes in order."
-unfoldable pub act : Act → State Written → Option (State Written)
-act (simple c) s = apply c s
-act (whole cs) s = applyAll cs s
-
-unfoldable pub acts : List Act → State Written → Option (State Written)
-acts [] s = some s
-acts (h ∷ hs) s = bind (act h s) (λ t. acts hs t)

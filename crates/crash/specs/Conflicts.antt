@@ -1,7 +1,7 @@
 -- The conflict count of a window, by the calls that were made and what they answered: a customer can count with them.
 use mathlib.Core.Path.{_≡_}
 use mathlib.Core.Bool.{true, false, _&&_, cond}
-use mathlib.Core.Option.{Option, none, some}
+use mathlib.Core.Option.{none, some}
 use mathlib.Core.List.{List, [], _∷_}
 use Prim.Native.Nat.{ℕ, _+_, min}
 use lib.Dec.{eqb}
@@ -24,21 +24,17 @@ unfoldable pub heardAll : World → List Event → List (Call × ℕ) → List (
 heardAll w [] xs = xs
 heardAll w (e ∷ es) xs = heardAll (step w e) es (heard w e xs)
 
--- the unit and the window that a Begin names
-unfoldable pub names : Call → Option (ℕ × ℕ)
-names format = none
-names mount = none
-names (conflictCount w) = none
-names (onStream s e) = none
-names (inView v k) = none
-names (begin u w) = some (u, w)
-names (end u) = none
-names (flush a) = none
-
 -- the window that unit u's last accepted Begin named
 unfoldable pub windowNamed : ℕ → List (Call × ℕ) → ℕ
 windowNamed u [] = 0
-windowNamed u (x ∷ xs) = elim (names (x .0)) [ none ↦ windowNamed u xs | some b ↦ cond (eqb (x .1) 0 && eqb (b .0) u) (b .1) (windowNamed u xs) ]
+windowNamed u ((format, n) ∷ xs) = windowNamed u xs
+windowNamed u ((mount, n) ∷ xs) = windowNamed u xs
+windowNamed u ((conflictCount w, n) ∷ xs) = windowNamed u xs
+windowNamed u ((onStream s e, n) ∷ xs) = windowNamed u xs
+windowNamed u ((inView v k, n) ∷ xs) = windowNamed u xs
+windowNamed u ((begin v w, n) ∷ xs) = cond (eqb n 0 && eqb v u) w (windowNamed u xs)
+windowNamed u ((end v, n) ∷ xs) = windowNamed u xs
+windowNamed u ((flush a, n) ∷ xs) = windowNamed u xs
 
 -- the Ends refused 12 since the last accepted mounting or formatting whose unit's Begin named window w
 unfoldable pub refusedEnds : ℕ → List (Call × ℕ) → ℕ

@@ -41,7 +41,7 @@ pub record Fills (ls : List ℕ) (n : ℕ) (x y : List ℕ) : Type 0 where
   pub others : drop n y ≡ drop n x
   pub size : length y ≡ length x
 
--- an accepted one fills in the lists of its view in the order of their taking; which order that is by the serial history: crash/specs/Inventory
+-- an accepted one fills in the lists of its view in the order of their taking; which order that is by the serial history: crash/specs/History
 abbrev pub InventoryFills : Type 0
 InventoryFills =
     (v : ℕ) (x : List ℕ) (d : Disk) → refusal (inView v (inventory x)) d ≡ 0
