@@ -14,7 +14,7 @@ use Rattle.lists.proofs.Basic.{eqb-false, le-true, lt-true, gt-false, ge-false}
 use Rattle.log.specs.declared.entry.LogEntry.{LogEntry}
 use Rattle.log.specs.declared.entry.LogEntry.the-variants.{DeleteBlock, DeleteList}
 use Rattle.log.specs.Card.{Written}
-use Rattle.log.specs.Entry.{plain, mapEntry, raw, carried, hasMember, isBlock, isList, asEntry}
+use Rattle.log.specs.Entry.{plain, mapEntry, raw, carried, isBlock, isList, asEntry}
 use Rattle.log.specs.Cell.{cellOf}
 use Rattle.disk.specs.Record.{Record, unitAt}
 use Rattle.disk.specs.declared.answer.Refusal.{Refusal}
@@ -23,7 +23,7 @@ use Rattle.disk.specs.declared.answer.Reply.the-variants.{Accepted, Refused}
 use Rattle.disk.specs.Disk.{Disk, withRecord, unitOf, view}
 use Rattle.disk.specs.Questions.{journalRoom, queueRoom, streamRoom, editQuestions, questions, ask, firstNo, refusal}
 use Rattle.disk.specs.Call.{deleteBlock, deleteList, Call, onStream, destination}
-use Rattle.disk.specs.Perform.{reply, accepted, change, noted, streamFor, made, numberGiven, changeFor, enqueue, journalAdd, spliceSome}
+use Rattle.disk.specs.Perform.{reply, accepted, change, noted, made, numberGiven, changeFor, enqueue, journalAdd, spliceSome}
 use Rattle.disk.specs.Answers.{number, replyAnswer}
 use Rattle.calls.specs.Performs.{Performs}
 use Rattle.inspect.specs.promises.Inspect.{Sees}
@@ -110,7 +110,7 @@ decides-performs k d s c e Accepted r u t n w y h = performs-accepted k d _ (h .
 pub deletes-block : (d : Disk) (s b : ℕ) (t : Tables) (a : Reply) (r : Record) → Sees false d s t
     → OfShown t (λ rs. AddsAfter ((5, isBlock b) ∷ (8, placed b rs) ∷ []) s (DeleteBlock b) (d .rec) a r)
     → Performs (onStream s (deleteBlock b)) d (withRecord d r) (replyAnswer a) []
-unfolding refusal questions editQuestions destination accepted made noted streamFor hasMember numberGiven changeFor carriedBy cellOf raw mapEntry mapChange asEntry
+unfolding refusal questions editQuestions destination accepted made noted numberGiven changeFor carriedBy cellOf raw mapEntry mapChange asEntry
 deletes-block d s b t a r z f =
     decides-performs (onStream s (deleteBlock b)) d s (delBlock b) (DeleteBlock b) a r tt refl refl refl refl
     (seen-decides (onStream s (deleteBlock b)) d s (DeleteBlock b) 8 (isBlock b) (placed b (view d s .lists)) (placed b) t a r refl z (placed-here d t (view d s) (z .located) b) f)
@@ -118,7 +118,7 @@ deletes-block d s b t a r z f =
 pub deletes-list : (d : Disk) (s l : ℕ) (t : Tables) (a : Reply) (r : Record) → Sees false d s t
     → OfShown t (λ rs. AddsAfter ((5, isList l) ∷ (7, taken l rs) ∷ []) s (DeleteList l) (d .rec) a r)
     → Performs (onStream s (deleteList l)) d (withRecord d r) (replyAnswer a) []
-unfolding refusal questions editQuestions destination accepted made noted streamFor hasMember numberGiven changeFor carriedBy cellOf raw mapEntry mapChange asEntry
+unfolding refusal questions editQuestions destination accepted made noted numberGiven changeFor carriedBy cellOf raw mapEntry mapChange asEntry
 deletes-list d s l t a r z f =
     decides-performs (onStream s (deleteList l)) d s (delList l) (DeleteList l) a r tt refl refl refl refl
     (seen-decides (onStream s (deleteList l)) d s (DeleteList l) 7 (isList l) (taken l (view d s .lists)) (taken l) t a r refl z (taken-here d t (view d s) (z .located) l) f)

@@ -18,7 +18,7 @@ use Rattle.log.proofs.entry.LogEntry.{the-type}
 use Rattle.log.specs.declared.entry.LogEntry.{LogEntry}
 use Rattle.log.specs.declared.entry.LogEntry.the-variants.{Take, PutFirst, PutAfter, Write, DeleteBlock, DeleteList, Commit}
 use Rattle.log.specs.Card.{Written, slot, slotBytes, splice}
-use Rattle.log.specs.Entry.{member, commit, mapEntry, carried, raw, legal, hasMember, asChange, asEntry}
+use Rattle.log.specs.Entry.{member, commit, mapEntry, carried, raw, legal, legalChange, asChange, asEntry}
 use Rattle.log.specs.Cell.{cellOf, entryIn}
 use Rattle.disk.specs.Record.{Unit, Record, noCell, noUnit, ringPlace, unitAt, appended, conflictCounted}
 use Rattle.disk.specs.declared.answer.Refusal.{Refusal}
@@ -66,8 +66,8 @@ module _ (q j : List ℕ) (r : Record) (k : ℕ) where
   -- an entry that is no write carries nothing
   pub member-other : (e : LogEntry) (r′ : Record) → OneOf (0 ∷ 1 ∷ 2 ∷ 4 ∷ 5 ∷ 6 ∷ []) (tagOf the-type e) → legal (raw 0 (member (asChange e))) ≡ true → r′ ≡ queuedAs e
       → QueuesMember q j r e k q r′
-  unfolding enqueue mapChange asChange carried carriedBy spliceSome cellOf asEntry legal raw mapEntry hasMember
-  member-other (Take l) r′ t h g c = absurd (false≢true h)
+  unfolding enqueue mapChange asChange carried carriedBy spliceSome cellOf asEntry legal legalChange raw mapEntry
+  member-other (Take l) r′ t h g c = rw g
   member-other (PutFirst b l) r′ t h g c = rw g
   member-other (PutAfter b l p) r′ t h g c = rw g
   member-other (Write b s n) r′ t h g c = absurd (no-write t)

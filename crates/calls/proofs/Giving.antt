@@ -4,35 +4,37 @@ use mathlib.Core.Logic.{_≢_}
 use mathlib.Core.Bool.{Bool, true, false, _&&_, _||_, not}
 use mathlib.Core.Option.{Option, none, some}
 use mathlib.Core.List.{List, [], _∷_}
-use Prim.Native.Nat.{ℕ, zero, suc, _+_, _%_, _≤_, _<_}
+use Prim.Native.Nat.{ℕ, zero, suc, _%_, _≤_, _<_}
 use native.Mathlib.Omega.{arith}
-use lib.Dec.{leb, eqb}
+use lib.Dec.{leb, eqb, eqb·suc-zero}
 use Rattle.lists.specs.Basic.{isSome, orElse}
-use Rattle.lists.specs.Change.{mapChange, carriedBy}
+use Rattle.lists.specs.Change.{takeList, mapChange, carriedBy}
 use Rattle.lists.specs.State.{Row, taken, placed, onList}
+use Rattle.lists.specs.InUse.{listNumber}
 use Rattle.lists.specs.promises.Tables.{Tables}
-use Rattle.lists.proofs.Basic.{eqb-false, le-true, gt-false}
-use Rattle.log.specs.Entry.{mapEntry, raw, hasMember, isList, carried, asEntry}
+use Rattle.lists.proofs.Basic.{eqb-false}
+use Rattle.log.specs.declared.entry.LogEntry.the-variants.{Take}
+use Rattle.log.specs.Entry.{mapEntry, raw, isList, asEntry}
 use Rattle.log.specs.Cell.{cellOf}
-use Rattle.disk.specs.Record.{Record, holderOf, withLastBlock}
+use Rattle.disk.specs.Record.{Record, holderOf, withLastBlock, withLastList}
 use Rattle.disk.specs.declared.answer.Refusal.{Refusal}
-use Rattle.disk.specs.declared.answer.Refusal.the-variants.{OutOfRange, ListNotTaken, PredecessorElsewhere, NoNumberFree, QueueFull}
+use Rattle.disk.specs.declared.answer.Refusal.the-variants.{OutOfRange, ListNotTaken, PredecessorElsewhere, NoNumberFree}
 use Rattle.disk.specs.declared.answer.NumberReply.{NumberReply}
 use Rattle.disk.specs.declared.answer.NumberReply.the-variants.{Number, Refused}
 use Rattle.disk.specs.declared.answer.Reply.the-variants as A
 use Rattle.disk.specs.Disk.{Disk, withRecord, committed}
 use Rattle.disk.specs.Call.{newList, onStream, destination}
-use Rattle.disk.specs.Questions.{freeFrom, freeList, queueRoom, editQuestions, questions, firstNo, refusal}
-use Rattle.disk.specs.Perform.{accepted, change, noted, streamFor, made, numberGiven, changeFor, enqueue, gaveList, spliceSome}
+use Rattle.disk.specs.Questions.{freeFrom, freeList, editQuestions, questions, firstNo, refusal}
+use Rattle.disk.specs.Perform.{accepted, hold, gaveList, noted, made, numberGiven, changeFor}
 use Rattle.disk.specs.Answers.{number, numberAnswer}
 use Rattle.disk.proofs.Questions.{free-from}
 use Rattle.calls.specs.Performs.{Performs}
 use Rattle.calls.specs.promises.Entering.{Admitted}
-use Rattle.calls.specs.promises.Adds.{Adds}
+use Rattle.calls.specs.promises.Adds.{added, rooms, Adds}
 use Rattle.calls.specs.promises.Giving.{freeListIn, freeBlockIn, takenList, Takes, putEntry, heldBy, putBlock, Gives, putQuestions, rangedPutQuestions}
-use Rattle.calls.proofs.Refusing.{ask-yes, ask-no, last-yes, usual-performs-refused, performs-accepted}
+use Rattle.calls.proofs.Refusing.{ask-yes, ask-no, usual-performs-refused, performs-accepted}
 use Rattle.inspect.proofs.Locating.{taken-here}
-use Rattle.calls.proofs.Adding.{rooms-yes}
+use Rattle.calls.proofs.Adding.{rooms-yes, change-added}
 use Rattle.calls.proofs.Entering.{entered}
 
 -- A free number, 0 for none.
@@ -75,36 +77,55 @@ pub free-block-limit : (r : Record) (rs : List (Row ℕ)) (n : ℕ) → n ≡ or
 free-block-limit r rs n h = let l = free-limit (λ b. placed b rs || not (eqb (holderOf r b) 0)) 64 64 (r .tally .lastBlock) (omega arith) in omega arith
 
 -- A take.
-module _ (r : Record) (rs : List (Row ℕ)) (n : ℕ) (h : n ≡ orElse 0 (freeListIn r rs)) where
-  pub takes-none : n ≡ 0 → Takes r rs (Refused NoNumberFree) r
+module _ (s : ℕ) (r : Record) (rs : List (Row ℕ)) (n : ℕ) (h : n ≡ orElse 0 (freeListIn r rs)) where
+  abbrev used : ℕ → Bool
+  used l = taken l rs || not (eqb (holderOf r (listNumber l)) 0)
+
+  pub free-list-limit : n ≤ 16
+  free-list-limit = let l = free-limit used 16 16 (r .tally .lastList) (omega arith) in omega arith
+
+  pub takes-none : n ≡ 0 → Takes s r rs (Refused NoNumberFree) r
   unfolding number
-  takes-none z = (refl, ask-no 10 _ _ (free-number (λ l. taken l rs) 16 16 (r .tally .lastList) (omega arith) ∙ rw (← h, z)))
+  takes-none z = (refl, λ d e. ask-no 10 _ _ (free-number used 16 16 (r .tally .lastList) (omega arith) ∙ rw (← h, z)))
 
   module _ (z : n ≢ 0) where
     given : freeListIn r rs ≡ some n
-    given = free-some (λ l. taken l rs) 16 16 (r .tally .lastList) (omega arith) n h z
+    given = free-some used 16 16 (r .tally .lastList) (omega arith) n h z
 
-    pub takes-full : 32 ≤ r .ring .len → Takes r rs (Refused QueueFull) r
-    unfolding number isSome
-    takes-full l = (refl, ask-yes 10 _ _ (rw given) ∙ ask-no 13 _ _ (gt-false (r .ring .len + 1) 32 (omega arith)))
+    pub takes-full : (x : Refusal) (r′ : Record) → Adds s (Take n) r (A.Refused x) r′ → Takes s r rs (Refused x) r′
+    unfolding isSome
+    takes-full x r′ a = (a .0, λ d e. ask-yes 10 _ _ (rw given) ∙ a .1 d e)
 
-    pub takes : r .ring .len < 32 → (r′ : Record) → r′ ≡ takenList r n → Takes r rs (Number n) r′
-    takes l r′ e = (e, given, le-true (r .ring .len + 1) 32 (omega arith))
+    pub takes : (r′ r″ : Record) → Adds s (Take n) r A.Accepted r′ → r″ ≡ withLastList (heldBy s (listNumber n) r′) n → Takes s r rs (Number n) r″
+    takes r′ r″ a e = (e ∙ ap (λ (x : Record). withLastList (heldBy s (listNumber n) x) n) (a .0), given, λ d k. rooms-yes d s (a .1 d k))
+
+pub hold-record : (s n : ℕ) (d : Disk) (r : Record) → hold s n (withRecord d r) ≡ withRecord d (heldBy s n r)
+unfolding hold
+hold-record zero n d r = refl
+hold-record (suc u) n d r = rw (eqb·suc-zero u)
+
+take-disk : (s l : ℕ) (d : Disk) → made s (takeList l) d ≡ withRecord d (takenList s l (d .rec))
+unfolding made noted gaveList carriedBy cellOf raw mapEntry mapChange asEntry
+take-disk s l d =
+    ap (λ (x : Disk). gaveList l (hold s (listNumber l) x)) (change-added s (takeList l) (Take l) d refl refl)
+    ∙ ap (gaveList l) (hold-record s (listNumber l) d (added s (Take l) (d .rec)))
 
 pub takes-performs : (s : ℕ) (d : Disk) (t : Tables) (k : Admitted true d s t) (a : NumberReply) (r′ : Record)
-    → Takes (d .rec) (k .located .here .lists) a r′ → Performs (onStream s newList) d (withRecord d r′) (numberAnswer a) []
-unfolding numberAnswer refusal questions editQuestions freeList queueRoom destination accepted made noted streamFor hasMember numberGiven changeFor change gaveList enqueue carried carriedBy spliceSome cellOf raw mapEntry mapChange asEntry orElse isSome
+    → Takes s (d .rec) (k .located .here .lists) a r′ → Performs (onStream s newList) d (withRecord d r′) (numberAnswer a) []
+unfolding numberAnswer refusal questions editQuestions freeList destination accepted numberGiven changeFor orElse isSome
 takes-performs s d t k a r′ = go a
   where
     free : freeList d ≡ freeListIn (d .rec) (k .located .here .lists)
-    free = free-ext _ _ 16 16 (d .rec .tally .lastList) (taken-here d t (committed d) (k .located))
+    free =
+        free-ext _ _ 16 16 (d .rec .tally .lastList)
+        (λ l. ap (λ (x : Bool). x || not (eqb (holderOf (d .rec) (listNumber l)) 0)) (taken-here d t (committed d) (k .located) l))
 
-    rest : refusal (onStream s newList) d ≡ firstNo ((10, isSome (freeListIn (d .rec) (k .located .here .lists))) ∷ (13, leb (d .rec .ring .len + 1) 32) ∷ [])
-    rest = entered true d s t _ k ∙ ap (λ (o : Option ℕ). firstNo ((10, isSome o) ∷ (13, leb (d .rec .ring .len + 1) 32) ∷ [])) free
+    rest : refusal (onStream s newList) d ≡ firstNo ((10, isSome (freeListIn (d .rec) (k .located .here .lists))) ∷ rooms d s)
+    rest = entered true d s t _ k ∙ ap (λ (o : Option ℕ). firstNo ((10, isSome o) ∷ rooms d s)) free
 
-    go : (a : NumberReply) → Takes (d .rec) (k .located .here .lists) a r′ → Performs (onStream s newList) d (withRecord d r′) (numberAnswer a) []
-    go (Refused x) h = rw (h .0) (usual-performs-refused (onStream s newList) d x tt (rest ∙ h .1))
-    go (Number l) h = performs-accepted (onStream s newList) d _ (rest ∙ rw (h .1) (ask-yes 10 _ _ refl ∙ last-yes 13 _ (h .2))) (rw (free, h .1, h .0))
+    go : (a : NumberReply) → Takes s (d .rec) (k .located .here .lists) a r′ → Performs (onStream s newList) d (withRecord d r′) (numberAnswer a) []
+    go (Refused x) h = rw (h .0) (usual-performs-refused (onStream s newList) d x tt (rest ∙ h .1 d refl))
+    go (Number l) h = performs-accepted (onStream s newList) d _ (rest ∙ rw (h .1) (ask-yes 10 _ _ refl ∙ h .2 d refl)) (rw (free, h .1, take-disk s l d, h .0))
 
 -- A put: a question more before the others.
 module _ (qs : List (ℕ × Bool)) (s l p b : ℕ) (r : Record) (n : ℕ) (q : Bool) where

@@ -13,7 +13,7 @@ use Rattle.lists.specs.State.{Row, State, taken, placed, onList, overlay, mapSt
 use Rattle.lists.specs.promises.Tables.{Tables}
 use Rattle.lists.proofs.Basic.{or-cases, eqb-true, eqb-false}
 use Rattle.lists.proofs.Naturality.{taken-map, onList-map}
-use Rattle.log.specs.Entry.{hasMember, isList, member, mapEntry, raw, legal, asEntry}
+use Rattle.log.specs.Entry.{isList, member, mapEntry, raw, legal, asEntry}
 use Rattle.log.specs.Cell.{cellOf}
 use Rattle.disk.specs.Record.{Record, holderOf, unitAt}
 use Rattle.disk.specs.declared.answer.NumberReply.{NumberReply}
@@ -22,7 +22,7 @@ use Rattle.disk.specs.Disk.{Disk, withRecord, unitOf, journalOf, committed, vie
 use Rattle.disk.specs.Call.{newBlock, onStream, destination}
 use Rattle.disk.specs.Sound.{lengthsRight, recordSound, isOpenUnit}
 use Rattle.disk.specs.Questions.{streamOpen, freeBlock, predecessorRight, editQuestions, questions, firstNo, refusal}
-use Rattle.disk.specs.Perform.{accepted, change, hold, gaveBlock, noted, streamFor, made, putAt, numberGiven, changeFor}
+use Rattle.disk.specs.Perform.{accepted, change, hold, gaveBlock, noted, made, putAt, numberGiven, changeFor}
 use Rattle.disk.specs.Answers.{numberAnswer}
 use Rattle.disk.proofs.Questions.{unit-range}
 use Rattle.disk.proofs.Clauses.{right}
@@ -37,7 +37,7 @@ use Rattle.calls.proofs.Adding.{Says, change-added}
 use Rattle.inspect.proofs.Locating.{placed-here, overlay-here}
 use Rattle.inspect.proofs.Looking.{Lawful, unit-lawful}
 use Rattle.calls.proofs.Entering.{entered}
-use Rattle.calls.proofs.Giving.{free-ext, free-number}
+use Rattle.calls.proofs.Giving.{free-ext, free-number, hold-record}
 
 -- the same put of a number named otherwise
 pub puts-number : (rs : List (Row ℕ)) (s l p b b′ : ℕ) (r : Record) (a : NumberReply) (r′ : Record) → b ≡ b′
@@ -55,13 +55,8 @@ unfolding putAt cellOf raw mapEntry mapChange asEntry
 put-entry b l zero = refl
 put-entry b l (suc p) = rw (eqb·suc-zero p)
 
-hold-record : (s b : ℕ) (d : Disk) (r : Record) → hold s b (withRecord d r) ≡ withRecord d (heldBy s b r)
-unfolding hold
-hold-record zero b d r = refl
-hold-record (suc u) b d r = rw (eqb·suc-zero u)
-
 put-made : (s l p b : ℕ) (d : Disk) → made s (putAt b l p) d ≡ gaveBlock b (hold s b (change s (putAt b l p) d))
-unfolding made noted streamFor hasMember putAt
+unfolding made noted putAt
 put-made s l zero b d = refl
 put-made s l (suc p) b d = refl
 
@@ -83,6 +78,9 @@ unit-some d zero l h n = let w = unit-lawful d 1 l h (omega arith) (omega arith)
 unit-some d (suc s) l h n = unit-lawful d (suc s) l h (omega arith) n
 
 -- what the code needs
+pub stands-take : (s : ℕ) (d : Disk) (t : Tables) → Admitted true d s t → Shown t × (s ≤ 4) × (d .rec .ring .head < 32)
+stands-take s d t k = (record { lists = k .located .here .lists; shows = k .located .shows }, stands-range d s t k, right d (k .lengths) (k .sound) .log .head)
+
 pub stands-put : (s : ℕ) (d : Disk) (t : Tables) → Admitted true d s t
     → Shown t × (s ≤ 4) × (d .rec .ring .head < 32) × (unitAt (d .rec) s .len ≤ 15)
     × (all (λ c. legal (raw 0 (member c))) (from (changeIn (unitAt (d .rec) s)) 0 (unitAt (d .rec) s .len)) ≡ true)

@@ -13,7 +13,7 @@ use Rattle.lists.proofs.Basic.{and-true, leb-true, eqb-true}
 use Rattle.log.specs.declared.entry.LogEntry.the-variants.{Write}
 use Rattle.log.specs.Raced.{raced}
 use Rattle.log.specs.Card.{Content, slotBytes}
-use Rattle.log.specs.Entry.{mapEntry, raw, hasMember, isBlock, isRace, carried, asEntry}
+use Rattle.log.specs.Entry.{mapEntry, raw, isBlock, isRace, carried, asEntry}
 use Rattle.log.specs.Cell.{cellOf}
 use Rattle.disk.specs.Record.{Record}
 use Rattle.disk.specs.declared.answer.Refusal.{Refusal}
@@ -22,7 +22,7 @@ use Rattle.disk.specs.declared.answer.Reply.the-variants.{Accepted, Refused}
 use Rattle.disk.specs.Disk.{Disk, disk, withRecord, unitOf, view}
 use Rattle.disk.specs.Questions.{journalRoom, editQuestions, questions, refusal}
 use Rattle.disk.specs.Call.{writeBlock, onStream, destination}
-use Rattle.disk.specs.Perform.{accepted, change, noted, streamFor, made, numberGiven, changeFor, enqueue, journalAdd, spliceSome}
+use Rattle.disk.specs.Perform.{accepted, change, noted, made, numberGiven, changeFor, enqueue, journalAdd, spliceSome}
 use Rattle.disk.specs.Answers.{replyAnswer}
 use Rattle.disk.proofs.Questions.{yes-all, queue-data, journal-data, journal-room}
 use Rattle.disk.proofs.Clauses.{right}
@@ -64,7 +64,7 @@ module _ (d : Disk) (s b n : ℕ) (x : Content) (a : Reply) (r : Record) where
 
   pub write-accepted : a ≡ Accepted → Decides (onStream s (writeBlock b n x)) d s (Write b 0 n) a r → (q j : List ℕ) → Copies s (placeNext s (d .rec)) x (d .queueData) (d .journalData) q j
       → Performs (onStream s (writeBlock b n x)) d (disk (d .card) q j r) (replyAnswer a) []
-  unfolding replyAnswer accepted made noted streamFor hasMember numberGiven changeFor
+  unfolding replyAnswer accepted made noted numberGiven changeFor
   write-accepted e h q j k =
       let w = rw e at h in
       rw (e, w .0) (performs-accepted (onStream s (writeBlock b n x)) d _ (w .1) (rw (change-written s d b n x q j k)))

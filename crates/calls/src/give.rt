@@ -5,13 +5,11 @@ use crate::ranges::is_position;
 use disk::answer::NumberReply;
 use disk::answer::Refusal;
 use disk::answer::Reply;
-use disk::change::append;
 use disk::change::gave_block;
 use disk::change::gave_list;
 use disk::change::hold;
 use disk::record::RECORD;
-use disk::record::Record;
-use disk::record::len;
+use disk::record::list_number;
 use inspect::free::free_block;
 use inspect::free::free_list;
 use inspect::journal::enter_journal;
@@ -28,32 +26,34 @@ ghost use Rattle.disk.specs.Record.{recordIn, unitAt};
 ghost use Rattle.inspect.specs.promises.Clauses.{changeIn};
 ghost use Rattle.calls.specs.promises.Giving.{Takes, heldBy, putEntry, Gives, putQuestions, rangedPutQuestions, Lays, Shown, PutsFree};
 
-// 10. Is a list free in the committed state? 13. Has the queue room? Then the list is taken.
-pub fn take_list(nodes: &[u8; 1280], rec: &mut [u8; RECORD]) -> NumberReply
-    requires { ⌜ recordIn (now rec) .ring .head < 32 ⌝ }
-    ensures { λ r. ⌜ OfShown (tablesIn (now (nodes .entry))) (λ rs. Takes (recordIn (now (rec .entry))) rs r (recordIn (now (rec .exit)))) ⌝ }
+// Number n held by unit s, by none on stream 0.
+fn held(rec: &mut [u8; RECORD], s: usize, n: u8)
+    requires { ⌜ (s ≤ 4) × (1 ≤ n) × (n ≤ 80) ⌝ }
+    ensures { λ r. ⌜ recordIn (now (rec .exit)) ≡ heldBy s n (recordIn (now (rec .entry))) ⌝ }
+{
+    if s == 0 {
+        return;
+    }
+    hold(rec, n as usize, s as u8);
+}
+
+// 10. Is a list free? The tables show the committed state. 11 and 13, and the take.
+pub fn take_list(nodes: &[u8; 1280], rec: &mut [u8; RECORD], s: usize) -> NumberReply
+    requires { ⌜ Shown (tablesIn (now nodes)) × (s ≤ 4) × (recordIn (now rec) .ring .head < 32) ⌝ }
+    ensures { λ r. ⌜ OfShown (tablesIn (now (nodes .entry))) (λ rs. Takes s (recordIn (now (rec .entry))) rs r (recordIn (now (rec .exit)))) ⌝ }
 {
     let l = free_list(nodes, rec);
     if l == 0 {
         return NumberReply::Refused(Refusal::NoNumberFree);
     }
-    if Record::QUEUE <= len(rec) {
-        return NumberReply::Refused(Refusal::QueueFull);
+    match add(rec, s, LogEntry::Take { list: l }) {
+        Reply::Refused(x) => NumberReply::Refused(x),
+        Reply::Accepted => {
+            held(rec, s, list_number(l));
+            gave_list(rec, l);
+            NumberReply::Number(l as usize)
+        }
     }
-    append(rec, false, LogEntry::Take { list: l });
-    gave_list(rec, l);
-    NumberReply::Number(l as usize)
-}
-
-// Block b held by unit s, by none on stream 0.
-fn held(rec: &mut [u8; RECORD], s: usize, b: u8)
-    requires { ⌜ (s ≤ 4) × (1 ≤ b) × (b ≤ 64) ⌝ }
-    ensures { λ r. ⌜ recordIn (now (rec .exit)) ≡ heldBy s b (recordIn (now (rec .entry))) ⌝ }
-{
-    if s == 0 {
-        return;
-    }
-    hold(rec, b as usize, s as u8);
 }
 
 // The entry of a block put first, or behind block p.

@@ -8,7 +8,7 @@ ghost use Rattle.disk.specs.Call.{newList, onStream};
 ghost use Rattle.disk.specs.Answers.{numberAnswer};
 ghost use Rattle.calls.specs.Performs.{ChangesRecord};
 
-// Questions: 1 lengths, 3 record, 4 stream, 10 a free number, 13 queue. The take is queued on any stream.
+// Questions: 1 lengths, 3 record, 4 stream, 10 a free number, 11 journal, 13 queue.
 pub fn new_list(
     card: &[u8],
     queue_data: &[u8],
@@ -33,5 +33,5 @@ pub fn new_list(
         }
         Looked::Seen => {}
     }
-    take_list(&nodes, rec)
+    take_list(&nodes, rec, stream)
 }

@@ -1,14 +1,16 @@
 -- Laws of the book alone: the entries of labelled lists, a unit's batch, and the segments that a formatting has not reached yet.
-use mathlib.Core.Path.{_≡_, refl, sym, ap, _∙_}
+use mathlib.Core.Path.{_≡_, refl, sym, ap, _∙_, subst}
 use mathlib.Core.Logic.{_≢_}
 use mathlib.Core.List.{List, [], _∷_, _++_, map, append-assoc, map-append}
 use Prim.Native.Nat.{ℕ, zero, suc, _-_, _≤_, _<_}
 use native.Mathlib.Omega.{arith}
+use native.Mathlib.Decide.{ℕ-discrete}
 use lib.ListN.{length, drop, getD, set}
 use lib.Seq.{getD-set-same, getD-set-other}
 use Rattle.lists.specs.Basic.{joined}
 use Rattle.lists.specs.Change.{Change}
 use Rattle.lists.proofs.Basic.{getD-set-default}
+use Rattle.lists.proofs.Takings.{TakenOnce}
 use Rattle.log.specs.Entry.{Entry}
 use Rattle.log.specs.Card.{Written}
 use Rattle.crash.specs.Book.{Book, Waiting, entriesOf, batchOf, withBatch, keepFirst}
@@ -36,6 +38,15 @@ module _ (b : Book) (u : ℕ) where
   pub batch-dropped : (v : ℕ) → u - 1 ≡ v - 1 → batchOf (withBatch b u []) v ≡ []
   unfolding batchOf withBatch
   batch-dropped v e = ap (λ (k : ℕ). getD (set (b .batches) k []) (v - 1) []) e ∙ getD-set-default (b .batches) (v - 1) []
+
+-- Batches none of which takes a list twice, one of them another one.
+pub once-with : (b : Book) (u : ℕ) (cs : List (Change Written)) → 1 ≤ u → batchOf (withBatch b u cs) u ≡ cs → TakenOnce cs
+    → ((v : ℕ) → 1 ≤ v → v ≤ 4 → TakenOnce (batchOf b v)) → (v : ℕ) → 1 ≤ v → v ≤ 4 → TakenOnce (batchOf (withBatch b u cs) v)
+once-with b u cs p s o f v x y = go (ℕ-discrete u v)
+  where
+    go : Dec (u ≡ v) → TakenOnce (batchOf (withBatch b u cs) v)
+    go (yes e) = subst TakenOnce (sym s ∙ ap (batchOf (withBatch b u cs)) e) o
+    go (no e) = subst TakenOnce (sym (batch-other b u v cs (omega arith))) (f v x y)
 
 -- The first m segments kept, the others emptied.
 module _ {A : Type 0} where

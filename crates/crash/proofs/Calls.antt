@@ -1,27 +1,35 @@
 -- Every accepted call that changes the disk keeps the invariant.
-use mathlib.Core.Path.{_≡_, refl, _∙_}
-use mathlib.Core.Bool.{true}
+use mathlib.Core.Path.{_≡_, refl, _∙_, subst}
+use mathlib.Core.Bool.{Bool, true, false}
+use mathlib.Core.List.{List}
 use Prim.Native.Nat.{ℕ, zero, suc, _+_}
 use native.Mathlib.Omega.{arith}
-use lib.Dec.{leb}
+use lib.Dec.{leb, eqb·suc-zero}
+use Rattle.lists.specs.Basic.{any}
 use Rattle.lists.specs.Change.{Change, takeList, putFirst, putAfter, write, delBlock, delList, carriedBy}
 use Rattle.lists.specs.State.{applies, applyAll}
+use Rattle.lists.specs.InUse.{listNumber}
 use Rattle.lists.proofs.Basic.{and-true, not-false, leb-true, some-of}
+use Rattle.lists.proofs.Count.{takes}
+use Rattle.lists.proofs.InUse.{brought, takes-brings}
+use Rattle.lists.proofs.Takings.{once-more}
 use Rattle.log.specs.Entry.{plain, carried}
 use Rattle.log.specs.Card.{Written}
 use Rattle.log.proofs.Segment.{Sized}
 use Rattle.log.proofs.Places.{Good}
-use Rattle.disk.specs.Record.{isOpen}
+use Rattle.disk.specs.Record.{isOpen, holderOf}
 use Rattle.disk.specs.Disk.{Disk, unitOf, queued, journalOf, committed}
+use Rattle.disk.specs.Sound.{isOpenUnit}
 use Rattle.disk.specs.Call.{Edit, onStream, begin, end}
 use Rattle.disk.specs.Questions.{streamOpen, journalRoom, streamRoom, endApplies, questions, refusal}
-use Rattle.disk.specs.Perform.{change, hold, gaveList, gaveBlock, noted, streamFor, made, numberGiven, changeFor, opening, accepted}
+use Rattle.disk.specs.Perform.{change, hold, gaveList, gaveBlock, noted, made, numberGiven, changeFor, opening, accepted}
 use Rattle.disk.proofs.Queue.{queued-hold, queued-gaveBlock, queued-gaveList, queued-opening}
 use Rattle.disk.proofs.Journal.{journal-size, journal-opening, unit-sized, journal-hold, journal-gaveBlock, journal-gaveList}
 use Rattle.disk.proofs.Questions.{yes-all, unit-range, open-range, queue-room, stream-room, journal-room}
 use Rattle.disk.proofs.Clauses.{Right, right}
-use Rattle.disk.proofs.Changes.{edit-makes, stream-open, apply-applies, unit-good}
-use Rattle.crash.specs.Book.{Book, join, joinUnit}
+use Rattle.disk.proofs.Changes.{edit-makes, apply-applies, unit-good}
+use Rattle.disk.proofs.Inventory.{journal-takes-held}
+use Rattle.crash.specs.Book.{Book, batchOf, join, joinUnit}
 use Rattle.crash.proofs.Invariant.{Live, live}
 use Rattle.crash.proofs.Joining.{join-plain, join-batch, join-unit}
 
@@ -29,7 +37,7 @@ use Rattle.crash.proofs.Joining.{join-plain, join-batch, join-unit}
 same-inv : (d e : Disk) (b : Book) → e .card ≡ d .card → queued e ≡ queued d → e .rec .ring .done ≡ d .rec .ring .done → ((u : ℕ) → journalOf e u ≡ journalOf d u) → Live d b → Live e b
 same-inv d e b c q n j i =
     live e b (rw c (i .sim)) (i .told)
-    (record { queue = q ∙ i .tied refl .queue; done = n ∙ i .tied refl .done; journals = λ u l m. j u ∙ i .tied refl .journals u l m }) (i .four) (i .few)
+    (record { queue = q ∙ i .tied refl .queue; done = n ∙ i .tied refl .done; journals = λ u l m. j u ∙ i .tied refl .journals u l m; once = i .tied refl .once }) (i .four) (i .few)
 
 gave-list : (d : Disk) (b : Book) (l : ℕ) → Live d b → Live (gaveList l d) b
 unfolding gaveList
@@ -55,18 +63,33 @@ record Streams (s : ℕ) (d : Disk) : Type 0 where
   journal : journalRoom d s ≡ true
   queue : streamRoom d s ≡ true
 
+-- what it takes is held by no unit, so no journal takes it
+taken-new : (u : ℕ) (c : Change Written) (d : Disk) → Right d → isOpenUnit d u ≡ true → ((n : ℕ) → brought c n ≡ true → holderOf (d .rec) n ≡ 0)
+    → (l : ℕ) → takes c l ≡ true → any (λ x. takes x l) (journalOf d u) ≡ false
+taken-new u c d k h f l e = go (any (λ x. takes x l) (journalOf d u)) refl
+  where
+    go : (t : Bool) → any (λ x. takes x l) (journalOf d u) ≡ t → any (λ x. takes x l) (journalOf d u) ≡ false
+    go true q =
+        let (p, m, o) = unit-range d u h in
+        absurd (omega (arith, journal-takes-held (d .rec) u (journalOf d u) l (k .units .units u p m .sound) q .0, f (listNumber l) (takes-brings c l e)))
+    go false q = q
+
 change-inv : (s : ℕ) (c : Change Written) (d : Disk) (b : Book) → Live d b → Streams s d → Good (plain c) → (s ≡ 0 → applies c (committed d .lists) ≡ true)
-    → Live (change s c d) (join s c b)
-unfolding change join
-change-inv zero c d b i t g a = join-plain d b c _ (t .sound) i (stream-room d (t .queue)) g (apply-applies c (committed d) (a refl))
-change-inv (suc u) c d b i t g a =
+    → ((n : ℕ) → brought c n ≡ true → holderOf (d .rec) n ≡ 0) → Live (change s c d) (join s c b)
+unfolding change join streamOpen
+change-inv zero c d b i t g a f = join-plain d b c _ (t .sound) i (stream-room d (t .queue)) g (apply-applies c (committed d) (a refl))
+change-inv (suc u) c d b i t g a f =
     let (p, q, o) = open-range d u (t .isOpen) in
+    let y = i .tied refl .journals (suc u) p q in
     join-batch d b (suc u) c (t .sound) i p q (journal-room d u (t .journal)) (plain-sized c g)
+    (once-more (batchOf b (suc u)) c
+    (λ l e. subst (λ (cs : List (Change Written)). any (λ x. takes x l) cs ≡ false) y (taken-new (suc u) c d (t .sound) (rw (eqb·suc-zero u) at (t .isOpen)) f l e))
+    (i .tied refl .once (suc u) p q))
 
 -- what the record notes of a number given is no part of it
 noted-inv : (s : ℕ) (c : Change Written) (d : Disk) (b : Book) → Live d b → Live (noted s c d) b
 unfolding noted
-noted-inv s (takeList l) d b i = gave-list d b l i
+noted-inv s (takeList l) d b i = gave-list (hold s (listNumber l) d) b l (held s (listNumber l) d b i)
 noted-inv s (putFirst n l) d b i = gave-block (hold s n d) b n (held s n d b i)
 noted-inv s (putAfter n l p) d b i = gave-block (hold s n d) b n (held s n d b i)
 noted-inv s (write n x) d b i = i
@@ -75,14 +98,14 @@ noted-inv s (delList l) d b i = i
 
 -- The calls.
 pub accepted-edit : (s : ℕ) (e : Edit) (d : Disk) (b : Book) → refusal (onStream s e) d ≡ 0 → Live d b
-    → let c = changeFor e (numberGiven e d) in Live (accepted (onStream s e) d .disk) (join (streamFor s c) c b)
+    → let c = changeFor e (numberGiven e d) in Live (accepted (onStream s e) d .disk) (join s c b)
 unfolding questions accepted made
 accepted-edit s e d b h i =
     let y = yes-all (onStream s e) d h in
     let c = changeFor e (numberGiven e d) in
     let m = edit-makes s e d h in
-    let t = streamFor s c in
-    noted-inv s c (change t c d) (join t c b) (change-inv t c d b i (record { sound = right d (y 0) (y 1); isOpen = stream-open s c d (y 2); journal = m .journal; queue = m .queue }) (m .good) (m .applying))
+    noted-inv s c (change s c d) (join s c b)
+    (change-inv s c d b i (record { sound = right d (y 0) (y 1); isOpen = y 2; journal = m .journal; queue = m .queue }) (m .good) (m .applying) (λ n z. m .free n z .0))
 
 -- a unit that opens was closed, so its journal is empty already
 pub accepted-begin : (u w : ℕ) (d : Disk) (b : Book) → refusal (begin u w) d ≡ 0 → Live d b → Live (accepted (begin u w) d .disk) b

@@ -5,6 +5,7 @@ use Prim.Native.Nat.{ℕ, _-_, _≤_}
 use native.Mathlib.Omega.{arith}
 use lib.ListN.{length, take}
 use Rattle.lists.proofs.Basic.{getD-same}
+use Rattle.lists.proofs.Takings.{TakenOnce}
 use Rattle.log.specs.Card.{segmentsIn}
 use Rattle.log.specs.Store.{doStores, formatStores}
 use Rattle.log.proofs.Segment.{Carries}
@@ -49,6 +50,7 @@ fresh-tied d b e =
       queue = fresh-queue d e;
       done = ap (λ (r : Record). r .ring .done) e;
       journals = λ u l m. fresh-journal d e u ∙ sym (getD-same 4 (u - 1) []);
+      once = λ u l m. subst TakenOnce (sym (getD-same 4 (u - 1) [])) tt;
     }
 
 settled-live : (d : Disk) (b : Book) → d .rec ≡ freshRecord → Sim (d .card) (settle b) → Told (settle b) → length (b .segs) ≤ 64 → Live d (settle b)

@@ -127,7 +127,7 @@ start-sim n c p l = record { carries = empty-carries n c p l; good = tt; head = 
 
 start-tied : (d : Disk) (n : ℕ) → d .rec ≡ freshRecord → Tied d (emptyBook n)
 unfolding emptyBook settle batchOf
-start-tied d n e = let t = fresh-tied d (emptyBook n) e in record { queue = t .queue; done = t .done; journals = t .journals }
+start-tied d n e = let t = fresh-tied d (emptyBook n) e in record { queue = t .queue; done = t .done; journals = t .journals; once = t .once }
 
 start-inv : (d : Disk) → refusal format d ≡ 0 → Live (accepted format d .disk) (emptyBook (segmentsIn (d .card)))
 unfolding questions accepted formatted emptyBook

@@ -7,6 +7,7 @@ use native.Mathlib.Omega.{arith}
 use lib.ListN.{length, drop, getD, length-map}
 use Rattle.lists.specs.Change.{Change}
 use Rattle.lists.proofs.Basic.{map-drop}
+use Rattle.lists.proofs.Takings.{TakenOnce}
 use Rattle.log.specs.Card.{Written, segmentsIn}
 use Rattle.log.specs.Flush.{Flow}
 use Rattle.log.proofs.Segment.{Carries}
@@ -58,6 +59,7 @@ module _ (d : Disk) (b b′ : Book) (y : Flow) (f : FlushSim y b b′) where
         done = ap (λ (z : Flow). z .done) (f .flow);
         journals = λ u l m. journal-flushed d y u ∙ t .journals u l m
             ∙ ap (λ (x : List (List (Change Written))). getD x (u - 1) []) (sym (f .keeps .batches));
+        once = λ u l m. subst TakenOnce (ap (λ (x : List (List (Change Written))). getD x (u - 1) []) (sym (f .keeps .batches))) (t .once u l m);
       }
 
 pub cut-flush : (w : World) (b : Book) (a k : ℕ) (x : Rest) → w .down ≡ false → Inv w b → Inv (step w (cutFlush a k x)) (settle (bookFlush k b))

@@ -4,6 +4,7 @@ use mathlib.Core.Bool.{true, false, true≢false}
 use mathlib.Core.List.{List}
 use Prim.Native.Nat.{ℕ, _≤_}
 use lib.ListN.{length, length-map}
+use Rattle.lists.proofs.Takings.{TakenOnce}
 use Rattle.log.specs.Card.{segmentsIn}
 use Rattle.log.proofs.Segment.{Carries, carries-segments}
 use Rattle.disk.specs.Disk.{Disk, queued, journalOf}
@@ -14,11 +15,12 @@ use Rattle.crash.proofs.Told.{Told, Shown, told-shown, settle-told}
 use Rattle.crash.proofs.Mounting.{kept}
 use Rattle.crash.proofs.Simulation.{Sim}
 
--- the record and the lent data hold the line and the batches
+-- the record and the lent data hold the line and the batches, none of which takes a list twice
 pub record Tied (d : Disk) (b : Book) : Type 0 where
   pub queue : queued d ≡ entriesOf (b .line)
   pub done : d .rec .ring .done ≡ b .done
   pub journals : (u : ℕ) → 1 ≤ u → u ≤ 4 → journalOf d u ≡ batchOf b u
+  pub once : (u : ℕ) → 1 ≤ u → u ≤ 4 → TakenOnce (batchOf b u)
 
 -- the card carries what the book says, whatever a cut left of the rest; the record is tied to the book while no mounting is due
 pub record Inv (w : World) (b : Book) : Type 0 where

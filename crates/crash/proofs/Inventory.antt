@@ -1,7 +1,7 @@
 -- The inventory's order: the state of every view is that of a history, and the law of takings (`lists-by-takings` in lists) holds of its changes.
 use mathlib.Core.Path.{_≡_, refl, sym, ap, _∙_, subst}
 use mathlib.Core.Bool.{Bool, true, false, _||_, not, or-false, true≢false}
-use mathlib.Core.List.{List, []}
+use mathlib.Core.List.{List, [], _++_, append-nil}
 use Prim.Native.Nat.{ℕ, zero, suc}
 use lib.Dec.{eqb, eqb·suc-zero}
 use Rattle.lists.specs.Basic.{joined}
@@ -9,7 +9,7 @@ use Rattle.lists.specs.State.{State, state, applyAll, overlay}
 use Rattle.lists.specs.Lookup.{listNums}
 use Rattle.lists.specs.Takings.{undeleted, inForce}
 use Rattle.lists.proofs.Basic.{and-true, not-false}
-use Rattle.lists.proofs.Takings.{lists-by-takings, lists-undeleted}
+use Rattle.lists.proofs.Takings.{TakenOnce, lists-by-takings, in-force-append, lists-overlaid}
 use Rattle.log.specs.Reader.{start}
 use Rattle.log.specs.Card.{Written}
 use Rattle.disk.specs.Disk.{Disk, journalOf, persistent, committed, view}
@@ -21,7 +21,7 @@ use Rattle.disk.specs.Statements.{Fills}
 use Rattle.disk.proofs.Questions.{yes-all, unit-range}
 use Rattle.disk.proofs.Clauses.{Right, right}
 use Rattle.disk.proofs.Performing.{perform-refused, refusal-code}
-use Rattle.disk.proofs.Inventory.{unit-takes-none, inventory-fills}
+use Rattle.disk.proofs.Inventory.{unit-takes-new, inventory-fills}
 use Rattle.crash.specs.Event.{called, Parts, World, lend, lentWhole, isAccepted, mayHappen}
 use Rattle.crash.specs.Book.{Book, Act, batchOf, onCard}
 use Rattle.crash.specs.Demand3.{play, begun}
@@ -52,11 +52,13 @@ module _ (d : Disk) (b : Book) (i : Live d b) where
       ∙ lists-by-takings (joined (b .history)) (t .reader .state) (ap (λ (l : List Act). applyAll (joined l) (state [])) (t .history) ∙ replay-acts (t .entries) start (t .reader) (t .replays))
 
   module _ (k : Right d) where
-    unit-lists : (u : ℕ) → isOpenUnit d u ≡ true → listNums (overlay (journalOf d u) (committed d) .lists) ≡ undeleted (batchOf b u) (inForce (joined (b .history)))
+    unit-lists : (u : ℕ) → isOpenUnit d u ≡ true → listNums (overlay (journalOf d u) (committed d) .lists) ≡ inForce (joined (b .history) ++ batchOf b u)
     unit-lists u h =
         let (p, q, o) = unit-range d u h in
-        lists-undeleted (journalOf d u) (committed d) (unit-takes-none d k u h)
-        ∙ rw (i .tied refl .journals u p q) (ap (undeleted (batchOf b u)) committed-lists)
+        let e = i .tied refl .journals u p q in
+        lists-overlaid (journalOf d u) (committed d) (subst TakenOnce (sym e) (i .tied refl .once u p q)) (unit-takes-new d k u h)
+        ∙ rw e (ap (λ (ls : List ℕ). undeleted (batchOf b u) ls ++ inForce (batchOf b u)) committed-lists)
+        ∙ sym (in-force-append (joined (b .history)) (batchOf b u))
 
     view-lists : (v : ℕ) → viewOpen d v ≡ true → listNums (view d v .lists) ≡ listsIn b v
     unfolding view viewOpen streamOpen listsIn
@@ -64,7 +66,7 @@ module _ (d : Disk) (b : Book) (i : Live d b) where
       where
         go : (f : Bool) → eqb v 5 ≡ f → (z : Bool) → eqb v 0 ≡ z → listNums (view d v .lists) ≡ listsIn b v
         go true e z g = rw e persistent-lists
-        go false e true g = rw (e, g) committed-lists
+        go false e true g = rw (e, g, append-nil (joined (b .history))) committed-lists
         go false e false g = rw (e, g) (unit-lists v (rw (e, g) at h))
 
 -- An accepted call was not refused.

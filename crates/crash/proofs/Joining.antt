@@ -9,6 +9,7 @@ use lib.ListN.{length, length-set}
 use Rattle.lists.specs.Basic.{bind, joined}
 use Rattle.lists.specs.Change.{Change, carriedBy}
 use Rattle.lists.specs.State.{State, apply, applyAll}
+use Rattle.lists.proofs.Takings.{TakenOnce}
 use Rattle.log.specs.Entry.{Entry, plain, commit}
 use Rattle.log.specs.Reader.{Reader, settled, start, read, replay}
 use Rattle.log.specs.Card.{Written, sound, mounted}
@@ -24,7 +25,7 @@ use Rattle.disk.proofs.Clauses.{Right, committed-is}
 use Rattle.disk.proofs.Changes.{replay-unit}
 use Rattle.crash.specs.Book.{Book, Waiting, Act, entriesOf, placedEntries, memberOf, batchOf, withBatch, joinHistory, joinUnit}
 use Rattle.crash.proofs.History.{tell, tell-unit, tell-plain, runAfter, closing, label, label-plain, label-unit, entries-label}
-use Rattle.crash.proofs.Book.{entries-append, entries-joined, batch-same, batch-other, batch-dropped}
+use Rattle.crash.proofs.Book.{entries-append, entries-joined, batch-same, batch-other, batch-dropped, once-with}
 use Rattle.crash.proofs.Told.{Told, Shown, told-shown, told-add, withBatch-told}
 use Rattle.crash.proofs.Simulation.{Sim}
 use Rattle.crash.proofs.Invariant.{Tied, Live, live}
@@ -61,6 +62,7 @@ record Grown (d d′ : Disk) (b b′ : Book) (es : List (Entry Written)) (ws : L
   mark : b′ .done ≡ b .done
   four : length (b′ .batches) ≡ 4
   journals : (u : ℕ) → 1 ≤ u → u ≤ 4 → journalOf d′ u ≡ batchOf b′ u
+  once : (u : ℕ) → 1 ≤ u → u ≤ 4 → TakenOnce (batchOf b′ u)
 
 -- entries join the queue and the line, and what they tell joins the history
 join-line : (d d′ : Disk) (b b′ : Book) (es : List (Entry Written)) (hs : List Act) (z : Reader Written) (i : Live d b)
@@ -76,6 +78,7 @@ join-line d d′ b b′ es hs z i g good h k r =
       queue = g .queue ∙ ap (λ (x : List (Entry Written)). x ++ es) (i .tied refl .queue) ∙ sym lines;
       done = g .done ∙ i .tied refl .done ∙ sym (g .mark);
       journals = g .journals;
+      once = g .once;
     })
     (g .four)
     (rw (g .segs) (i .few))
@@ -104,18 +107,19 @@ join-plain d b c s r i m g a =
       mark = refl;
       four = i .four;
       journals = λ u p q. journal-enqueue (plain c) d u ∙ i .tied refl .journals u p q;
+      once = i .tied refl .once;
     })
     (g, tt) (sym (tell-plain (runAfter [] (i .told .entries)) c)) refl
     (replay-plain (i .told .reader) c s (ap (apply c) (sym (committed-state d b i)) ∙ a))
 
 -- A change in a unit.
 pub join-batch : (d : Disk) (b : Book) (u : ℕ) (c : Change Written) → Right d → Live d b → 1 ≤ u → u ≤ 4 → unitOf d u .len < 15 → Sized (carriedBy c)
-    → Live (journalAdd u c d) (withBatch b u (batchOf b u ++ c ∷ []))
+    → TakenOnce (batchOf b u ++ c ∷ []) → Live (journalAdd u c d) (withBatch b u (batchOf b u ++ c ∷ []))
 unfolding withBatch placedEntries journalAdd
-join-batch d b u c r i p q m z =
+join-batch d b u c r i p q m z o =
     live (journalAdd u c d) (withBatch b u (batchOf b u ++ c ∷ []))
     (i .sim) (withBatch-told b u (batchOf b u ++ c ∷ []) (i .told))
-    (record { queue = queued-journal u c d ∙ i .tied refl .queue; done = i .tied refl .done; journals = λ v x y. journals v x y (ℕ-discrete u v) })
+    (record { queue = queued-journal u c d ∙ i .tied refl .queue; done = i .tied refl .done; journals = λ v x y. journals v x y (ℕ-discrete u v); once = once-with b u (batchOf b u ++ c ∷ []) p (batch-same b u (batchOf b u ++ c ∷ []) (omega (arith, i .four))) o (i .tied refl .once) })
     (length-set (b .batches) (u - 1) _ ∙ i .four)
     (i .few)
   where
@@ -154,6 +158,7 @@ join-unit d b u s r i p q m g z a =
       mark = refl;
       four = length-set (b .batches) (u - 1) [] ∙ i .four;
       journals = λ v y w. journals v y w (ℕ-discrete u v);
+      once = once-with b u [] p (batch-dropped b u u refl) tt (i .tied refl .once);
     })
     g (unit-tells (batchOf b u) run ∙ ap (λ (cs : List (Change Written)). tell run (unitEntries cs)) (sym same)) refl
     (replay-unit (i .told .reader) (journalOf d u) s (ap (applyAll (journalOf d u)) (sym (committed-state d b i)) ∙ a))

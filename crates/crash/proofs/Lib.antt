@@ -18,3 +18,4 @@ pub mod Covered
 pub mod Unwritten
 pub mod Inventory
 pub mod Conflicts
+pub mod LostUnit

@@ -18,7 +18,7 @@ use Rattle.disk.proofs.Journal.{journal-closing, journal-closing-other, journal
 use Rattle.disk.proofs.Questions.{past, twelve-end, unit-range}
 use Rattle.crash.specs.Event.{Parts, World, lend, giveBack}
 use Rattle.crash.specs.Book.{Book, batchOf, withBatch, placedEntries, bookRefused}
-use Rattle.crash.proofs.Book.{batch-other, batch-dropped}
+use Rattle.crash.proofs.Book.{batch-other, batch-dropped, once-with}
 use Rattle.crash.proofs.Told.{withBatch-told}
 use Rattle.crash.proofs.Lending.{back-record}
 use Rattle.crash.proofs.Invariant.{Tied, Inv}
@@ -39,6 +39,7 @@ closed-tied v d b u p t =
       queue = queued-conflicted v (closing u d) ∙ queued-closing u d ∙ t .queue;
       done = t .done;
       journals = λ w x y. journal-conflicted v (closing u d) w ∙ journals w x y (ℕ-discrete u w);
+      once = once-with b u [] p (batch-dropped b u u refl) tt (t .once);
     }
   where
     journals : (w : ℕ) → 1 ≤ w → w ≤ 4 → Dec (u ≡ w) → journalOf (closing u d) w ≡ batchOf (withBatch b u []) w

@@ -1,4 +1,4 @@
--- Two lists of events on a card of two segments, computed to their ends: they may happen, and come to what demand 3 and the inventory's order say. So
+-- Three lists of events on a card of two segments, computed to their ends: they may happen, and come to what demand 3 and the inventory's order say. So
 -- `valid` is no condition that a list with cuts, dead members and refusals cannot meet.
 use Prim.{Unit, tt}
 use mathlib.Core.Path.{_≡_, refl}
@@ -107,3 +107,33 @@ pub again-listed :
     × (perform (inView 0 (inventory (replicate 16 9))) (again .world .disk) .lent ≡ 2 ∷ 1 ∷ replicate 14 9)
 unfolding playing retaken again listsIn joined inForce undeleted
 again-listed = (refl, refl, refl, refl, refl)
+
+-- Lists that go with their units: unit 1 takes list 2 and puts a block on it, and the power fails one store before its commit. After the mount unit 2 takes
+-- list 2, stream 0 list 3, and unit 2 ends.
+pub taking : List Event
+taking =
+    wholly (onStream 0 newList)
+    ∷ wholly (begin 1 1)
+    ∷ wholly (onStream 1 newList)
+    ∷ wholly (onStream 1 (newBlock 2 0))
+    ∷ wholly (end 1)
+    ∷ cutFlush 100 12 other
+    ∷ wholly mount
+    ∷ wholly (begin 2 1)
+    ∷ wholly (onStream 2 newList)
+    ∷ wholly (onStream 0 newList)
+    ∷ wholly (end 2)
+    ∷ wholly (flush 100)
+    ∷ wholly mount
+    ∷ []
+
+pub took : Scene
+took = play (begun blank) taking
+
+-- of unit 1 nothing is left; unit 2's list counts from its End
+pub took-lists :
+    (valid (begun blank) taking ≡ true)
+    × (onCard (took .book) ≡ (takeList 1 ∷ []) ∷ (takeList 3 ∷ []) ∷ (takeList 2 ∷ []) ∷ [])
+    × (view (took .world .disk) 0 ≡ state (row 1 [] ∷ row 3 [] ∷ row 2 [] ∷ []))
+unfolding playing taking took
+took-lists = (refl, refl, refl)

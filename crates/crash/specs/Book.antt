@@ -13,7 +13,7 @@ use Rattle.log.specs.Store.{opened, afterAll, home}
 use Rattle.log.specs.declared.place.Place.{Place}
 use Rattle.disk.specs.Record.{unitCount}
 use Rattle.disk.specs.Call.{Call, format, mount, conflictCount, onStream, inView, begin, end, flush, ends}
-use Rattle.disk.specs.Perform.{Answer, streamFor, changeFor}
+use Rattle.disk.specs.Perform.{Answer, changeFor}
 use Rattle.crash.specs.Event.{Event, called, cutBetween, cutFlush, cutFormat}
 
 -- an entry of the serial history: a simple change alone, or a unit's changes as one
@@ -52,8 +52,8 @@ joinHistory cs ws e b = record {
   segs = b .segs;
 }
 
--- "An accepted simple change or NewList joins the serial history, and its log entry the waiting line." "Other accepted changes in a unit join that unit's
--- batch"
+-- "An accepted simple change [..] joins the serial history, and its log entry the waiting line." "Other accepted changes in a unit join that unit's
+-- batch", and "the book puts such a NewList into its unit's batch".
 unfoldable pub join : ℕ → Change Written → Book → Book
 join s c b = elim s [ zero ↦ joinHistory (c ∷ []) [] (plain c) b | suc u ↦ withBatch b (suc u) (batchOf b (suc u) ++ c ∷ []) ]
 
@@ -145,7 +145,7 @@ unfoldable pub bookAccepted : Call → ℕ → Book → Book
 bookAccepted format n b = settle (bookFormat (length (b .segs)) b)
 bookAccepted mount n b = settle b
 bookAccepted (conflictCount w) n b = b
-bookAccepted (onStream s e) n b = let c = changeFor e n in join (streamFor s c) c b
+bookAccepted (onStream s e) n b = join s (changeFor e n) b
 bookAccepted (inView v k) n b = b
 bookAccepted (begin u w) n b = b
 bookAccepted (end u) n b = joinUnit u b

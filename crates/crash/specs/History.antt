@@ -2,14 +2,14 @@
 use mathlib.Core.Path.{_≡_}
 use mathlib.Core.Bool.{Bool, true, false, cond}
 use mathlib.Core.Option.{Option, none, some}
-use mathlib.Core.List.{List, [], _∷_}
+use mathlib.Core.List.{List, [], _∷_, _++_}
 use Prim.Native.Nat.{ℕ}
 use lib.Dec.{eqb}
 use Rattle.lists.specs.Basic.{joined}
 use Rattle.lists.specs.Change.{Change, takeList, putFirst, putAfter, write, delBlock, delList}
 use Rattle.lists.specs.State.{placed}
 use Rattle.lists.specs.Lookup.{written, listNums}
-use Rattle.lists.specs.Takings.{undeleted, inForce}
+use Rattle.lists.specs.Takings.{inForce}
 use Rattle.log.specs.Card.{Written}
 use Rattle.disk.specs.Disk.{persistent, view}
 use Rattle.disk.specs.Call.{inventory, mount, inView}
@@ -37,11 +37,10 @@ WrittenByHistory = Always (λ s.
     (b : ℕ) → placed b rs ≡ true → lastTold b none (joined (onCard (s .book))) ≡ some (written b rs))
 
 -- "a view's lists by when the taking each has in that view stands in the serial history, earliest first": in view 5 the history is its prefix whose closing
--- stores are on the card, in view 0 all of it, and a unit's view has those of view 0 that its batch does not delete.
+-- stores are on the card, in view 0 all of it; in a unit's view the unit's batch stands behind it, so its lists come "after the committed lists, in journal
+-- order".
 unfoldable pub listsIn : Book → ℕ → List ℕ
-listsIn b v =
-    let ls = inForce (joined (b .history)) in
-    cond (eqb v 5) (inForce (joined (onCard b))) (cond (eqb v 0) ls (undeleted (batchOf b v) ls))
+listsIn b v = inForce (cond (eqb v 5) (joined (onCard b)) (joined (b .history) ++ cond (eqb v 0) [] (batchOf b v)))
 
 -- An accepted inventory, of whatever view, gives these lists in this order: the book knows them without the record.
 abbrev pub InventoryInOrder : Type 0

@@ -89,25 +89,25 @@ module _ (bs cs : List ℕ) where
       from-ext (unitIn cs) (unitIn bs) 4
       (λ i l. unit-agree bs cs i l (h (368 + i) (omega arith) (omega arith)) (h (372 + i) (omega arith) (omega arith)) (λ j p q. h j (omega arith) (omega arith)))
 
-  same-holder : Agree bs cs 376 440 → bytesIn cs 376 64 ≡ bytesIn bs 376 64
-  same-holder h = bytes-agree bs cs 376 64 h
+  same-holder : Agree bs cs 376 456 → bytesIn cs 376 80 ≡ bytesIn bs 376 80
+  same-holder h = bytes-agree bs cs 376 80 h
 
-  same-ring : Agree bs cs 0 128 → Agree bs cs 440 444 → recordIn cs .ring ≡ recordIn bs .ring
+  same-ring : Agree bs cs 0 128 → Agree bs cs 456 460 → recordIn cs .ring ≡ recordIn bs .ring
   unfolding recordIn
   same-ring h k i = record {
     queue = cells-agree bs cs 0 32 h i;
-    head = k 440 (omega arith) (omega arith) i;
-    len = k 441 (omega arith) (omega arith) i;
-    done = same-pair 442 (λ j p q. k j (omega arith) q) i;
+    head = k 456 (omega arith) (omega arith) i;
+    len = k 457 (omega arith) (omega arith) i;
+    done = same-pair 458 (λ j p q. k j (omega arith) q) i;
   }
 
-  same-held : Agree bs cs 128 440 → recordIn cs .held ≡ recordIn bs .held
+  same-held : Agree bs cs 128 456 → recordIn cs .held ≡ recordIn bs .held
   unfolding recordIn
   same-held h i = record { units = same-units (λ j p q. h j p (omega arith)) i; holder = same-holder (λ j p q. h j (omega arith) q) i }
 
-  same-tally : Agree bs cs 444 478 → recordIn cs .tally ≡ recordIn bs .tally
+  same-tally : Agree bs cs 460 494 → recordIn cs .tally ≡ recordIn bs .tally
   unfolding recordIn
-  same-tally h i = record { lastBlock = h 444 (omega arith) (omega arith) i; lastList = h 445 (omega arith) (omega arith) i; conflicts = same-pairs 446 16 (λ j p q. h j (omega arith) q) i }
+  same-tally h i = record { lastBlock = h 460 (omega arith) (omega arith) i; lastList = h 461 (omega arith) (omega arith) i; conflicts = same-pairs 462 16 (λ j p q. h j (omega arith) q) i }
 
   -- a unit more or less than it was
   units-set : (x : Unit) (i : ℕ) → i < 4 → unitIn cs i ≡ x → ((j : ℕ) → j < 4 → j ≢ i → unitIn cs j ≡ unitIn bs j) → from (unitIn cs) 0 4 ≡ set (from (unitIn bs) 0 4) i x
@@ -181,34 +181,34 @@ cells-at : (bs : List ℕ) (a n p i : ℕ) (c : Cell) → i ≡ a + 4 * p → p 
 cells-at bs a n p i c e l m = ap (λ (j : ℕ). cellsIn (cellSet bs j c) a n) e ∙ cells-set bs a n p c l m
 
 -- The parts changed, one by one: bytes cs, which agree with bs elsewhere.
-module _ (bs : List ℕ) (l : length bs ≡ 478) where
+module _ (bs : List ℕ) (l : length bs ≡ 494) where
   -- a byte elsewhere
   away : (i v j : ℕ) → j ≢ i → getD (set bs i v) j 0 ≡ getD bs j 0
   away i v j n = getD-set-other bs i j v 0 n
 
-  pub block-in : (v : ℕ) → recordIn (set bs 444 v) ≡ withLastBlock (recordIn bs) v
+  pub block-in : (v : ℕ) → recordIn (set bs 460 v) ≡ withLastBlock (recordIn bs) v
   unfolding recordIn
   block-in v =
-      let cs = set bs 444 v in
-      let other = away 444 v in
+      let cs = set bs 460 v in
+      let other = away 460 v in
       parts cs (same-ring bs cs (λ j p q. other j (λ z. omega arith)) (λ j p q. other j (λ z. omega arith))) (same-held bs cs (λ j p q. other j (λ z. omega arith)))
-      (λ i. record { lastBlock = getD-set-same bs 444 v 0 (omega arith) i; lastList = other 445 (λ z. omega arith) i; conflicts = same-pairs bs cs 446 16 (λ j p q. other j (λ z. omega arith)) i })
+      (λ i. record { lastBlock = getD-set-same bs 460 v 0 (omega arith) i; lastList = other 461 (λ z. omega arith) i; conflicts = same-pairs bs cs 462 16 (λ j p q. other j (λ z. omega arith)) i })
 
-  pub list-in : (v : ℕ) → recordIn (set bs 445 v) ≡ withLastList (recordIn bs) v
+  pub list-in : (v : ℕ) → recordIn (set bs 461 v) ≡ withLastList (recordIn bs) v
   unfolding recordIn
   list-in v =
-      let cs = set bs 445 v in
-      let other = away 445 v in
+      let cs = set bs 461 v in
+      let other = away 461 v in
       parts cs (same-ring bs cs (λ j p q. other j (λ z. omega arith)) (λ j p q. other j (λ z. omega arith))) (same-held bs cs (λ j p q. other j (λ z. omega arith)))
-      (λ i. record { lastBlock = other 444 (λ z. omega arith) i; lastList = getD-set-same bs 445 v 0 (omega arith) i; conflicts = same-pairs bs cs 446 16 (λ j p q. other j (λ z. omega arith)) i })
+      (λ i. record { lastBlock = other 460 (λ z. omega arith) i; lastList = getD-set-same bs 461 v 0 (omega arith) i; conflicts = same-pairs bs cs 462 16 (λ j p q. other j (λ z. omega arith)) i })
 
-  pub holder-in : (x v : ℕ) → x < 64 → recordIn (set bs (376 + x) v) ≡ withHeld (recordIn bs) (recordIn bs .held .units) (set (recordIn bs .held .holder) x v)
+  pub holder-in : (x v : ℕ) → x < 80 → recordIn (set bs (376 + x) v) ≡ withHeld (recordIn bs) (recordIn bs .held .units) (set (recordIn bs .held .holder) x v)
   unfolding recordIn
   holder-in x v h =
       let cs = set bs (376 + x) v in
       let other = away (376 + x) v in
       parts cs (same-ring bs cs (λ j p q. other j (λ z. omega arith)) (λ j p q. other j (λ z. omega arith)))
-      (λ i. record { units = same-units bs cs (λ j p q. other j (λ z. omega arith)) i; holder = bytes-set bs 376 64 x v h (omega arith) i })
+      (λ i. record { units = same-units bs cs (λ j p q. other j (λ z. omega arith)) i; holder = bytes-set bs 376 80 x v h (omega arith) i })
       (same-tally bs cs (λ j p q. other j (λ z. omega arith)))
 
   -- two bytes
@@ -216,10 +216,10 @@ module _ (bs : List ℕ) (l : length bs ≡ 478) where
   twice i v k w j n m = getD-set-other (set bs i v) k j w 0 m ∙ away i v j n
 
   pub count-in : (x a b : ℕ) → x < 16
-      → recordIn (set (set bs (446 + 2 * x) a) (446 + 2 * x + 1) b) ≡ withTally (recordIn bs) (recordIn bs .tally .lastBlock) (recordIn bs .tally .lastList) (set (recordIn bs .tally .conflicts) x (a + 256 * b))
+      → recordIn (set (set bs (462 + 2 * x) a) (462 + 2 * x + 1) b) ≡ withTally (recordIn bs) (recordIn bs .tally .lastBlock) (recordIn bs .tally .lastList) (set (recordIn bs .tally .conflicts) x (a + 256 * b))
   unfolding recordIn pairsIn
   count-in x a b h =
-      let y = 446 + 2 * x in
+      let y = 462 + 2 * x in
       let cs = set (set bs y a) (y + 1) b in
       let other = twice y a (y + 1) b in
       let low : getD cs y 0 ≡ a = getD-set-other (set bs y a) (y + 1) y b 0 (λ z. omega arith) ∙ getD-set-same bs y a 0 (omega arith) in
@@ -227,11 +227,11 @@ module _ (bs : List ℕ) (l : length bs ≡ 478) where
       parts cs (same-ring bs cs (λ j p q. other j (λ z. omega arith) (λ z. omega arith)) (λ j p q. other j (λ z. omega arith) (λ z. omega arith)))
       (same-held bs cs (λ j p q. other j (λ z. omega arith) (λ z. omega arith)))
       (λ i. record {
-        lastBlock = other 444 (λ z. omega arith) (λ z. omega arith) i;
-        lastList = other 445 (λ z. omega arith) (λ z. omega arith) i;
+        lastBlock = other 460 (λ z. omega arith) (λ z. omega arith) i;
+        lastList = other 461 (λ z. omega arith) (λ z. omega arith) i;
         conflicts =
-            from-set 0 (λ k. pairIn bs (446 + 2 * k)) (λ k. pairIn cs (446 + 2 * k)) 16 x (a + 256 * b) h (λ j. low j + 256 * high j)
-            (λ k l n. same-pair bs cs (446 + 2 * k) (λ j p q. other j (λ z. n (omega arith)) (λ z. n (omega arith)))) i;
+            from-set 0 (λ k. pairIn bs (462 + 2 * k)) (λ k. pairIn cs (462 + 2 * k)) 16 x (a + 256 * b) h (λ j. low j + 256 * high j)
+            (λ k l n. same-pair bs cs (462 + 2 * k) (λ j p q. other j (λ z. n (omega arith)) (λ z. n (omega arith)))) i;
       })
 
   pub turn-in : (i o : ℕ) → i < 4 → recordIn (set (set bs (368 + i) o) (372 + i) 0) ≡ withHeld (recordIn bs) (set (recordIn bs .held .units) i (emptied o (unitIn bs i))) (recordIn bs .held .holder)
@@ -259,19 +259,19 @@ module _ (bs : List ℕ) (l : length bs ≡ 478) where
   celled a k w j c h m (inr n) o =
       getD-set-other (cellSet bs a c) k j w 0 o ∙ stored-other bs a c (omega arith) j (λ z. omega arith) (λ z. omega arith) (λ z. omega arith) (λ z. omega arith)
 
-  pub append-in : (p v : ℕ) (c : Cell) → p < 32 → recordIn (set (cellSet bs (4 * p) c) 441 v) ≡ withRing (recordIn bs) (set (recordIn bs .ring .queue) p c) (recordIn bs .ring .head) v (recordIn bs .ring .done)
+  pub append-in : (p v : ℕ) (c : Cell) → p < 32 → recordIn (set (cellSet bs (4 * p) c) 457 v) ≡ withRing (recordIn bs) (set (recordIn bs .ring .queue) p c) (recordIn bs .ring .head) v (recordIn bs .ring .done)
   unfolding recordIn
   append-in p v c h =
       let ds = cellSet bs (4 * p) c in
-      let cs = set ds 441 v in
-      let m : length ds ≡ 478 = cellSet-length bs (4 * p) c (omega arith) ∙ l in
-      let other : (j : ℕ) → 128 ≤ j → j ≢ 441 → getD cs j 0 ≡ getD bs j 0 = λ j a n. celled (4 * p) 441 v j c (omega arith) (omega arith) (inr (omega arith)) n in
+      let cs = set ds 457 v in
+      let m : length ds ≡ 494 = cellSet-length bs (4 * p) c (omega arith) ∙ l in
+      let other : (j : ℕ) → 128 ≤ j → j ≢ 457 → getD cs j 0 ≡ getD bs j 0 = λ j a n. celled (4 * p) 457 v j c (omega arith) (omega arith) (inr (omega arith)) n in
       parts cs
       (λ i. record {
-        queue = (cells-agree ds cs 0 32 (λ j x y. getD-set-other ds 441 j v 0 (λ z. omega arith)) ∙ cells-at bs 0 32 p (4 * p) c (sym (zero-add (4 * p))) h (omega arith)) i;
-        head = other 440 (omega arith) (λ z. omega arith) i;
-        len = getD-set-same ds 441 v 0 (omega arith) i;
-        done = same-pair bs cs 442 (λ j x y. other j (omega arith) (λ z. omega arith)) i;
+        queue = (cells-agree ds cs 0 32 (λ j x y. getD-set-other ds 457 j v 0 (λ z. omega arith)) ∙ cells-at bs 0 32 p (4 * p) c (sym (zero-add (4 * p))) h (omega arith)) i;
+        head = other 456 (omega arith) (λ z. omega arith) i;
+        len = getD-set-same ds 457 v 0 (omega arith) i;
+        done = same-pair bs cs 458 (λ j x y. other j (omega arith) (λ z. omega arith)) i;
       })
       (same-held bs cs (λ j x y. other j (omega arith) (λ z. omega arith))) (same-tally bs cs (λ j x y. other j (omega arith) (λ z. omega arith)))
 
@@ -283,7 +283,7 @@ module _ (bs : List ℕ) (l : length bs ≡ 478) where
       let a = 128 + 4 * (15 * i + n) in
       let ds = cellSet bs a c in
       let cs = set ds (372 + i) v in
-      let m : length ds ≡ 478 = cellSet-length bs a c (omega arith) ∙ l in
+      let m : length ds ≡ 494 = cellSet-length bs a c (omega arith) ∙ l in
       let other : (j : ℕ) → j < a ⊎ a + 4 ≤ j → j ≢ 372 + i → getD cs j 0 ≡ getD bs j 0 = λ j s o. celled a (372 + i) v j c (omega arith) (omega arith) s o in
       let cells : cellsIn cs (128 + 60 * i) 15 ≡ set (cellsIn bs (128 + 60 * i) 15) n c =
       cells-agree ds cs (128 + 60 * i) 15 (λ j x y. getD-set-other ds (372 + i) j v 0 (λ z. omega arith)) ∙ cells-at bs (128 + 60 * i) 15 n a c (omega arith) g (omega arith) in
@@ -304,40 +304,40 @@ module _ (bs : List ℕ) (l : length bs ≡ 478) where
       side x j e p q (no o) = inl (omega arith)
 
   -- four numbers of the queue
-  flowed : (h n a b j : ℕ) → j < 440 ⊎ 444 ≤ j → getD (set (set (set (set bs 440 h) 441 n) 442 a) 443 b) j 0 ≡ getD bs j 0
+  flowed : (h n a b j : ℕ) → j < 456 ⊎ 460 ≤ j → getD (set (set (set (set bs 456 h) 457 n) 458 a) 459 b) j 0 ≡ getD bs j 0
   flowed h n a b j (inl m) =
-      getD-set-other (set (set (set bs 440 h) 441 n) 442 a) 443 j b 0 (λ z. omega arith) ∙ getD-set-other (set (set bs 440 h) 441 n) 442 j a 0 (λ z. omega arith) ∙ twice 440 h 441 n j (λ z. omega arith) (λ z. omega arith)
+      getD-set-other (set (set (set bs 456 h) 457 n) 458 a) 459 j b 0 (λ z. omega arith) ∙ getD-set-other (set (set bs 456 h) 457 n) 458 j a 0 (λ z. omega arith) ∙ twice 456 h 457 n j (λ z. omega arith) (λ z. omega arith)
   flowed h n a b j (inr m) =
-      getD-set-other (set (set (set bs 440 h) 441 n) 442 a) 443 j b 0 (λ z. omega arith) ∙ getD-set-other (set (set bs 440 h) 441 n) 442 j a 0 (λ z. omega arith) ∙ twice 440 h 441 n j (λ z. omega arith) (λ z. omega arith)
+      getD-set-other (set (set (set bs 456 h) 457 n) 458 a) 459 j b 0 (λ z. omega arith) ∙ getD-set-other (set (set bs 456 h) 457 n) 458 j a 0 (λ z. omega arith) ∙ twice 456 h 457 n j (λ z. omega arith) (λ z. omega arith)
 
-  pub flow-in : (h n a b : ℕ) → recordIn (set (set (set (set bs 440 h) 441 n) 442 a) 443 b) ≡ withFlow (recordIn bs) h n (a + 256 * b)
+  pub flow-in : (h n a b : ℕ) → recordIn (set (set (set (set bs 456 h) 457 n) 458 a) 459 b) ≡ withFlow (recordIn bs) h n (a + 256 * b)
   unfolding recordIn
   flow-in h n a b =
-      let x = set bs 440 h in
-      let y = set x 441 n in
-      let w = set y 442 a in
-      let cs = set w 443 b in
+      let x = set bs 456 h in
+      let y = set x 457 n in
+      let w = set y 458 a in
+      let cs = set w 459 b in
       let other = flowed h n a b in
-      let lx : length x ≡ 478 = length-set bs 440 h ∙ l in
-      let ly : length y ≡ 478 = length-set x 441 n ∙ lx in
-      let lw : length w ≡ 478 = length-set y 442 a ∙ ly in
-      let head : getD cs 440 0 ≡ h = getD-set-other w 443 440 b 0 (λ z. omega arith) ∙ getD-set-other y 442 440 a 0 (λ z. omega arith) ∙ getD-set-other x 441 440 n 0 (λ z. omega arith) ∙ getD-set-same bs 440 h 0 (omega arith) in
-      let len : getD cs 441 0 ≡ n = getD-set-other w 443 441 b 0 (λ z. omega arith) ∙ getD-set-other y 442 441 a 0 (λ z. omega arith) ∙ getD-set-same x 441 n 0 (omega arith) in
-      let low : getD cs 442 0 ≡ a = getD-set-other w 443 442 b 0 (λ z. omega arith) ∙ getD-set-same y 442 a 0 (omega arith) in
-      let high : getD cs 443 0 ≡ b = getD-set-same w 443 b 0 (omega arith) in
+      let lx : length x ≡ 494 = length-set bs 456 h ∙ l in
+      let ly : length y ≡ 494 = length-set x 457 n ∙ lx in
+      let lw : length w ≡ 494 = length-set y 458 a ∙ ly in
+      let head : getD cs 456 0 ≡ h = getD-set-other w 459 456 b 0 (λ z. omega arith) ∙ getD-set-other y 458 456 a 0 (λ z. omega arith) ∙ getD-set-other x 457 456 n 0 (λ z. omega arith) ∙ getD-set-same bs 456 h 0 (omega arith) in
+      let len : getD cs 457 0 ≡ n = getD-set-other w 459 457 b 0 (λ z. omega arith) ∙ getD-set-other y 458 457 a 0 (λ z. omega arith) ∙ getD-set-same x 457 n 0 (omega arith) in
+      let low : getD cs 458 0 ≡ a = getD-set-other w 459 458 b 0 (λ z. omega arith) ∙ getD-set-same y 458 a 0 (omega arith) in
+      let high : getD cs 459 0 ≡ b = getD-set-same w 459 b 0 (omega arith) in
       parts cs (λ i. record { queue = cells-agree bs cs 0 32 (λ j p q. other j (inl (omega arith))) i; head = head i; len = len i; done = low i + 256 * high i })
       (same-held bs cs (λ j p q. other j (inl (omega arith)))) (same-tally bs cs (λ j p q. other j (inr (omega arith))))
 
--- What unit u holds, given up block by block: bytes cs when those before block i + 1 are done.
+-- What unit u holds, given up block by block: bytes cs when those before number i + 1 are done.
 pub record Freed (u : ℕ) (bs cs : List ℕ) (i : ℕ) : Type 0 where
-  pub size : length cs ≡ 478
+  pub size : length cs ≡ 494
   pub done : (k : ℕ) → k < i → getD cs (376 + k) 0 ≡ cond (eqb (getD bs (376 + k) 0) u) 0 (getD bs (376 + k) 0)
   pub others : (j : ℕ) → j < 376 ⊎ 376 + i ≤ j → getD cs j 0 ≡ getD bs j 0
 
-pub freed-none : (u : ℕ) (bs : List ℕ) → length bs ≡ 478 → Freed u bs bs 0
+pub freed-none : (u : ℕ) (bs : List ℕ) → length bs ≡ 494 → Freed u bs bs 0
 freed-none u bs l = record { size = l; done = λ k h. absurd (omega arith); others = λ j h. refl }
 
-pub freed-more : (u : ℕ) (bs cs : List ℕ) (i v : ℕ) → i < 64 → Freed u bs cs i → v ≡ cond (eqb (getD cs (376 + i) 0) u) 0 (getD cs (376 + i) 0)
+pub freed-more : (u : ℕ) (bs cs : List ℕ) (i v : ℕ) → i < 80 → Freed u bs cs i → v ≡ cond (eqb (getD cs (376 + i) 0) u) 0 (getD cs (376 + i) 0)
     → Freed u bs (set cs (376 + i) v) (i + 1)
 freed-more u bs cs i v l f e =
     record {
@@ -361,16 +361,16 @@ unfolding from
 map-from f g k zero = refl
 map-from f g k (suc n) = ap {B = List ℕ} (λ r. f (g k) ∷ r) (map-from f g (suc k) n)
 
-holders-freed : (u : ℕ) (bs cs : List ℕ) (i : ℕ) → 64 ≤ i → Freed u bs cs i → bytesIn cs 376 64 ≡ released u (bytesIn bs 376 64)
+holders-freed : (u : ℕ) (bs cs : List ℕ) (i : ℕ) → 80 ≤ i → Freed u bs cs i → bytesIn cs 376 80 ≡ released u (bytesIn bs 376 80)
 unfolding bytesIn released
 holders-freed u bs cs i h f =
-    from-ext (λ k. getD cs (376 + k) 0) (λ k. cond (eqb (getD bs (376 + k) 0) u) 0 (getD bs (376 + k) 0)) 64 (λ k l. f .done k (omega arith))
-    ∙ sym (map-from (λ x. cond (eqb x u) 0 x) (λ k. getD bs (376 + k) 0) 0 64)
+    from-ext (λ k. getD cs (376 + k) 0) (λ k. cond (eqb (getD bs (376 + k) 0) u) 0 (getD bs (376 + k) 0)) 80 (λ k l. f .done k (omega arith))
+    ∙ sym (map-from (λ x. cond (eqb x u) 0 x) (λ k. getD bs (376 + k) 0) 0 80)
 
-pub freed-all : (u : ℕ) (bs cs : List ℕ) (i : ℕ) → i ≤ 64 → 64 ≤ i → Freed u bs cs i → recordIn cs ≡ releasing u (recordIn bs)
+pub freed-all : (u : ℕ) (bs cs : List ℕ) (i : ℕ) → i ≤ 80 → 80 ≤ i → Freed u bs cs i → recordIn cs ≡ releasing u (recordIn bs)
 unfolding recordIn
 freed-all u bs cs i n h f =
-    let high : (j : ℕ) → 440 ≤ j → getD cs j 0 ≡ getD bs j 0 = λ j m. f .others j (inr (omega arith)) in
+    let high : (j : ℕ) → 456 ≤ j → getD cs j 0 ≡ getD bs j 0 = λ j m. f .others j (inr (omega arith)) in
     parts cs (same-ring bs cs (λ j p q. f .others j (inl (omega arith))) (λ j p q. high j p))
     (λ x. record { units = same-units bs cs (λ j p q. f .others j (inl (omega arith))) x; holder = holders-freed u bs cs i h f x })
     (same-tally bs cs (λ j p q. high j (omega arith)))

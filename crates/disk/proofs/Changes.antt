@@ -1,21 +1,23 @@
--- The changes that accepted calls make: each may be placed on the card, one that is queued applies to the committed state, and what it puts is free
--- (`edit-makes`). The entries of a unit's end may be placed too, and act as one.
+-- The changes that accepted calls make: each may be placed on the card, one that is queued applies to the committed state, and what it puts or
+-- takes is free (`edit-makes`). The entries of a unit's end may be placed too, and act as one.
 use mathlib.Core.Path.{_≡_, refl, sym, ap, _∙_, subst}
-use mathlib.Core.Bool.{Bool, true, false, _&&_, cond, false≢true}
+use mathlib.Core.Bool.{true, false, _&&_, or-false, false≢true}
 use mathlib.Core.Option.{some}
 use mathlib.Core.List.{List, [], _∷_, _++_, map, append-assoc, append-nil}
-use Prim.Native.Nat.{ℕ, zero, suc, _-_, _≤_}
+use Prim.Native.Nat.{ℕ, zero, suc, _+_, _-_, _≤_}
 use native.Mathlib.Omega.{arith}
 use lib.Dec.{leb, eqb, eqb·suc-zero}
 use lib.ListN.{length, length-append}
 use lib.Seq.{drop-at}
+use borrow.Author.Tests.{lt-leb}
 use Rattle.lists.specs.Basic.{all}
 use Rattle.lists.specs.Change.{Change, takeList, write, delBlock, delList, mapChange, carriedBy}
 use Rattle.lists.specs.State.{Row, State, state, taken, placed, applies, changed, apply, applyAll}
+use Rattle.lists.specs.InUse.{listNumber, inUse}
 use Rattle.lists.proofs.Basic.{and-true, not-true, eqb-true, leb-true, le-true, guard-true, all-append}
-use Rattle.lists.proofs.Count.{puts}
+use Rattle.lists.proofs.InUse.{brought}
 use Rattle.log.specs.Raced.{raced}
-use Rattle.log.specs.Entry.{Entry, plain, member, commit, mapEntry, carried, raw, legal, legalChange, hasMember, isBlock, isList, isRace}
+use Rattle.log.specs.Entry.{Entry, plain, member, commit, mapEntry, carried, raw, legal, legalChange, isBlock, isList, isRace}
 use Rattle.log.specs.Reader.{Reader, reader, settled, lastOf, read, replay}
 use Rattle.log.specs.Card.{Content, Written}
 use Rattle.log.proofs.Places.{Good}
@@ -24,8 +26,8 @@ use Rattle.disk.specs.Record.{Record, holderOf}
 use Rattle.disk.specs.Disk.{Disk, committed, view}
 use Rattle.disk.specs.Sound.{journalSound}
 use Rattle.disk.specs.Call.{Edit, newList, newBlock, writeBlock, deleteBlock, deleteList, onStream}
-use Rattle.disk.specs.Questions.{streamOpen, predecessorRight, journalRoom, streamRoom, editQuestions, questions, refusal}
-use Rattle.disk.specs.Perform.{streamFor, putAt, numberGiven, changeFor, unitEntries}
+use Rattle.disk.specs.Questions.{predecessorRight, journalRoom, streamRoom, editQuestions, questions, refusal}
+use Rattle.disk.specs.Perform.{putAt, numberGiven, changeFor, unitEntries}
 use Rattle.disk.proofs.Queue.{AllSized}
 use Rattle.disk.proofs.Questions.{yes-all, in-range, list-number, block-number}
 
@@ -71,57 +73,56 @@ unfolding view
 at-zero P s d e h = subst (λ (n : ℕ). P (view d n)) e h
 
 -- What an accepted edit makes.
-put-member : (b l p : ℕ) → hasMember (putAt b l p) ≡ true
-unfolding hasMember putAt
-put-member b l zero = refl
-put-member b l (suc p) = refl
-
-put-stream : (s b l p : ℕ) → streamFor s (putAt b l p) ≡ s
-unfolding streamFor
-put-stream s b l p = rw (put-member b l p)
-
-put-puts : (b l p n : ℕ) → puts (putAt b l p) n ≡ true → b ≡ n
+put-brings : (b l p n : ℕ) → brought (putAt b l p) n ≡ true → b ≡ n
 unfolding putAt
-put-puts b l zero n h = eqb-true b n h
-put-puts b l (suc p) n h = eqb-true b n h
+put-brings b l zero n h = eqb-true b n (rw or-false at h)
+put-brings b l (suc p) n h = eqb-true b n (rw or-false at h)
 
-pub stream-open : (s : ℕ) (c : Change Written) (d : Disk) → streamOpen d s ≡ true → streamOpen d (streamFor s c) ≡ true
-unfolding streamFor streamOpen
-stream-open s c d h = go (hasMember c)
-  where
-    go : (b : Bool) → streamOpen d (cond b s 0) ≡ true
-    go true = h
-    go false = refl
+-- a free block and a free list are not in use
+block-unused : (b : ℕ) (rs : List (Row Written)) → isBlock b ≡ true → placed b rs ≡ false → inUse b rs ≡ false
+unfolding inUse
+block-unused b rs i h = rw (and-true (leb 1 b) (leb b 64) i .1) h
+
+list-unused : (l : ℕ) (rs : List (Row Written)) → isList l ≡ true → taken l rs ≡ false → inUse (listNumber l) rs ≡ false
+unfolding inUse
+list-unused l rs i h =
+    let n : 64 + l - 64 ≡ l = omega arith in
+    rw (lt-leb (64 + l) 64 (omega (arith, leb-true 1 l (and-true (leb 1 l) (leb l 16) i .0))), n) h
 
 -- a change made on stream s of disk d: it goes to a queue or a journal that has room
 pub record Makes (s : ℕ) (c : Change Written) (d : Disk) : Type 0 where
-  pub journal : journalRoom d (streamFor s c) ≡ true
-  pub queue : streamRoom d (streamFor s c) ≡ true
+  pub journal : journalRoom d s ≡ true
+  pub queue : streamRoom d s ≡ true
   pub good : Good (plain c)
-  pub applying : streamFor s c ≡ 0 → applies c (committed d .lists) ≡ true
-  pub free : (b : ℕ) → puts c b ≡ true → (holderOf (d .rec) b ≡ 0) × (placed b (committed d .lists) ≡ false)
+  pub applying : s ≡ 0 → applies c (committed d .lists) ≡ true
+  pub free : (n : ℕ) → brought c n ≡ true → (holderOf (d .rec) n ≡ 0) × (inUse n (committed d .lists) ≡ false)
 
 pub edit-makes : (s : ℕ) (e : Edit) (d : Disk) → refusal (onStream s e) d ≡ 0 → Makes s (changeFor e (numberGiven e d)) d
-unfolding questions editQuestions numberGiven changeFor streamFor hasMember journalRoom streamRoom applies
+unfolding questions editQuestions numberGiven changeFor applies
 edit-makes s newList d h =
     let y = yes-all (onStream s newList) d h in
     let l = numberGiven newList d in
-    let (n, i) = list-number d (y 3) in
-    record { journal = refl; queue = y 4; good = take-good l i; applying = λ z. take-applies l (committed d .lists) n; free = λ b e. absurd (false≢true e) }
+    let (n, z, i) = list-number d (y 3) in
+    record {
+      journal = y 4;
+      queue = y 5;
+      good = take-good l i;
+      applying = λ e. take-applies l (committed d .lists) n;
+      free = λ x e. rw (← (eqb-true (listNumber l) x (rw or-false at e))) (z, list-unused l (committed d .lists) i n);
+    }
 edit-makes s (newBlock l p) d h =
     let y = yes-all (onStream s (newBlock l p)) d h in
     let b = numberGiven (newBlock l p) d in
     let (n, z, i) = block-number d (y 6) in
     let (a, c) = and-true (isList l) (leb p 64) (y 3) in
-    let w = put-stream s b l p in
     record {
-      journal = ap (journalRoom d) w ∙ y 7;
-      queue = ap (streamRoom d) w ∙ y 8;
+      journal = y 7;
+      queue = y 8;
       good = put-good b l p i a (leb-true p 64 c);
       applying =
           λ e. put-applies b l p (committed d .lists)
-          (at-zero (λ x. taken l (x .lists) ≡ true) s d (sym w ∙ e) (y 4)) n (at-zero (λ x. predecessorRight (x .lists) l p ≡ true) s d (sym w ∙ e) (y 5));
-      free = λ x e. rw (← (put-puts b l p x e)) (z, n);
+          (at-zero (λ x. taken l (x .lists) ≡ true) s d e (y 4)) n (at-zero (λ x. predecessorRight (x .lists) l p ≡ true) s d e (y 5));
+      free = λ x e. rw (← (put-brings b l p x e)) (z, block-unused b (committed d .lists) i n);
     }
 edit-makes s (writeBlock b n x) d h =
     let y = yes-all (onStream s (writeBlock b n x)) d h in

@@ -8,7 +8,8 @@ use native.Mathlib.Omega.{arith}
 use lib.Dec.{eqb}
 use lib.ListN.{length}
 use Rattle.lists.specs.Basic.{all, each, from}
-use Rattle.lists.specs.State.{State, placed}
+use Rattle.lists.specs.State.{State}
+use Rattle.lists.specs.InUse.{inUse}
 use Rattle.lists.proofs.Basic.{and-true, or-cases, not-false, eqb-true, leb-true, ltb-true, le-true, lt-true, eq-true, some-of, is-some, each-at, all-from, from-all}
 use Rattle.log.specs.Entry.{legal, raw, isBlock, isList}
 use Rattle.log.specs.Reader.{Reader}
@@ -37,16 +38,16 @@ pub record UnitRight (d : Disk) (u : ℕ) : Type 0 where
   pub closed : isOpen (unitOf d u) ≡ false → unitOf d u .len ≡ 0
   pub sound : all (journalSound (d .rec) u) (journalOf d u) ≡ true
 
--- block b is held by no unit, or by an open one and stands on no list of s
+-- number b is held by no unit, or by an open one and is not in use in s
 abbrev pub HolderRight : Disk → State Written → ℕ → Type 0
-HolderRight d s b = (holderOf (d .rec) b ≡ 0) ⊎ ((isOpenUnit d (holderOf (d .rec) b) ≡ true) × (placed b (s .lists) ≡ false))
+HolderRight d s b = (holderOf (d .rec) b ≡ 0) ⊎ ((isOpenUnit d (holderOf (d .rec) b) ≡ true) × (inUse b (s .lists) ≡ false))
 
 -- the units, over the committed state s
 pub record UnitsRight (d : Disk) (s : State Written) : Type 0 where
   pub four : length (d .rec .held .units) ≡ 4
-  pub table : length (d .rec .held .holder) ≡ 64
+  pub table : length (d .rec .held .holder) ≡ 80
   pub units : (u : ℕ) → 1 ≤ u → u ≤ 4 → UnitRight d u
-  pub holders : (b : ℕ) → 1 ≤ b → b ≤ 64 → HolderRight d s b
+  pub holders : (b : ℕ) → 1 ≤ b → b ≤ 80 → HolderRight d s b
 
 pub record Right (d : Disk) : Type 0 where
   pub reader : Reader Written
@@ -65,7 +66,7 @@ committed-is d z e = ap {B = State Written} (λ o. stateOf o) e
 record Shape (r : Record) : Type 0 where
   queue : length (r .ring .queue) ≡ 32
   units : length (r .held .units) ≡ 4
-  holder : length (r .held .holder) ≡ 64
+  holder : length (r .held .holder) ≡ 80
   counts : length (r .tally .conflicts) ≡ 16
   journals : (u : ℕ) → 1 ≤ u → u ≤ 4 → length (unitAt r u .journal) ≡ 15
 
@@ -85,12 +86,12 @@ shape r h =
     let (h2, j2) = and-true _ (eqb (length (unitAt r 2 .journal)) 15) h3 in
     let (h1, j1) = and-true _ (eqb (length (unitAt r 1 .journal)) 15) h2 in
     let (i0, n) = and-true _ (eqb (length (r .tally .conflicts)) 16) h1 in
-    let (h0, k) = and-true _ (eqb (length (r .held .holder)) 64) i0 in
+    let (h0, k) = and-true _ (eqb (length (r .held .holder)) 80) i0 in
     let (q, u) = and-true (eqb (length (r .ring .queue)) 32) (eqb (length (r .held .units)) 4) h0 in
     record {
       queue = eqb-true _ 32 q;
       units = eqb-true _ 4 u;
-      holder = eqb-true _ 64 k;
+      holder = eqb-true _ 80 k;
       counts = eqb-true _ 16 n;
       journals = for-four (λ n. length (unitAt r n .journal) ≡ 15) (eqb-true _ 15 j1) (eqb-true _ 15 j2) (eqb-true _ 15 j3) (eqb-true _ 15 j4);
     }
@@ -128,16 +129,16 @@ right-unit : (d : Disk) (u : ℕ) → UnitRight d u → unitSound d u ≡ true
 unfolding unitSound each
 right-unit d u r = rw (le-true (unitOf d u .len) 15 (r .room), le-true (unitOf d u .window) 16 (r .window), closed-unit (isOpen (unitOf d u)) (unitOf d u .len) (r .closed), r .sound)
 
--- Clauses of a block's holder.
+-- Clauses of a number's holder.
 holder-right : (d : Disk) (s : State Written) (b : ℕ) → committed d ≡ s → holderSound d b ≡ true → HolderRight d s b
 unfolding holderSound
 holder-right d s b e h = go (or-cases (eqb (holderOf (d .rec) b) 0) _ h)
   where
-    go : (eqb (holderOf (d .rec) b) 0 ≡ true) ⊎ (isOpenUnit d (holderOf (d .rec) b) && not (placed b (committed d .lists)) ≡ true) → HolderRight d s b
+    go : (eqb (holderOf (d .rec) b) 0 ≡ true) ⊎ (isOpenUnit d (holderOf (d .rec) b) && not (inUse b (committed d .lists)) ≡ true) → HolderRight d s b
     go (inl h) = inl (eqb-true _ 0 h)
     go (inr h) =
         let (o, n) = and-true (isOpenUnit d (holderOf (d .rec) b)) _ h in
-        inr (o, rw (← e) (not-false (placed b (committed d .lists)) n))
+        inr (o, rw (← e) (not-false (inUse b (committed d .lists)) n))
 
 right-holder : (d : Disk) (s : State Written) (b : ℕ) → committed d ≡ s → HolderRight d s b → holderSound d b ≡ true
 unfolding holderSound
@@ -146,7 +147,7 @@ right-holder d s b e (inr h) = rw (e, h .0, h .1) (or-true (eqb (holderOf (d .re
 
 -- Clauses of the units and the holders' table.
 units-right : (d : Disk) (s : State Written) → committed d ≡ s → shaped (d .rec) ≡ true
-    → all (unitSound d) (from (λ u. u) 1 4) ≡ true → all (holderSound d) (from (λ b. b) 1 64) ≡ true → UnitsRight d s
+    → all (unitSound d) (from (λ u. u) 1 4) ≡ true → all (holderSound d) (from (λ b. b) 1 80) ≡ true → UnitsRight d s
 unfolding unitOf
 units-right d s e h us hs =
     let t = shape (d .rec) h in
@@ -154,7 +155,7 @@ units-right d s e h us hs =
       four = t .units;
       table = t .holder;
       units = λ u p q. unit-right d u (t .journals u p q) (all-from (unitSound d) (λ u. u) 1 4 us u p (omega arith));
-      holders = λ b p q. holder-right d s b e (all-from (holderSound d) (λ b. b) 1 64 hs b p (omega arith));
+      holders = λ b p q. holder-right d s b e (all-from (holderSound d) (λ b. b) 1 80 hs b p (omega arith));
     }
 
 right-shaped : (d : Disk) (s : State Written) → length (d .rec .ring .queue) ≡ 32 → UnitsRight d s → length (d .rec .tally .conflicts) ≡ 16 → shaped (d .rec) ≡ true
@@ -164,8 +165,8 @@ right-shaped d s q k n = shape-shaped (d .rec) (record { queue = q; units = k .f
 right-units : (d : Disk) (s : State Written) → UnitsRight d s → all (unitSound d) (from (λ u. u) 1 4) ≡ true
 right-units d s k = from-all (unitSound d) (λ u. u) 1 4 (λ u p q. right-unit d u (k .units u p (omega arith)))
 
-right-holders : (d : Disk) (s : State Written) → committed d ≡ s → UnitsRight d s → all (holderSound d) (from (λ b. b) 1 64) ≡ true
-right-holders d s e k = from-all (holderSound d) (λ b. b) 1 64 (λ b p q. right-holder d s b e (k .holders b p (omega arith)))
+right-holders : (d : Disk) (s : State Written) → committed d ≡ s → UnitsRight d s → all (holderSound d) (from (λ b. b) 1 80) ≡ true
+right-holders d s e k = from-all (holderSound d) (λ b. b) 1 80 (λ b p q. right-holder d s b e (k .holders b p (omega arith)))
 
 -- The questions.
 pub right : (d : Disk) → lengthsRight d ≡ true → recordSound d ≡ true → Right d

@@ -11,13 +11,14 @@ use lib.Dec.{leb, eqb, eqb·suc-zero}
 use lib.ListN.{length, getD, set}
 use lib.Seq.{getD-set-same, getD-set-other}
 use Rattle.lists.specs.Change.{Change, takeList, putFirst, putAfter, write, delBlock, delList}
+use Rattle.lists.specs.InUse.{listNumber}
 use Rattle.lists.proofs.Basic.{and-true, leb-true, eqb-same, eqb-false, eqb-true, getD-same}
 use Rattle.log.specs.Card.{Written}
 use Rattle.disk.specs.Record.{Record, freshRecord, countOf}
 use Rattle.disk.specs.Disk.{Disk, unitOf, journalOf}
 use Rattle.disk.specs.Call.{Call, format, mount, conflictCount, onStream, inView, begin, end, flush, ends, resets}
 use Rattle.disk.specs.Questions.{isWindow, questions, refusal}
-use Rattle.disk.specs.Perform.{enqueue, enqueueAll, journalAdd, change, hold, gaveBlock, gaveList, noted, streamFor, made, numberGiven, changeFor, opening, closing, conflicted, unitEntries, afterFlush, accepted, refused, perform}
+use Rattle.disk.specs.Perform.{enqueue, enqueueAll, journalAdd, change, hold, gaveBlock, gaveList, noted, made, numberGiven, changeFor, opening, closing, conflicted, unitEntries, afterFlush, accepted, refused, perform}
 use Rattle.disk.specs.Statements.{countAfter, CountsMove}
 use Rattle.disk.proofs.Clauses.{right, open-window}
 use Rattle.disk.proofs.Performing.{perform-accepted, perform-refused, accepted-code, refusal-code}
@@ -40,7 +41,7 @@ hold-counts (suc u) b d = refl
 
 noted-counts : (s : ℕ) (c : Change Written) (d : Disk) → counts (noted s c d) ≡ counts d
 unfolding noted gaveBlock gaveList
-noted-counts s (takeList l) d = refl
+noted-counts s (takeList l) d = hold-counts s (listNumber l) d
 noted-counts s (putFirst b l) d = hold-counts s b d
 noted-counts s (putAfter b l p) d = hold-counts s b d
 noted-counts s (write b x) d = refl
@@ -49,7 +50,7 @@ noted-counts s (delList l) d = refl
 
 made-counts : (s : ℕ) (c : Change Written) (d : Disk) → counts (made s c d) ≡ counts d
 unfolding made
-made-counts s c d = noted-counts s c (change (streamFor s c) c d) ∙ change-counts (streamFor s c) c d
+made-counts s c d = noted-counts s c (change s c d) ∙ change-counts s c d
 
 -- An accepted call: the counts stay, but where it sets the record anew.
 accepted-counts : (c : Call) (d : Disk) → counts (accepted c d .disk) ≡ cond (resets c) (freshRecord .tally .conflicts) (counts d)

@@ -1,7 +1,8 @@
--- The table of holders: who holds a block after a unit takes it or gives up what it holds, and what a sound journal says of the blocks that it puts.
+-- The table of holders: who holds a number, block or list, after a unit takes it or gives up what it holds, and what a sound journal says of the
+-- numbers that it brings into use.
 use mathlib.Core.Path.{_≡_, refl, sym, ap, _∙_}
-use mathlib.Core.Logic.{_≢_}
-use mathlib.Core.Bool.{Bool, true, false, cond, false≢true}
+use mathlib.Core.Logic.{_≢_, ⊎-elim}
+use mathlib.Core.Bool.{Bool, true, false, cond, or-true, false≢true}
 use mathlib.Core.List.{List, [], _∷_, map}
 use Prim.Native.Nat.{ℕ, zero, suc, _-_, _≤_}
 use native.Mathlib.Omega.{arith}
@@ -9,14 +10,15 @@ use lib.Dec.{eqb}
 use lib.ListN.{length, getD}
 use lib.Seq.{getD-set-same, getD-set-other}
 use Rattle.lists.specs.Basic.{any, all}
-use Rattle.lists.specs.Change.{Change, takeList, putFirst, putAfter, write, delBlock, delList}
-use Rattle.lists.proofs.Basic.{and-true, eqb-same, eqb-true, eqb-false, eq-true, all-each}
-use Rattle.lists.proofs.Count.{puts}
+use Rattle.lists.specs.Change.{Change}
+use Rattle.lists.specs.InUse.{brings}
+use Rattle.lists.proofs.Basic.{and-true, or-cases, eqb-same, eqb-true, eqb-false, eq-true, all-each}
+use Rattle.lists.proofs.InUse.{brought}
 use Rattle.log.specs.Entry.{member, raw, legal}
 use Rattle.log.specs.Card.{Written}
 use Rattle.disk.specs.Record.{Record, holderOf, released}
 use Rattle.disk.specs.Disk.{Disk}
-use Rattle.disk.specs.Sound.{putBy, journalSound}
+use Rattle.disk.specs.Sound.{journalSound}
 use Rattle.disk.specs.Perform.{hold, closing}
 
 -- The holders when unit u gives up what it holds.
@@ -41,7 +43,7 @@ pub closing-released : (u : ℕ) (d : Disk) (b : ℕ) → holderOf (d .rec) b �
 unfolding closing
 closing-released u d b e = released-at u (d .rec .held .holder) (b - 1) ∙ rw (eq-true (holderOf (d .rec) b) u e)
 
--- A block that stream s makes: unit s holds it; stream 0 holds nothing.
+-- A number that stream s is given: unit s holds it; stream 0 holds nothing.
 pub hold-holder : (s b : ℕ) (d : Disk) → 1 ≤ b → b ≤ length (d .rec .held .holder) → holderOf (d .rec) b ≡ 0 → holderOf (hold s b d .rec) b ≡ s
 unfolding hold
 hold-holder zero b d p q h = h
@@ -52,52 +54,43 @@ unfolding hold
 hold-other zero b x d h n = refl
 hold-other (suc u) b x d h n = getD-set-other (d .rec .held .holder) (b - 1) (x - 1) (suc u) 0 (λ e. n (ap (λ (i : ℕ). getD (d .rec .held .holder) i 0) e ∙ h))
 
--- Blocks that a change puts, as a test and as a list.
-module _ {D : Type 0} (p : ℕ → Bool) where
-  pub puts-all : (c : Change D) → ((b : ℕ) → puts c b ≡ true → p b ≡ true) → all p (putBy c) ≡ true
-  unfolding putBy all
-  puts-all (takeList l) h = refl
-  puts-all (putFirst n l) h = rw (h n (eqb-same n))
-  puts-all (putAfter n l q) h = rw (h n (eqb-same n))
-  puts-all (write n d) h = refl
-  puts-all (delBlock n) h = refl
-  puts-all (delList l) h = refl
+-- Numbers that a change brings into use, one by one and all.
+pub brought-all : (p : ℕ → Bool) (ns : List ℕ) → ((n : ℕ) → any (λ m. eqb m n) ns ≡ true → p n ≡ true) → all p ns ≡ true
+unfolding all
+brought-all p [] h = refl
+brought-all p (m ∷ ns) h = rw (h m (rw (eqb-same m))) (brought-all p ns (λ n e. h n (rw e (or-true (eqb m n)))))
 
-  all-puts : (c : Change D) → all p (putBy c) ≡ true → (b : ℕ) → puts c b ≡ true → p b ≡ true
-  unfolding putBy all
-  all-puts (takeList l) h b e = absurd (false≢true e)
-  all-puts (putFirst n l) h b e = ap p (sym (eqb-true n b e)) ∙ and-true (p n) true h .0
-  all-puts (putAfter n l q) h b e = ap p (sym (eqb-true n b e)) ∙ and-true (p n) true h .0
-  all-puts (write n d) h b e = absurd (false≢true e)
-  all-puts (delBlock n) h b e = absurd (false≢true e)
-  all-puts (delList l) h b e = absurd (false≢true e)
+all-brought : (p : ℕ → Bool) (ns : List ℕ) → all p ns ≡ true → (n : ℕ) → any (λ m. eqb m n) ns ≡ true → p n ≡ true
+unfolding all
+all-brought p [] h n e = absurd (false≢true e)
+all-brought p (m ∷ ns) h n e = let (x, y) = and-true (p m) (all p ns) h in ⊎-elim (λ z. ap p (sym (eqb-true m n z)) ∙ x) (all-brought p ns y n) (or-cases (eqb m n) _ e)
 
--- A journal's change, sound for unit u: what it puts is held by u.
-journal-held : (r : Record) (u : ℕ) (c : Change Written) (b : ℕ) → journalSound r u c ≡ true → puts c b ≡ true → holderOf r b ≡ u
+-- A journal's change, sound for unit u: what it puts or takes is held by u.
+pub journal-held : (r : Record) (u : ℕ) (c : Change Written) (b : ℕ) → journalSound r u c ≡ true → brought c b ≡ true → holderOf r b ≡ u
 unfolding journalSound
 journal-held r u c b h e =
-    eqb-true (holderOf r b) u (all-puts (λ x. eqb (holderOf r x) u) c (and-true (legal (raw 0 (member c))) _ h .1) b e)
+    eqb-true (holderOf r b) u (all-brought (λ x. eqb (holderOf r x) u) (brings c) (and-true (legal (raw 0 (member c))) _ h .1) b e)
 
 journal-more : (r t : Record) (u : ℕ) (c : Change Written) → ((b : ℕ) → holderOf r b ≡ u → holderOf t b ≡ u)
     → journalSound r u c ≡ true → journalSound t u c ≡ true
 unfolding journalSound
 journal-more r t u c f h =
-    let (a, b) = and-true (legal (raw 0 (member c))) (all (λ x. eqb (holderOf r x) u) (putBy c)) h in
-    rw a (all-each (λ x. eqb (holderOf r x) u) (λ x. eqb (holderOf t x) u) (putBy c) (λ x e. eq-true (holderOf t x) u (f x (eqb-true (holderOf r x) u e))) b)
+    let (a, b) = and-true (legal (raw 0 (member c))) (all (λ x. eqb (holderOf r x) u) (brings c)) h in
+    rw a (all-each (λ x. eqb (holderOf r x) u) (λ x. eqb (holderOf t x) u) (brings c) (λ x e. eq-true (holderOf t x) u (f x (eqb-true (holderOf r x) u e))) b)
 
 pub journals-more : (r t : Record) (u : ℕ) (cs : List (Change Written)) → ((b : ℕ) → holderOf r b ≡ u → holderOf t b ≡ u)
     → all (journalSound r u) cs ≡ true → all (journalSound t u) cs ≡ true
 journals-more r t u cs f h = all-each (journalSound r u) (journalSound t u) cs (λ c. journal-more r t u c f) h
 
--- no change of unit u's journal puts a block that u does not hold
+-- no change of unit u's journal brings a number into use that u does not hold
 pub journals-apart : (r : Record) (u : ℕ) (cs : List (Change Written)) (b : ℕ) → holderOf r b ≢ u → all (journalSound r u) cs ≡ true
-    → any (λ c. puts c b) cs ≡ false
+    → any (λ c. brought c b) cs ≡ false
 unfolding all
 journals-apart r u [] b n h = refl
 journals-apart r u (c ∷ cs) b n h =
     let (x, y) = and-true (journalSound r u c) (all (journalSound r u) cs) h in
-    rw (go (puts c b) refl x) (journals-apart r u cs b n y)
+    rw (go (brought c b) refl x) (journals-apart r u cs b n y)
   where
-    go : (t : Bool) → puts c b ≡ t → journalSound r u c ≡ true → puts c b ≡ false
+    go : (t : Bool) → brought c b ≡ t → journalSound r u c ≡ true → brought c b ≡ false
     go true e x = absurd (n (journal-held r u c b x e))
     go false e x = e

@@ -1,8 +1,8 @@
--- Every accepted call but flush, and refusal 12, leaves a record that is sound by question 3. Each step of a call keeps all clauses by itself: a block
--- is held before its put is journalled, and a unit closes before its entries join the queue, which leaves the same disk.
+-- Every accepted call but flush, and refusal 12, leaves a record that is sound by question 3. Each step of a call keeps all clauses by itself: a number
+-- is held before its put or take is journalled, and a unit closes before its entries join the queue, which leaves the same disk.
 use mathlib.Core.Path.{_≡_, refl, sym, ap, _∙_, subst}
 use mathlib.Core.Logic.{inl, _≢_}
-use mathlib.Core.Bool.{Bool, true, false, _&&_, cond, false≢true}
+use mathlib.Core.Bool.{Bool, true, false, _&&_, or-false, false≢true}
 use mathlib.Core.Option.{some}
 use mathlib.Core.List.{List, [], _∷_}
 use Prim.Native.Nat.{ℕ, zero, suc, _+_, _-_, _*_, _≤_, _<_}
@@ -12,11 +12,11 @@ use lib.ListN.{length, length-set, length-replicate, getD-replicate}
 use lib.Seq.{take-all}
 use Rattle.lists.specs.Basic.{all, joined}
 use Rattle.lists.specs.Change.{Change, takeList, putFirst, putAfter, write, delBlock, delList, mapChange, carriedBy}
-use Rattle.lists.specs.State.{State, state, placed, applies, changed, apply, applyAll}
+use Rattle.lists.specs.State.{State, state, applies, changed, apply, applyAll}
+use Rattle.lists.specs.InUse.{listNumber, inUse, brings}
 use Rattle.lists.proofs.Basic.{and-true, not-false, eqb-same, eqb-true, leb-true, some-of, getD-same, joined-nils}
-use Rattle.lists.proofs.Count.{puts}
-use Rattle.lists.proofs.Placed.{placed-changed, placed-all}
-use Rattle.log.specs.Entry.{Entry, plain, member, mapEntry, carried, raw, legal, legalChange, hasMember, isBlock, isList}
+use Rattle.lists.proofs.InUse.{brought, in-use-changed, in-use-all}
+use Rattle.log.specs.Entry.{Entry, plain, member, mapEntry, carried, raw, legal, legalChange, isBlock, isList}
 use Rattle.log.specs.Reader.{Reader, settled, start, read, replay}
 use Rattle.log.specs.Card.{Written, cardLength, segmentsIn, sound, mounted}
 use Rattle.log.specs.Store.{formatStores}
@@ -30,14 +30,14 @@ use Rattle.disk.specs.Disk.{Disk, withRecord, unitOf, journalOf, readerO
 use Rattle.disk.specs.Sound.{isOpenUnit, headStanding}
 use Rattle.disk.specs.Call.{Edit, format, mount, onStream, begin, end, ends}
 use Rattle.disk.specs.Questions.{mountable, streamOpen, journalRoom, endApplies, queueRoom, streamRoom, questions, refusal}
-use Rattle.disk.specs.Perform.{enqueue, enqueueAll, journalAdd, change, hold, gaveBlock, gaveList, opening, closing, noted, streamFor, made, numberGiven, changeFor, conflicted, unitEntries, formatted, accepted, refused}
+use Rattle.disk.specs.Perform.{enqueue, enqueueAll, journalAdd, change, hold, gaveBlock, gaveList, opening, closing, noted, made, numberGiven, changeFor, conflicted, unitEntries, formatted, accepted, refused}
 use Rattle.disk.proofs.Queue.{beside-one, beside-all}
 use Rattle.disk.proofs.Journal.{journal-data-add, journal-size, unit-entries, unit-sized}
 use Rattle.disk.proofs.Questions.{yes-all, past, card-length, queue-data, journal-data, unit-range, queue-room, stream-room, journal-room}
 use Rattle.disk.proofs.Fresh.{fresh-queue, fresh-journal, fresh-reader}
 use Rattle.disk.proofs.Clauses.{UnitsRight, Right, committed-is, right}
 use Rattle.disk.proofs.Held.{closing-released, hold-holder, journals-apart}
-use Rattle.disk.proofs.Changes.{Makes, edit-makes, stream-open, apply-applies, unit-good, replay-unit}
+use Rattle.disk.proofs.Changes.{Makes, edit-makes, apply-applies, unit-good, replay-unit}
 use Rattle.disk.proofs.Growth.{enqueue-log, enqueueAll-log, log-same}
 use Rattle.disk.proofs.Units.{units-state, units-same, hold-units, journal-units, opening-units, closing-units}
 
@@ -102,46 +102,38 @@ closing-right u d p q k = record {
   conflicts = k .conflicts;
 }
 
--- a free block is taken to hold
-hold-right : (s b : ℕ) (d : Disk) → streamOpen d s ≡ true → isBlock b ≡ true → holderOf (d .rec) b ≡ 0 → placed b (committed d .lists) ≡ false → Right d → Right (hold s b d)
+-- a free number is taken to hold
+hold-right : (s b : ℕ) (d : Disk) → streamOpen d s ≡ true → 1 ≤ b → b ≤ 80 → holderOf (d .rec) b ≡ 0 → inUse b (committed d .lists) ≡ false → Right d → Right (hold s b d)
 unfolding hold streamOpen
-hold-right zero b d o i z n k = k
-hold-right (suc u) b d o i z n k =
-    let (x, y) = and-true (leb 1 b) (leb b 64) i in
-    record {
-      reader = k .reader;
-      log = log-same d (hold (suc u) b d) (k .reader) refl refl refl refl refl refl (k .log);
-      units = hold-units u b d (k .reader .state) (rw (eqb·suc-zero u) at o) (leb-true 1 b x) (leb-true b 64 y) z
-          (rw (committed-is d (k .reader) (k .log .replays)) at n) (k .units);
-      journalData = k .journalData;
-      lastBlock = k .lastBlock;
-      lastList = k .lastList;
-      conflicts = k .conflicts;
-    }
+hold-right zero b d o x y z n k = k
+hold-right (suc u) b d o x y z n k = record {
+  reader = k .reader;
+  log = log-same d (hold (suc u) b d) (k .reader) refl refl refl refl refl refl (k .log);
+  units = hold-units u b d (k .reader .state) (rw (eqb·suc-zero u) at o) x y z (rw (committed-is d (k .reader) (k .log .replays)) at n) (k .units);
+  journalData = k .journalData;
+  lastBlock = k .lastBlock;
+  lastList = k .lastList;
+  conflicts = k .conflicts;
+}
 
--- A change in a unit; what it puts is held by the unit.
-member-legal : (c : Change Written) → hasMember c ≡ true → Good (plain c) → legal (raw 0 (member c)) ≡ true
-unfolding legal raw mapEntry mapChange hasMember
-member-legal (takeList l) m g = absurd (false≢true m)
-member-legal (putFirst b l) m g = g .lawful
-member-legal (putAfter b l p) m g = g .lawful
-member-legal (write b d) m g = g .lawful
-member-legal (delBlock b) m g = g .lawful
-member-legal (delList l) m g = g .lawful
+-- A change in a unit; what it brings into use is held by the unit.
+member-legal : (c : Change Written) → Good (plain c) → legal (raw 0 (member c)) ≡ true
+unfolding legal raw mapEntry
+member-legal c g = g .lawful
 
 plain-sized : (c : Change Written) → Good (plain c) → Sized (carriedBy c)
 unfolding carried
 plain-sized c g = g .sized
 
-journal-right : (u : ℕ) (c : Change Written) (d : Disk) → isOpenUnit d u ≡ true → unitOf d u .len < 15 → hasMember c ≡ true → Good (plain c)
-    → ((b : ℕ) → puts c b ≡ true → holderOf (d .rec) b ≡ u) → Right d → Right (journalAdd u c d)
+journal-right : (u : ℕ) (c : Change Written) (d : Disk) → isOpenUnit d u ≡ true → unitOf d u .len < 15 → Good (plain c)
+    → ((b : ℕ) → brought c b ≡ true → holderOf (d .rec) b ≡ u) → Right d → Right (journalAdd u c d)
 unfolding journalAdd
-journal-right u c d o m x g f k =
+journal-right u c d o m g f k =
     let (p, q, _) = unit-range d u o in
     record {
       reader = k .reader;
       log = log-same d (journalAdd u c d) (k .reader) refl refl refl refl refl refl (k .log);
-      units = journal-units u c d (k .reader .state) o (k .journalData) m (plain-sized c g) (member-legal c x g) f (k .units);
+      units = journal-units u c d (k .reader .state) o (k .journalData) m (plain-sized c g) (member-legal c g) f (k .units);
       journalData = journal-data-add u c d p q (k .journalData) m (plain-sized c g);
       lastBlock = k .lastBlock;
       lastList = k .lastList;
@@ -167,15 +159,15 @@ plain-read : (z : Reader Written) (c : Change Written) (s : State Written) → a
 unfolding read
 plain-read z c s a = rw a
 
--- a change on stream 0; what it puts is held by no unit
+-- a change on stream 0; what it brings into use is held by no unit
 plain-right : (c : Change Written) (d : Disk) → d .rec .ring .len < 32 → Good (plain c) → applies c (committed d .lists) ≡ true
-    → ((b : ℕ) → puts c b ≡ true → holderOf (d .rec) b ≡ 0) → Right d → Right (enqueue (plain c) d)
+    → ((b : ℕ) → brought c b ≡ true → holderOf (d .rec) b ≡ 0) → Right d → Right (enqueue (plain c) d)
 plain-right c d m g a f k =
     let b = beside-one (plain c) d in
     record {
       reader = settled t;
       log = enqueue-log (plain c) d (k .reader) (settled t) (k .log) m g (plain-read (k .reader) c t (apply-applies c s (rw e at a)));
-      units = units-same d (enqueue (plain c) d) t (b .journalData) (b .units) (b .holder) (units-state d s t (λ n p q o h. placed-changed c (s .lists) n (apart n o (puts c n) refl) h) (k .units));
+      units = units-same d (enqueue (plain c) d) t (b .journalData) (b .units) (b .holder) (units-state d s t (λ n p q o h. in-use-changed c (s .lists) n (apart n o (brought c n) refl) h) (k .units));
       journalData = rw (b .journalData) (k .journalData);
       lastBlock = rw (b .lastBlock) (k .lastBlock);
       lastList = rw (b .lastList) (k .lastList);
@@ -191,18 +183,18 @@ plain-right c d m g a f k =
     e : committed d ≡ s
     e = committed-is d (k .reader) (k .log .replays)
 
-    apart : (n : ℕ) → isOpenUnit d (holderOf (d .rec) n) ≡ true → (x : Bool) → puts c n ≡ x → puts c n ≡ false
+    apart : (n : ℕ) → isOpenUnit d (holderOf (d .rec) n) ≡ true → (x : Bool) → brought c n ≡ x → brought c n ≡ false
     apart n o true x = let (p, q, _) = unit-range d (holderOf (d .rec) n) o in absurd (omega (arith, f n x))
     apart n o false x = x
 
--- A change on a stream: what it puts is held by that unit, or by none on stream 0.
-change-right : (s : ℕ) (c : Change Written) (d : Disk) → streamOpen d s ≡ true → journalRoom d s ≡ true → streamRoom d s ≡ true → (1 ≤ s → hasMember c ≡ true) → Good (plain c)
-    → (s ≡ 0 → applies c (committed d .lists) ≡ true) → ((b : ℕ) → puts c b ≡ true → holderOf (d .rec) b ≡ s) → Right d → Right (change s c d)
+-- A change on a stream: what it brings into use is held by that unit, or by none on stream 0.
+change-right : (s : ℕ) (c : Change Written) (d : Disk) → streamOpen d s ≡ true → journalRoom d s ≡ true → streamRoom d s ≡ true → Good (plain c)
+    → (s ≡ 0 → applies c (committed d .lists) ≡ true) → ((b : ℕ) → brought c b ≡ true → holderOf (d .rec) b ≡ s) → Right d → Right (change s c d)
 unfolding change streamOpen
-change-right zero c d o j r m g a f k = plain-right c d (stream-room d r) g (a refl) f k
-change-right (suc u) c d o j r m g a f k = journal-right (suc u) c d (rw (eqb·suc-zero u) at o) (journal-room d u j) (m (omega arith)) g f k
+change-right zero c d o j r g a f k = plain-right c d (stream-room d r) g (a refl) f k
+change-right (suc u) c d o j r g a f k = journal-right (suc u) c d (rw (eqb·suc-zero u) at o) (journal-room d u j) g f k
 
--- the block is held first
+-- the number is held first
 hold-change : (s b : ℕ) (c : Change Written) (d : Disk) → hold s b (change s c d) ≡ change s c (hold s b d)
 unfolding hold change journalAdd unitOf
 hold-change zero b c d = refl
@@ -228,42 +220,39 @@ unfolding hold
 hold-zero zero b d e = refl
 hold-zero (suc u) b d e = absurd (omega arith)
 
--- a change that goes to a journal has a member map
-stream-member : (s : ℕ) (c : Change Written) → 1 ≤ streamFor s c → hasMember c ≡ true
-unfolding streamFor
-stream-member s c h = go (hasMember c) h
-  where
-    go : (b : Bool) → 1 ≤ cond b s 0 → b ≡ true
-    go true h = refl
-    go false h = absurd (omega arith)
-
 -- What an accepted edit makes, as the record notes it.
 module _ (s : ℕ) (c : Change Written) (d : Disk) (o : streamOpen d s ≡ true) (m : Makes s c d) (k : Right d) where
-  quiet : ((b : ℕ) → puts c b ≡ false) → Right (change (streamFor s c) c d)
-  quiet n =
-      change-right (streamFor s c) c d (stream-open s c d o) (m .journal) (m .queue) (stream-member s c) (m .good) (m .applying) (λ b e. absurd (false≢true (sym (n b) ∙ e))) k
+  quiet : ((n : ℕ) → brought c n ≡ false) → Right (change s c d)
+  quiet w = change-right s c d o (m .journal) (m .queue) (m .good) (m .applying) (λ n e. absurd (false≢true (sym (w n) ∙ e))) k
 
-  put-right : (b : ℕ) → hasMember c ≡ true → isBlock b ≡ true → ((n : ℕ) → puts c n ≡ eqb b n) → Right (gaveBlock b (hold s b (change (streamFor s c) c d)))
-  unfolding streamFor
-  put-right b h i w =
-      let (z, n) = m .free b (w b ∙ eqb-same b) in
-      let (lo, hi) = and-true (leb 1 b) (leb b 64) i in
-      let q : holderOf (hold s b d .rec) b ≡ s = hold-holder s b d (leb-true 1 b lo) (omega (arith, leb-true b 64 hi, k .units .table)) z in
-      let e : streamFor s c ≡ s = rw h in
-      rw h
-      (gave-block b (hold s b (change s c d)) i
-      (subst Right (sym (hold-change s b c d))
-      (change-right s c (hold s b d) (hold-open s b d ∙ o) (hold-journal s b d ∙ (rw h at (m .journal))) (hold-stream s b d ∙ (rw h at (m .queue))) (λ x. h) (m .good)
-      (λ x. rw (hold-zero s b d x) (m .applying (e ∙ x)))
-      (λ x p. subst (λ (y : ℕ). holderOf (hold s b d .rec) y ≡ s) (eqb-true b x (sym (w x) ∙ p)) q)
-      (hold-right s b d o i z n k))))
+  -- the number that it brings into use is held before
+  given-right : (n : ℕ) → 1 ≤ n → n ≤ 80 → brings c ≡ n ∷ [] → Right (hold s n (change s c d))
+  given-right n lo hi w =
+      let only : (x : ℕ) → brought c x ≡ eqb n x = λ x. rw (w, or-false) in
+      let (z, u) = m .free n (only n ∙ eqb-same n) in
+      let q : holderOf (hold s n d .rec) n ≡ s = hold-holder s n d lo (omega (arith, k .units .table)) z in
+      subst Right (sym (hold-change s n c d))
+      (change-right s c (hold s n d) (hold-open s n d ∙ o) (hold-journal s n d ∙ m .journal) (hold-stream s n d ∙ m .queue) (m .good)
+      (λ x. rw (hold-zero s n d x) (m .applying x))
+      (λ x p. subst (λ (y : ℕ). holderOf (hold s n d .rec) y ≡ s) (eqb-true n x (sym (only x) ∙ p)) q)
+      (hold-right s n d o lo hi z u k))
+
+  put-right : (b : ℕ) → isBlock b ≡ true → brings c ≡ b ∷ [] → Right (gaveBlock b (hold s b (change s c d)))
+  put-right b i w =
+      let (x, y) = and-true (leb 1 b) (leb b 64) i in
+      gave-block b (hold s b (change s c d)) i (given-right b (leb-true 1 b x) (omega (arith, leb-true b 64 y)) w)
+
+  take-right : (l : ℕ) → isList l ≡ true → brings c ≡ listNumber l ∷ [] → Right (gaveList l (hold s (listNumber l) (change s c d)))
+  take-right l i w =
+      let (x, y) = and-true (leb 1 l) (leb l 16) i in
+      gave-list l (hold s (listNumber l) (change s c d)) i (given-right (listNumber l) (omega arith) (omega (arith, leb-true l 16 y)) w)
 
 made-right : (s : ℕ) (c : Change Written) (d : Disk) → streamOpen d s ≡ true → Makes s c d → Right d → Right (made s c d)
-unfolding made noted hasMember legal raw mapEntry mapChange legalChange
-made-right s (takeList l) d o m k = gave-list l (change (streamFor s (takeList l)) (takeList l) d) (m .good .lawful) (quiet s (takeList l) d o m k (λ b. refl))
-made-right s (putFirst b l) d o m k = put-right s (putFirst b l) d o m k b refl (and-true (isBlock b) (isList l) (m .good .lawful) .0) (λ n. refl)
+unfolding made noted legal raw mapEntry mapChange legalChange
+made-right s (takeList l) d o m k = take-right s (takeList l) d o m k l (m .good .lawful) refl
+made-right s (putFirst b l) d o m k = put-right s (putFirst b l) d o m k b (and-true (isBlock b) (isList l) (m .good .lawful) .0) refl
 made-right s (putAfter b l p) d o m k =
-    put-right s (putAfter b l p) d o m k b refl (and-true (isBlock b) (isList l) (and-true (isBlock b && isList l) (isBlock p) (m .good .lawful) .0) .0) (λ n. refl)
+    put-right s (putAfter b l p) d o m k b (and-true (isBlock b) (isList l) (and-true (isBlock b && isList l) (isBlock p) (m .good .lawful) .0) .0) refl
 made-right s (write b x) d o m k = quiet s (write b x) d o m k (λ n. refl)
 made-right s (delBlock b) d o m k = quiet s (delBlock b) d o m k (λ n. refl)
 made-right s (delList l) d o m k = quiet s (delList l) d o m k (λ n. refl)
@@ -304,11 +293,11 @@ closing-len : (u : ℕ) (d : Disk) → closing u d .rec .ring .len ≡ d .rec .r
 unfolding closing
 closing-len u d = refl
 
--- the other units hold nothing that this one's journal puts
+-- the other units hold nothing that this one's journal brings into use
 ended-units : (u : ℕ) (d : Disk) (s t : State Written) → 1 ≤ u → u ≤ 4 → applyAll (journalOf d u) s ≡ some t → UnitsRight d s → UnitsRight (closing u d) t
 ended-units u d s t p q a k =
     units-state (closing u d) s t
-    (λ b x y o n. placed-all (journalOf d u) s t b (journals-apart (d .rec) u (journalOf d u) b (other b o) (k .units u p q .sound)) n a)
+    (λ b x y o n. in-use-all (journalOf d u) s t b (journals-apart (d .rec) u (journalOf d u) b (other b o) (k .units u p q .sound)) n a)
     (closing-units u d s p q k)
   where
     other : (b : ℕ) → isOpenUnit (closing u d) (holderOf (closing u d .rec) b) ≡ true → holderOf (d .rec) b ≢ u
@@ -342,7 +331,7 @@ module _ (d : Disk) (r : d .rec ≡ freshRecord) where
     four = rw r;
     table = rw r;
     units = λ u p q. let e = fresh-unit u p q in record { places = rw e; room = rw e (omega arith); window = rw e (omega arith); closed = λ h. rw e; sound = rw (fresh-journal d r u) };
-    holders = λ b p q. inl (rw r (getD-same 64 (b - 1) 0));
+    holders = λ b p q. inl (rw r (getD-same 80 (b - 1) 0));
   }
 
   fresh-right : (z : Reader Written) → cardLength (d .card) ≡ true → length (d .queueData) ≡ 8192 → length (d .journalData) ≡ 15360

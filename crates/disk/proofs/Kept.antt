@@ -12,7 +12,7 @@ use Rattle.lists.specs.Change.{Change, mapChange}
 use Rattle.lists.specs.State.{State, state, apply, applyAll, overlay}
 use Rattle.lists.proofs.Basic.{and-true, guard-some, bind-some, all-append, all-drop, all-each}
 use Rattle.log.specs.Raced.{withBody}
-use Rattle.log.specs.Entry.{Entry, plain, member, commit, mapEntry, carried, raw, legal, legalChange, hasMember}
+use Rattle.log.specs.Entry.{Entry, plain, member, commit, mapEntry, carried, raw, legal, legalChange}
 use Rattle.log.specs.Reader.{Reader, settled, start, lastOf, read, replay}
 use Rattle.log.specs.Card.{Written, usedBy}
 use Rattle.log.proofs.Segment.{Fine}
@@ -60,7 +60,7 @@ module _ (Q : State Written → Type 0) (ok : Change Written → Bool) (empty : 
   legal-passes : (k : ℕ) (e : Entry Written) → legal (raw k e) ≡ true → passes e ≡ true
   unfolding legal raw mapEntry passes
   legal-passes k (plain c) h = lawful k c h
-  legal-passes k (member c) h = lawful k c (and-true (hasMember (mapChange (withBody k) c)) (legalChange (mapChange (withBody k) c)) h .1)
+  legal-passes k (member c) h = lawful k c h
   legal-passes k (commit n) h = refl
 
   -- between two entries: the state, and the run's changes

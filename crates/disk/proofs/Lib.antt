@@ -23,6 +23,7 @@ pub mod Views
 pub mod Sequence
 pub mod Flushing
 pub mod Allowance
+pub mod Apart
 pub mod Order
 pub mod Inventory
 pub mod Contents

@@ -11,6 +11,7 @@ use lib.Dec.{leb, eqb, ltb, eqb·suc-zero}
 use lib.ListN.{length, getD}
 use Rattle.lists.specs.Basic.{isSome, orElse, all}
 use Rattle.lists.specs.State.{State, taken, placed, overlay}
+use Rattle.lists.specs.InUse.{listNumber}
 use Rattle.lists.proofs.Basic.{and-true, or-both, false-not, eqb-same, eqb-true, leb-true, ltb-true, le-true, some-of}
 use Rattle.log.specs.Entry.{isBlock, isList}
 use Rattle.log.specs.Card.{Written, cardLength}
@@ -154,14 +155,15 @@ free-from used limit (suc k) last n l h = go (λ q. free-from used limit k (suc 
         let v : m ≡ n = Option·some-injective _ _ (rw (e, freeFrom) at h) in
         (ap used (sym v) ∙ e, omega arith, omega (arith, mod-lt last l))
 
--- the list that NewList gives: not taken, and in range
+-- the list that NewList gives: not taken, held by no unit, and in range
 pub list-number : (d : Disk) → isSome (freeList d) ≡ true
-    → (taken (orElse 0 (freeList d)) (committed d .lists) ≡ false) × (isList (orElse 0 (freeList d)) ≡ true)
+    → (taken (orElse 0 (freeList d)) (committed d .lists) ≡ false) × (holderOf (d .rec) (listNumber (orElse 0 (freeList d))) ≡ 0) × (isList (orElse 0 (freeList d)) ≡ true)
 unfolding freeList orElse
 list-number d h =
     let (n, e) = some-of (freeList d) h in
-    let f = free-from (λ l. taken l (committed d .lists)) 16 16 (d .rec .tally .lastList) n (omega arith) e in
-    rw e (f .0, in-range 16 n (f .1) (f .2))
+    let f = free-from (λ l. taken l (committed d .lists) || not (eqb (holderOf (d .rec) (listNumber l)) 0)) 16 16 (d .rec .tally .lastList) n (omega arith) e in
+    let (a, b) = or-both (taken n (committed d .lists)) (not (eqb (holderOf (d .rec) (listNumber n)) 0)) (f .0) in
+    rw e (a, eqb-true _ 0 (false-not (eqb (holderOf (d .rec) (listNumber n)) 0) b), in-range 16 n (f .1) (f .2))
 
 -- the block that NewBlock gives: on no list, held by no unit, and in range
 pub block-number : (d : Disk) → isSome (freeBlock d) ≡ true

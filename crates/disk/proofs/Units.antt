@@ -1,5 +1,5 @@
--- The clauses of the units and of the holders' table, kept: by a block taken to hold, a change journalled, a unit that opens or closes, and a state
--- that places no held block.
+-- The clauses of the units and of the holders' table, kept: by a number taken to hold, a change journalled, a unit that opens or closes, and a
+-- state that has no held number in use.
 use mathlib.Core.Path.{_≡_, refl, sym, ap, _∙_, subst}
 use mathlib.Core.Logic.{inl, inr}
 use mathlib.Core.Bool.{true, false, not, true≢false}
@@ -12,9 +12,10 @@ use lib.ListN.{length, getD, length-set, length-map}
 use lib.Seq.{getD-set-other}
 use Rattle.lists.specs.Basic.{all}
 use Rattle.lists.specs.Change.{Change, carriedBy}
-use Rattle.lists.specs.State.{State, placed}
+use Rattle.lists.specs.State.{State}
+use Rattle.lists.specs.InUse.{inUse, brings}
 use Rattle.lists.proofs.Basic.{le-true, eq-true, all-append, eqb-false}
-use Rattle.lists.proofs.Count.{puts}
+use Rattle.lists.proofs.InUse.{brought}
 use Rattle.log.specs.Entry.{plain, member, raw, legal}
 use Rattle.log.specs.Cell.{cellOf}
 use Rattle.log.specs.Card.{Written}
@@ -25,7 +26,7 @@ use Rattle.disk.specs.Sound.{isOpenUnit, journalSound}
 use Rattle.disk.specs.Perform.{journalAdd, hold, opening, closing}
 use Rattle.disk.proofs.Questions.{unit-range}
 use Rattle.disk.proofs.Journal.{unit-same, unit-added, unit-added-other, unit-opening, unit-opening-other, unit-closing, unit-closing-other, journal-same, journal-add, journal-other, journal-opening, journal-closing, journal-closing-other, journal-hold}
-use Rattle.disk.proofs.Held.{closing-holder, closing-released, hold-holder, hold-other, puts-all, journals-more}
+use Rattle.disk.proofs.Held.{closing-holder, closing-released, hold-holder, hold-other, brought-all, journals-more}
 use Rattle.disk.proofs.Clauses.{UnitRight, HolderRight, UnitsRight}
 
 open-unit : (d : Disk) (u : ℕ) → 1 ≤ u → u ≤ 4 → isOpen (unitOf d u) ≡ true → isOpenUnit d u ≡ true
@@ -52,12 +53,12 @@ holder-kept : (d e : Disk) (s : State Written) (b : ℕ) → holderOf (e .rec) b
 holder-kept d e s b h f (inl z) = inl (h ∙ z)
 holder-kept d e s b h f (inr (o, n)) = inr (rw h (f (holderOf (d .rec) b) refl o), n)
 
--- The same units, over another state that places no held block.
-pub units-state : (d : Disk) (s t : State Written) → ((b : ℕ) → 1 ≤ b → b ≤ 64 → isOpenUnit d (holderOf (d .rec) b) ≡ true → placed b (s .lists) ≡ false → placed b (t .lists) ≡ false)
+-- The same units, over another state that has no held number in use.
+pub units-state : (d : Disk) (s t : State Written) → ((b : ℕ) → 1 ≤ b → b ≤ 80 → isOpenUnit d (holderOf (d .rec) b) ≡ true → inUse b (s .lists) ≡ false → inUse b (t .lists) ≡ false)
     → UnitsRight d s → UnitsRight d t
 units-state d s t f k = record { four = k .four; table = k .table; units = k .units; holders = λ b p q. go b p q (k .holders b p q) }
   where
-    go : (b : ℕ) → 1 ≤ b → b ≤ 64 → HolderRight d s b → HolderRight d t b
+    go : (b : ℕ) → 1 ≤ b → b ≤ 80 → HolderRight d s b → HolderRight d t b
     go b p q (inl z) = inl z
     go b p q (inr (o, n)) = inr (o, f b p q o n)
 
@@ -76,8 +77,8 @@ units-same d e s j u h k = record {
     holder : (b : ℕ) → holderOf (e .rec) b ≡ holderOf (d .rec) b
     holder b = ap (λ (hs : List ℕ). getD hs (b - 1) 0) h
 
--- A free block is taken to hold.
-pub hold-units : (u b : ℕ) (d : Disk) (s : State Written) → isOpenUnit d (suc u) ≡ true → 1 ≤ b → b ≤ 64 → holderOf (d .rec) b ≡ 0 → placed b (s .lists) ≡ false
+-- A free number is taken to hold.
+pub hold-units : (u b : ℕ) (d : Disk) (s : State Written) → isOpenUnit d (suc u) ≡ true → 1 ≤ b → b ≤ 80 → holderOf (d .rec) b ≡ 0 → inUse b (s .lists) ≡ false
     → UnitsRight d s → UnitsRight (hold (suc u) b d) s
 unfolding hold
 hold-units u b d s o p q z n k = record {
@@ -96,14 +97,14 @@ hold-units u b d s o p q z n k = record {
     still : (v : ℕ) → isOpenUnit d v ≡ true → isOpenUnit e v ≡ true
     still v h = open-more d e v (λ a c y. ap (λ (z : Unit). isOpen z) (unit v) ∙ y) h
 
-    go : (c : ℕ) → 1 ≤ c → c ≤ 64 → Dec (c ≡ b) → HolderRight e s c
+    go : (c : ℕ) → 1 ≤ c → c ≤ 80 → Dec (c ≡ b) → HolderRight e s c
     go c x y (yes w) = inr (rw w (rw (hold-holder (suc u) b d p (omega (arith, k .table)) z) (still (suc u) o)), rw w n)
     go c x y (no w) =
         holder-kept d e s c (getD-set-other (d .rec .held .holder) (b - 1) (c - 1) (suc u) 0 (omega arith)) (λ v h. still v) (k .holders c x y)
 
--- A change joins unit u's journal: what it puts is held by u.
+-- A change joins unit u's journal: what it brings into use is held by u.
 module _ (u : ℕ) (c : Change Written) (d : Disk) (s : State Written) (o : isOpenUnit d u ≡ true) (l : length (d .journalData) ≡ 15360) (m : unitOf d u .len < 15)
-    (z : Sized (carriedBy c)) (w : legal (raw 0 (member c)) ≡ true) (f : (b : ℕ) → puts c b ≡ true → holderOf (d .rec) b ≡ u) where
+    (z : Sized (carriedBy c)) (w : legal (raw 0 (member c)) ≡ true) (f : (b : ℕ) → brought c b ≡ true → holderOf (d .rec) b ≡ u) where
   abbrev added : Disk
   added = journalAdd u c d
 
@@ -117,7 +118,7 @@ module _ (u : ℕ) (c : Change Written) (d : Disk) (s : State Written) (o : isOp
 
   added-sound : journalSound (added .rec) u c ≡ true
   unfolding journalSound
-  added-sound = rw (w, added-holder) (puts-all (λ b. eqb (holderOf (d .rec) b) u) c (λ b e. eq-true (holderOf (d .rec) b) u (f b e)))
+  added-sound = rw (w, added-holder) (brought-all (λ b. eqb (holderOf (d .rec) b) u) (brings c) (λ b e. eq-true (holderOf (d .rec) b) u (f b e)))
 
   pub journal-units : UnitsRight d s → UnitsRight (journalAdd u c d) s
   unfolding all
@@ -220,7 +221,7 @@ module _ (u : ℕ) (d : Disk) (s : State Written) (p : 1 ≤ u) (q : u ≤ 4) (k
   unfolding closing
   ended-four = length-set (d .rec .held .units) (u - 1) _ ∙ k .four
 
-  ended-table : length (ended .rec .held .holder) ≡ 64
+  ended-table : length (ended .rec .held .holder) ≡ 80
   unfolding closing released
   ended-table = length-map (d .rec .held .holder) _ ∙ k .table
 

@@ -11,13 +11,14 @@ use lib.Dec.{leb, eqb}
 use lib.ListN.{length, getD, set}
 use lib.Seq.{getD-set-other}
 use Rattle.lists.specs.Change.{Change, takeList, putFirst, putAfter, write, delBlock, delList}
+use Rattle.lists.specs.InUse.{listNumber}
 use Rattle.lists.proofs.Basic.{and-true, leb-true}
 use Rattle.log.specs.Card.{Written}
 use Rattle.disk.specs.Record.{Unit, Record, noUnit, freshUnit, freshRecord, unitAt, emptied, journaled}
 use Rattle.disk.specs.Disk.{Disk, unitOf, journalOf}
 use Rattle.disk.specs.Call.{Call, format, mount, conflictCount, onStream, inView, begin, end, flush, ends, resets}
 use Rattle.disk.specs.Questions.{questions, refusal}
-use Rattle.disk.specs.Perform.{enqueue, enqueueAll, journalAdd, change, hold, gaveBlock, gaveList, noted, streamFor, made, numberGiven, changeFor, opening, closing, conflicted, unitEntries, afterFlush, accepted, refused, perform}
+use Rattle.disk.specs.Perform.{enqueue, enqueueAll, journalAdd, change, hold, gaveBlock, gaveList, noted, made, numberGiven, changeFor, opening, closing, conflicted, unitEntries, afterFlush, accepted, refused, perform}
 use Rattle.disk.proofs.Clauses.{right}
 use Rattle.disk.proofs.Performing.{perform-accepted, perform-refused}
 use Rattle.disk.proofs.Questions.{yes-all}
@@ -52,7 +53,7 @@ hold-window (suc v) b d u = refl
 
 noted-window : (s : ℕ) (c : Change Written) (d : Disk) (u : ℕ) → unitOf (noted s c d) u .window ≡ unitOf d u .window
 unfolding noted gaveBlock gaveList unitOf
-noted-window s (takeList l) d u = refl
+noted-window s (takeList l) d u = hold-window s (listNumber l) d u
 noted-window s (putFirst b l) d u = hold-window s b d u
 noted-window s (putAfter b l p) d u = hold-window s b d u
 noted-window s (write b x) d u = refl
@@ -61,7 +62,7 @@ noted-window s (delList l) d u = refl
 
 made-window : (s : ℕ) (c : Change Written) (d : Disk) (u : ℕ) → unitOf (made s c d) u .window ≡ unitOf d u .window
 unfolding made
-made-window s c d u = noted-window s c (change (streamFor s c) c d) u ∙ change-window (streamFor s c) c d u
+made-window s c d u = noted-window s c (change s c d) u ∙ change-window s c d u
 
 -- it is 0, or as it was
 abbrev pub Stays : Disk → Disk → ℕ → Type 0

@@ -10,7 +10,7 @@ use Rattle.log.specs.Card.{Content, Written, countOffset}
 use Rattle.log.specs.Flush.{Ending, drained, spent}
 use Rattle.disk.specs.Record.{freshRecord, withFlow}
 use Rattle.disk.specs.Disk.{Disk, queued}
-use Rattle.disk.specs.Call.{newList, newBlock, writeBlock, deleteBlock, readBlock, blockAfter, Call, format, mount, conflictCount, onStream, inView, begin, end, flush}
+use Rattle.disk.specs.Call.{newList, newBlock, writeBlock, deleteBlock, readBlock, blockAfter, inventory, Call, format, mount, conflictCount, onStream, inView, begin, end, flush}
 use Rattle.disk.specs.Perform.{Result, perform, performAll, endingNumber}
 
 -- A step of a run, with what must come of it: a call, answered by its code, its two results and the lent bytes that it leaves; a look at the
@@ -67,6 +67,10 @@ readsRaced b n r x = call (inView 5 (readBlock b untouched)) (n ∷ r ∷ 0 ∷ 
 
 abbrev reads : ℕ → ℕ → Content → Step
 reads b n x = readsRaced b n 0 x
+
+-- the lists of view v, in the inventory's order
+abbrev lists : ℕ → List ℕ → Step
+lists v ls = call (inView v (inventory (replicate 16 9))) (0 ∷ length ls ∷ 0 ∷ ls ++ drop (length ls) (replicate 16 9))
 
 abbrev run : Disk → List Step → Run
 run d ss = record { start = d; steps = ss }
@@ -137,6 +141,15 @@ runs =
     ∷ run stored (accepts (onStream 0 (writeBlock 1 24 ascending)) ∷ flushes 65535 261 drained ∷ summary (4 ∷ 2 ∷ 1 ∷ 3 ∷ 1 ∷ 1 ∷ 9 ∷ 1 ∷ 0 ∷ 73 ∷ 1 ∷ 1 ∷ 24 ∷ []) ∷ accepts mount ∷ readsRaced 1 0 24 ascending ∷ [])
     -- P "maps 73 and 201 become legal"; "A race above 24 in a call is refused 5."
     ∷ run stored (accepts (begin 1 1) ∷ refuses (onStream 1 (writeBlock 1 25 seven)) 5 ∷ accepts (onStream 1 (writeBlock 1 24 seven)) ∷ accepts (end 1) ∷ queue (201 ∷ 1 ∷ 0 ∷ 24 ∷ 16 ∷ 1 ∷ []) ∷ [])
+    -- "NewList inside a unit is journalled like everything else", its number "held by the unit and so free for no stream", "and only that unit's view has the
+    -- list. An accepted End takes it, and E3's order counts from then"
+    ∷ run stored (
+    accepts (begin 1 1) ∷ gives (onStream 1 newList) 2 ∷ gives (onStream 0 newList) 3 ∷ gives (onStream 1 (newBlock 2 0)) 2 ∷ refuses (onStream 0 (newBlock 2 0)) 7
+    ∷ lists 1 (1 ∷ 3 ∷ 2 ∷ []) ∷ lists 0 (1 ∷ 3 ∷ []) ∷ accepts (end 1) ∷ queue (2 ∷ 3 ∷ 130 ∷ 2 ∷ 131 ∷ 2 ∷ 2 ∷ 16 ∷ 2 ∷ []) ∷ lists 0 (1 ∷ 3 ∷ 2 ∷ []) ∷ [])
+    -- "A lost unit leaves it in no view"
+    ∷ run stored (
+    accepts (begin 1 1) ∷ gives (onStream 1 newList) 2 ∷ accepts (onStream 1 (deleteBlock 1)) ∷ accepts (onStream 0 (deleteBlock 1)) ∷ refuses (end 1) 12
+    ∷ lists 0 (1 ∷ []) ∷ queue (33 ∷ 1 ∷ []) ∷ [])
     ∷ []
 
 -- each step of each run comes out as it must

@@ -1,5 +1,5 @@
 -- What each call answers, and all that it leaves: of the record, of the card, of both data buffers and of the lent destination.
-use mathlib.Core.Bool.{Bool, true, false, cond}
+use mathlib.Core.Bool.{true, false}
 use mathlib.Core.Option.{Option, none, some}
 use mathlib.Core.List.{List, [], _∷_, _++_, map}
 use Prim.Native.Nat.{ℕ, zero, suc, _+_, _-_, _*_, _/_, _%_, min}
@@ -8,9 +8,10 @@ use lib.ListN.{length, drop, take, set}
 use Rattle.lists.specs.Basic.{orElse}
 use Rattle.lists.specs.Change.{Change, takeList, putFirst, putAfter, write, delBlock, delList, carriedBy}
 use Rattle.lists.specs.State.{State}
+use Rattle.lists.specs.InUse.{listNumber}
 use Rattle.lists.specs.Lookup.{contentOf, nextAfter, listNums}
 use Rattle.log.specs.Raced.{raced}
-use Rattle.log.specs.Entry.{Entry, plain, member, commit, carried, hasMember}
+use Rattle.log.specs.Entry.{Entry, plain, member, commit, carried}
 use Rattle.log.specs.Cell.{cellOf}
 use Rattle.log.specs.Card.{Written, slotBytes, segmentsIn, Outcome, sound, fault, mounted, splice}
 use Rattle.log.specs.Store.{doStores, formatStores, tail}
@@ -68,9 +69,9 @@ journalAdd u c d =
 unfoldable pub change : ℕ → Change Written → Disk → Disk
 change s c d = elim s [ zero ↦ enqueue (plain c) d | suc u ↦ journalAdd (suc u) c d ]
 
--- "A block made in a unit is held by it until it ends."
+-- "A block made in a unit is held by it until it ends."; of a list that NewList gives inside a unit "the number is held by the unit"
 unfoldable pub hold : ℕ → ℕ → Disk → Disk
-hold s b d = elim s [ zero ↦ d | suc u ↦ withRecord d (holding b (suc u) (d .rec)) ]
+hold s n d = elim s [ zero ↦ d | suc u ↦ withRecord d (holding n (suc u) (d .rec)) ]
 
 unfoldable pub gaveBlock : ℕ → Disk → Disk
 gaveBlock b d = withRecord d (withLastBlock (d .rec) b)
@@ -80,20 +81,16 @@ gaveList l d = withRecord d (withLastList (d .rec) l)
 
 -- what the record notes of a number given with a change
 unfoldable pub noted : ℕ → Change Written → Disk → Disk
-noted s (takeList l) d = gaveList l d
+noted s (takeList l) d = gaveList l (hold s (listNumber l) d)
 noted s (putFirst b l) d = gaveBlock b (hold s b d)
 noted s (putAfter b l p) d = gaveBlock b (hold s b d)
 noted s (write b x) d = d
 noted s (delBlock b) d = d
 noted s (delList l) d = d
 
--- NewList "always queues a plain entry, inside a unit too": so goes what has no member map
-unfoldable pub streamFor : ℕ → Change Written → ℕ
-streamFor s c = cond (hasMember c) s 0
-
--- a change that comes on a stream
+-- a change that comes on a stream; "NewList inside a unit is journalled like everything else"
 unfoldable pub made : ℕ → Change Written → Disk → Disk
-made s c d = noted s c (change (streamFor s c) c d)
+made s c d = noted s c (change s c d)
 
 -- put first where the predecessor is 0
 unfoldable pub putAt : ℕ → ℕ → ℕ → Change Written

@@ -7,6 +7,7 @@ use lib.Dec.{leb, eqb, ltb}
 use lib.ListN.{length}
 use Rattle.lists.specs.Basic.{isSome}
 use Rattle.lists.specs.State.{Row, State, taken, placed, onList, applyAll}
+use Rattle.lists.specs.InUse.{listNumber}
 use Rattle.lists.specs.Lookup.{written}
 use Rattle.log.specs.Entry.{isBlock, isList, isRace}
 use Rattle.log.specs.Card.{Written, slotBytes, mounted}
@@ -44,9 +45,11 @@ freeBlock d =
     let s = committed d in
     freeFrom (λ b. placed b (s .lists) || not (eqb (holderOf (d .rec) b) 0)) 64 64 (d .rec .tally .lastBlock)
 
--- "NewList likewise with 16 (free: not taken in the committed state)"
+-- "NewList likewise with 16 (free: not taken in the committed state)"; "the number is held by the unit and so free for no stream"
 unfoldable pub freeList : Disk → Option ℕ
-freeList d = let s = committed d in freeFrom (λ l. taken l (s .lists)) 16 16 (d .rec .tally .lastList)
+freeList d =
+    let s = committed d in
+    freeFrom (λ l. taken l (s .lists) || not (eqb (holderOf (d .rec) (listNumber l)) 0)) 16 16 (d .rec .tally .lastList)
 
 -- "11. Has the journal fewer than 15?" (streams 1 to 4)
 unfoldable pub journalRoom : Disk → ℕ → Bool
@@ -66,7 +69,8 @@ streamRoom d s = not (eqb s 0) || queueRoom d 1
 
 -- what an edit asks behind question 4; "A change is judged in the view of its stream's number."
 unfoldable pub editQuestions : ℕ → Edit → Disk → List (ℕ × Bool)
-editQuestions s newList d = (10, isSome (freeList d)) ∷ (13, queueRoom d 1) ∷ []
+-- "For this call on streams 1 to 4, 11 can be met and 13 cannot."
+editQuestions s newList d = (10, isSome (freeList d)) ∷ (11, journalRoom d s) ∷ (13, streamRoom d s) ∷ []
 editQuestions s (newBlock l p) d =
     (5, isList l && leb p 64) ∷ (7, taken l (view d s .lists)) ∷ (9, predecessorRight (view d s .lists) l p)
     ∷ (10, isSome (freeBlock d)) ∷ (11, journalRoom d s) ∷ (13, streamRoom d s) ∷ []

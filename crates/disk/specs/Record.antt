@@ -5,6 +5,7 @@ use Prim.Native.Nat.{ℕ, _+_, _-_, _*_, _%_, min}
 use lib.Dec.{eqb}
 use lib.ListN.{length, getD, set, replicate}
 use Rattle.lists.specs.Basic.{from}
+use Rattle.lists.specs.InUse.{numberCount}
 use Rattle.log.specs.Cell.{Cell, cell}
 
 -- "units 1 to 4, [..] 15 entries in a unit's journal, 32 in the queue"
@@ -34,7 +35,7 @@ pub record Ring : Type 0 where
   pub len : ℕ
   pub done : ℕ
 
--- the units, and the unit that holds each block, 0 for none
+-- the units, and the unit that holds each number, block or list, 0 for none
 pub record Held : Type 0 where
   pub units : List Unit
   pub holder : List ℕ
@@ -53,7 +54,7 @@ pub record Record : Type 0 where
 abbrev pub unit : ℕ → ℕ → List Cell → Unit
 unit w n j = record { window = w; len = n; journal = j }
 
--- "Every call is lent card, queue data, journal data and record.": the record in 478 bytes. Cells of four bytes, and bytes, from byte a on, n of them:
+-- "Every call is lent card, queue data, journal data and record.": the record in 494 bytes. Cells of four bytes, and bytes, from byte a on, n of them:
 unfoldable pub cellsIn : List ℕ → ℕ → ℕ → List Cell
 cellsIn bs a n = from (λ k. cell (getD bs (a + 4 * k) 0) (getD bs (a + 4 * k + 1) 0) (getD bs (a + 4 * k + 2) 0) (getD bs (a + 4 * k + 3) 0)) 0 n
 
@@ -74,9 +75,9 @@ unitIn bs i = unit (getD bs (368 + i) 0) (getD bs (372 + i) 0) (cellsIn bs (128 
 -- what the bytes mean; each of them stands for a part, or for half of one
 unfoldable pub recordIn : List ℕ → Record
 recordIn bs = record {
-  ring = record { queue = cellsIn bs 0 queuePlaces; head = getD bs 440 0; len = getD bs 441 0; done = pairIn bs 442 };
-  held = record { units = from (unitIn bs) 0 unitCount; holder = bytesIn bs 376 64 };
-  tally = record { lastBlock = getD bs 444 0; lastList = getD bs 445 0; conflicts = pairsIn bs 446 windowCount };
+  ring = record { queue = cellsIn bs 0 queuePlaces; head = getD bs 456 0; len = getD bs 457 0; done = pairIn bs 458 };
+  held = record { units = from (unitIn bs) 0 unitCount; holder = bytesIn bs 376 numberCount };
+  tally = record { lastBlock = getD bs 460 0; lastList = getD bs 461 0; conflicts = pairsIn bs 462 windowCount };
 }
 
 -- what stands in a place that holds nothing, and past the end of the units
@@ -95,7 +96,7 @@ unfoldable pub freshRecord : Record
 unfolding freshUnit
 freshRecord = record {
   ring = record { queue = replicate queuePlaces noCell; head = 0; len = 0; done = 0 };
-  held = record { units = replicate unitCount freshUnit; holder = replicate 64 0 };
+  held = record { units = replicate unitCount freshUnit; holder = replicate numberCount 0 };
   tally = record { lastBlock = 64; lastList = 16; conflicts = replicate windowCount 0 };
 }
 
@@ -109,9 +110,9 @@ unitAt r u = getD (r .held .units) (u - 1) noUnit
 abbrev pub isOpen : Unit → Bool
 isOpen x = not (eqb (x .window) 0)
 
--- the unit that holds block b, or 0
+-- the unit that holds number n, or 0
 abbrev pub holderOf : Record → ℕ → ℕ
-holderOf r b = getD (r .held .holder) (b - 1) 0
+holderOf r n = getD (r .held .holder) (n - 1) 0
 
 -- window w's conflict count
 abbrev pub countOf : Record → ℕ → ℕ
@@ -120,7 +121,7 @@ countOf r w = getD (r .tally .conflicts) (w - 1) 0
 -- the lists are as long as those of every record that bytes mean
 unfoldable pub shaped : Record → Bool
 shaped r =
-    eqb (length (r .ring .queue)) queuePlaces && eqb (length (r .held .units)) unitCount && eqb (length (r .held .holder)) 64
+    eqb (length (r .ring .queue)) queuePlaces && eqb (length (r .held .units)) unitCount && eqb (length (r .held .holder)) numberCount
     && eqb (length (r .tally .conflicts)) windowCount
     && eqb (length (unitAt r 1 .journal)) journalPlaces && eqb (length (unitAt r 2 .journal)) journalPlaces
     && eqb (length (unitAt r 3 .journal)) journalPlaces && eqb (length (unitAt r 4 .journal)) journalPlaces
@@ -163,9 +164,9 @@ journalGrown u e r = withHeld r (set (r .held .units) (u - 1) (journaled (unitAt
 abbrev pub unitTurned : ℕ → ℕ → Record → Record
 unitTurned w u r = withHeld r (set (r .held .units) (u - 1) (emptied w (unitAt r u))) (r .held .holder)
 
--- block b held by unit u; what unit u holds released
+-- number n held by unit u; what unit u holds released
 abbrev pub holding : ℕ → ℕ → Record → Record
-holding b u r = withHeld r (r .held .units) (set (r .held .holder) (b - 1) u)
+holding n u r = withHeld r (r .held .units) (set (r .held .holder) (n - 1) u)
 
 abbrev pub releasing : ℕ → Record → Record
 releasing u r = withHeld r (r .held .units) (released u (r .held .holder))

@@ -5,8 +5,8 @@ use Prim.Native.Nat.{ℕ, _/_}
 use lib.Dec.{leb, eqb, ltb}
 use lib.ListN.{length}
 use Rattle.lists.specs.Basic.{isSome, all, each, from}
-use Rattle.lists.specs.Change.{Change, takeList, putFirst, putAfter, write, delBlock, delList}
-use Rattle.lists.specs.State.{placed}
+use Rattle.lists.specs.Change.{Change}
+use Rattle.lists.specs.InUse.{numberCount, inUse, brings}
 use Rattle.log.specs.Entry.{Entry, member, raw, legal, isBlock, isList}
 use Rattle.log.specs.Card.{Written, cardLength, segmentsIn}
 use Rattle.log.specs.Store.{home, tail, headAt}
@@ -20,18 +20,9 @@ lengthsRight d = cardLength (d .card) && eqb (length (d .queueData)) 8192 && eqb
 unfoldable pub isOpenUnit : Disk → ℕ → Bool
 isOpenUnit d u = leb 1 u && leb u unitCount && isOpen (unitOf d u)
 
--- the block that a change puts
-unfoldable pub putBy : {D : Type 0} → Change D → List ℕ
-putBy (takeList l) = []
-putBy (putFirst b l) = b ∷ []
-putBy (putAfter b l p) = b ∷ []
-putBy (write b d) = []
-putBy (delBlock b) = []
-putBy (delList l) = []
-
--- "each block a journal puts held by that unit, journals only of kinds that have a member map"
+-- "each block a journal puts held by that unit, journals only of kinds that have a member map", "each list a journal takes is held by that unit"
 unfoldable pub journalSound : Record → ℕ → Change Written → Bool
-journalSound r u c = legal (raw 0 (member c)) && all (λ b. eqb (holderOf r b) u) (putBy c)
+journalSound r u c = legal (raw 0 (member c)) && all (λ n. eqb (holderOf r n) u) (brings c)
 
 -- "counts [..] in range, closed units with empty journals"; the window of an open unit is one of 1 to 16
 unfoldable pub unitSound : Disk → ℕ → Bool
@@ -42,9 +33,10 @@ unitSound d u =
     ∷ all (journalSound (d .rec) u) (journalOf d u)
     ∷ [])
 
--- "[closed units with] nothing held", "held blocks on no committed list and held once": the table names one holder for each block
+-- "[closed units with] nothing held", "held blocks on no committed list and held once", "A held list number is not taken in the committed state and is
+-- held once": the table names one holder for each number
 unfoldable pub holderSound : Disk → ℕ → Bool
-holderSound d b = eqb (holderOf (d .rec) b) 0 || isOpenUnit d (holderOf (d .rec) b) && not (placed b (committed d .lists))
+holderSound d n = eqb (holderOf (d .rec) n) 0 || isOpenUnit d (holderOf (d .rec) n) && not (inUse n (committed d .lists))
 
 -- "stores already done of the head (none if it has no place) standing on the card": k of them are done
 unfoldable pub headStanding : List ℕ → ℕ → List (Entry Written) → Bool
@@ -63,5 +55,5 @@ recordSound d =
     ∷ all (unitSound d) (from (λ u. u) 1 unitCount)
     ∷ isSome (committedReader d)
     ∷ headStanding (d .card) (r .ring .done) (queued d)
-    ∷ all (holderSound d) (from (λ b. b) 1 64)
+    ∷ all (holderSound d) (from (λ n. n) 1 numberCount)
     ∷ [])

@@ -1,22 +1,23 @@
 -- What document 01 says of records, flushes and formattings beside the calls' promises: statements, each proved under its own name in proofs.
 use mathlib.Core.Path.{_≡_}
 use mathlib.Core.Logic.{_⊎_, _≢_}
-use mathlib.Core.Bool.{true, _&&_, cond}
+use mathlib.Core.Bool.{true, false, _&&_, cond}
 use mathlib.Core.Option.{none, some}
 use mathlib.Core.List.{List}
 use Prim.Native.Nat.{ℕ, _+_, _-_, _≤_, _<_, min}
 use lib.Dec.{eqb}
 use lib.ListN.{length, getD, take, drop}
+use Rattle.lists.specs.InUse.{listNumber, inUse}
 use Rattle.lists.specs.Lookup.{listNums}
 use Rattle.log.specs.Card.{cardLength, segmentsIn, count}
 use Rattle.log.specs.Store.{Store, doStores}
 use Rattle.log.specs.Flush.{rest}
 use Rattle.log.specs.Turns.{Steps, Clears}
 use Rattle.listing.specs.Page.{pageText, pageMost}
-use Rattle.disk.specs.Record.{recordIn, countOf}
-use Rattle.disk.specs.Disk.{Disk, unitOf, queued, view}
+use Rattle.disk.specs.Record.{recordIn, holderOf, countOf}
+use Rattle.disk.specs.Disk.{Disk, unitOf, queued, committed, view}
 use Rattle.disk.specs.Sound.{lengthsRight, recordSound}
-use Rattle.disk.specs.Call.{inventory, page, Call, inView, flush, ends, resets}
+use Rattle.disk.specs.Call.{Edit, newList, inventory, page, Call, onStream, inView, end, flush, ends, resets}
 use Rattle.disk.specs.Questions.{viewOpen, isWindow, refusal}
 use Rattle.disk.specs.Perform.{flowOf, flushed, formatted, perform}
 
@@ -31,7 +32,7 @@ abbrev pub IsBytes : List ℕ → Type 0
 IsBytes bs = (i : ℕ) → getD bs i 0 < 256
 
 abbrev pub RecordFixed : Type 0
-RecordFixed = (bs cs : List ℕ) → length bs ≡ 478 → length cs ≡ 478 → IsBytes bs → IsBytes cs → recordIn bs ≡ recordIn cs → bs ≡ cs
+RecordFixed = (bs cs : List ℕ) → length bs ≡ 494 → length cs ≡ 494 → IsBytes bs → IsBytes cs → recordIn bs ≡ recordIn cs → bs ≡ cs
 
 -- "the inventory, which fills 16 lent bytes with the lists taken in a view, [..] other bytes unchanged, and returns how many": n of them, ls in their
 -- order, in the destination y, which held x
@@ -117,3 +118,25 @@ countAfter c n d w =
 -- whatever the call and the disk
 abbrev pub CountsMove : Type 0
 CountsMove = (c : Call) (d : Disk) (w : ℕ) → isWindow w ≡ true → let r = perform c d in countOf (r .disk .rec) w ≡ countAfter c (r .answer .code) d w
+
+-- "the number is held by the unit and so free for no stream": what NewList gives, on whatever stream, no unit held and the committed state had not taken;
+-- inside a unit the unit holds it then
+abbrev pub ListGiven : Type 0
+ListGiven =
+    (s : ℕ) (d : Disk) → refusal (onStream s newList) d ≡ 0
+    → let r = perform (onStream s newList) d in let n = listNumber (r .answer .value) in
+    (holderOf (d .rec) n ≡ 0) × (inUse n (committed d .lists) ≡ false) × (holderOf (r .disk .rec) n ≡ s)
+
+-- and so until the unit ends, whatever it deletes: no other call, accepted or refused, releases a number, block or list, but one that sets the record anew
+abbrev pub HeldUntilEnd : Type 0
+HeldUntilEnd =
+    (c : Call) (d : Disk) (n : ℕ) → let u = holderOf (d .rec) n in
+    u ≢ 0 → resets c ≡ false → ends c ≢ some u → holderOf (perform c d .disk .rec) n ≡ u
+
+-- "only that unit's view has the list": what comes in unit u changes no other open view
+abbrev pub UnitApart : Type 0
+UnitApart = (u : ℕ) (e : Edit) (d : Disk) → u ≢ 0 → (v : ℕ) → u ≢ v → viewOpen d v ≡ true → view (perform (onStream u e) d .disk) v ≡ view d v
+
+-- "A lost unit leaves it in no view": nor does a unit that is refused 12; a unit lost with the power: crash/specs/LostUnit
+abbrev pub ConflictApart : Type 0
+ConflictApart = (u : ℕ) (d : Disk) → refusal (end u) d ≡ 12 → (v : ℕ) → u ≢ v → viewOpen d v ≡ true → view (perform (end u) d .disk) v ≡ view d v

@@ -9,6 +9,7 @@ use crate::record::LAST_BLOCK;
 use crate::record::LAST_LIST;
 use crate::record::LEN;
 use crate::record::LENGTHS;
+use crate::record::NUMBERS;
 use crate::record::RECORD;
 use crate::record::Record;
 use crate::record::UNIT_WINDOWS;
@@ -29,11 +30,9 @@ ghost use Rattle.log.specs.Cell.{cellOf};
 ghost use Rattle.disk.specs.Record.{recordIn, unitAt, withFlow, withLastBlock, withLastList, appended, journalGrown, unitTurned, holding, releasing, conflictCounted, freshRecord};
 ghost use Rattle.disk.specs.promises.Bytes.{cellSet};
 
-const BLOCKS: usize = LogEntry::BLOCKS as usize;
-
 // Nothing is done, and the compiler drops the copy: how long an array is the proof learns of a value, not of a reference.
 fn sized(rec: [u8; RECORD])
-    ensures { λ r. ⌜ length rec ≡ 478 ⌝ }
+    ensures { λ r. ⌜ length rec ≡ 494 ⌝ }
 {}
 
 // The four bytes of an entry, from byte i on.
@@ -71,13 +70,13 @@ pub fn journal(rec: &mut [u8; RECORD], u: usize, entry: LogEntry)
     rec[LENGTHS + i] = (n + 1) as u8;
 }
 
-// Block b held by unit u.
-pub fn hold(rec: &mut [u8; RECORD], b: usize, u: u8)
-    requires { ⌜ (1 ≤ b) × (b ≤ 64) ⌝ }
-    ensures { λ r. ⌜ recordIn (now (rec .exit)) ≡ holding b u (recordIn (now (rec .entry))) ⌝ }
+// Number n held by unit u.
+pub fn hold(rec: &mut [u8; RECORD], n: usize, u: u8)
+    requires { ⌜ (1 ≤ n) × (n ≤ 80) ⌝ }
+    ensures { λ r. ⌜ recordIn (now (rec .exit)) ≡ holding n u (recordIn (now (rec .entry))) ⌝ }
 {
     sized(*rec);
-    rec[HOLDERS + (b - 1)] = u;
+    rec[HOLDERS + (n - 1)] = u;
 }
 
 // Unit u open for a window, or closed where that is 0, its journal emptied.
@@ -150,7 +149,7 @@ pub fn release(rec: &mut [u8; RECORD], u: u8)
 {
     sized(*rec);
     let mut i = 0;
-    while i < BLOCKS {
+    while i < NUMBERS {
         rec[HOLDERS + i] = freed(rec[HOLDERS + i], u);
         i += 1;
     }

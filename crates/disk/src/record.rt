@@ -7,9 +7,9 @@
 //     128   journals: JOURNAL cells for each unit
 //     368   the window that the unit's Begin named, 0 where it is closed: a byte for each
 //     372   entries in its journal: a byte for each unit
-//     376   the unit that holds the block, 0 for none: a byte for each block
-//     440   the queue's head, then its length; stores done of the head, two bytes; block and list given last
-//     446   conflicts counted for the window: two bytes for each
+//     376   the unit that holds the number, 0 for none: a byte for each block, then for each list
+//     456   the queue's head, then its length; stores done of the head, two bytes; block and list given last
+//     462   conflicts counted for the window: two bytes for each
 use lists::tables::of_bytes;
 use log::cell::entry_in;
 use log::entry::LogEntry;
@@ -17,11 +17,12 @@ use log::map;
 ghost use mathlib.Core.Path.{_≡_};
 ghost use Prim.Native.Nat.{_<_, _≤_};
 ghost use lib.ListN.{getD};
+ghost use Rattle.lists.specs.InUse.{listNumber};
 ghost use Rattle.log.specs.Cell.{memberIn, entryIn};
 ghost use Rattle.disk.specs.Record.{recordIn, noCell, unitAt, isOpen, holderOf, countOf, freshRecord};
 
 // How many bytes a record has.
-pub const RECORD: usize = 478;
+pub const RECORD: usize = 494;
 
 pub const CELL: usize = 4;
 
@@ -33,21 +34,22 @@ pub const LENGTHS: usize = 372;
 
 pub const HOLDERS: usize = 376;
 
-pub const HEAD: usize = 440;
+pub const HEAD: usize = 456;
 
-pub const LEN: usize = 441;
+pub const LEN: usize = 457;
 
-pub const DONE: usize = 442;
+pub const DONE: usize = 458;
 
-pub const LAST_BLOCK: usize = 444;
+pub const LAST_BLOCK: usize = 460;
 
-pub const LAST_LIST: usize = 445;
+pub const LAST_LIST: usize = 461;
 
-pub const COUNTS: usize = 446;
+pub const COUNTS: usize = 462;
 
-const BLOCKS: usize = LogEntry::BLOCKS as usize;
+// Blocks and lists are held by their numbers: 1 to BLOCKS, then the lists.
+pub const NUMBERS: usize = (LogEntry::BLOCKS + LogEntry::LISTS) as usize;
 
-// The holder of a block that no unit holds.
+// The holder of a number that no unit holds.
 const NOBODY: u8 = 0;
 
 // A unit's journal.
@@ -161,12 +163,20 @@ pub fn journal_len(rec: &[u8; RECORD], u: usize) -> usize
     wide(rec[LENGTHS + (u - 1)])
 }
 
-// The unit that holds a block; 0 for a number past the holders.
-pub fn holder_of(rec: &[u8; RECORD], block: u8) -> u8
-    ensures { λ r. ⌜ r ≡ holderOf (recordIn (now (rec .entry))) block ⌝ }
+// The number of a list.
+pub fn list_number(list: u8) -> u8
+    requires { ⌜ list ≤ 16 ⌝ }
+    ensures { λ r. ⌜ r ≡ listNumber list ⌝ }
 {
-    let i = if block == 0 { 0 } else { block as usize - 1 };
-    if i < BLOCKS {
+    LogEntry::BLOCKS + list
+}
+
+// The unit that holds a number; 0 past the holders.
+pub fn holder_of(rec: &[u8; RECORD], number: u8) -> u8
+    ensures { λ r. ⌜ r ≡ holderOf (recordIn (now (rec .entry))) number ⌝ }
+{
+    let i = if number == 0 { 0 } else { number as usize - 1 };
+    if i < NUMBERS {
         return rec[HOLDERS + i];
     }
     NOBODY

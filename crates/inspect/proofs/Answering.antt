@@ -3,12 +3,13 @@ use mathlib.Core.Path.{_≡_, refl, sym, ap, _∙_}
 use mathlib.Core.Bool.{Bool, true, false, _&&_}
 use mathlib.Core.Option.{Option, none, some, Option·map}
 use mathlib.Core.List.{List, [], _∷_, _++_, map}
-use Prim.Native.Nat.{ℕ, zero, suc}
+use Prim.Native.Nat.{ℕ, zero, suc, _-_}
 use lib.Dec.{leb, ltb}
 use Rattle.lists.specs.Basic.{isSome, all, each, from}
 use Rattle.lists.specs.Change.{Change, takeList, putFirst, putAfter, write, delBlock, delList, mapChange}
-use Rattle.lists.specs.State.{mapRow}
-use Rattle.lists.proofs.Naturality.{placed-map}
+use Rattle.lists.specs.State.{Row, mapRow}
+use Rattle.lists.specs.InUse.{numberCount, inUse, brings}
+use Rattle.lists.proofs.Naturality.{taken-map, placed-map}
 use Rattle.log.specs.Raced.{Raced, withBody}
 use Rattle.log.specs.Entry.{member, raw, legal, mapEntry, isBlock, isList}
 use Rattle.log.specs.Reader.{Reader, replay}
@@ -17,7 +18,7 @@ use Rattle.log.specs.promises.Location.{cardNumber}
 use Rattle.log.proofs.Naturality.{mapReader, raw-map}
 use Rattle.disk.specs.Record.{Record, shaped, unitAt, ringPlace, unitCount}
 use Rattle.disk.specs.Disk.{Disk, disk, unitOf, queuedAt, queued, journalPlace, journalAt, journalOf, readerOf, committedReader, stateOf, committed}
-use Rattle.disk.specs.Sound.{isOpenUnit, putBy, journalSound, unitSound, holderSound, headStanding, recordSound}
+use Rattle.disk.specs.Sound.{isOpenUnit, journalSound, unitSound, holderSound, headStanding, recordSound}
 use Rattle.inspect.specs.promises.Located.{contents, queuedSaid, queueSaid, queueHere}
 use Rattle.inspect.specs.promises.Clauses.{numbersRight, changeRight, changeIn, unitRight, unitsRight, openUnit, holderRight, holdersRight, lawful, rowsOf, settledRight}
 use Rattle.inspect.specs.promises.Inspect.{behindLog}
@@ -50,18 +51,18 @@ turned true true true true false = refl
 turned true true true true true = refl
 
 -- The units.
-putBy-map : {D E : Type 0} (f : D → E) (c : Change D) → putBy (mapChange f c) ≡ putBy c
-unfolding putBy mapChange
-putBy-map f (takeList l) = refl
-putBy-map f (putFirst b l) = refl
-putBy-map f (putAfter b l p) = refl
-putBy-map f (write b d) = refl
-putBy-map f (delBlock b) = refl
-putBy-map f (delList l) = refl
+brings-map : {D E : Type 0} (f : D → E) (c : Change D) → brings (mapChange f c) ≡ brings c
+unfolding mapChange
+brings-map f (takeList l) = refl
+brings-map f (putFirst b l) = refl
+brings-map f (putAfter b l p) = refl
+brings-map f (write b d) = refl
+brings-map f (delBlock b) = refl
+brings-map f (delList l) = refl
 
 change-is : (r : Record) (u : ℕ) (x : Content) (c : Change (Raced ℕ)) → journalSound r u (mapChange (withBody x) c) ≡ changeRight (r .held .holder) u c
 unfolding journalSound changeRight mapEntry
-change-is r u x c = rw (putBy-map (withBody x) c, ← raw-map (withBody x) (λ s. refl) 0 (member c), mapEntry)
+change-is r u x c = rw (brings-map (withBody x) c, ← raw-map (withBody x) (λ s. refl) 0 (member c), mapEntry)
 
 module _ (d : Disk) where
   unit-is : (u : ℕ) → unitSound d u ≡ unitRight (d .rec .held .holder) (unitAt (d .rec) u) u
@@ -83,7 +84,7 @@ module _ (d : Disk) where
       let u = all (unitSound d) (from (λ u. u) 1 unitCount) in
       let s = isSome (committedReader d) in
       let k = headStanding (d .card) (r .ring .done) (queued d) in
-      let o = all (holderSound d) (from (λ b. b) 1 64) in
+      let o = all (holderSound d) (from (λ n. n) 1 numberCount) in
       let ns = leb (r .ring .len) 32 ∷ ltb (r .ring .head) 32 ∷ isBlock (r .tally .lastBlock) ∷ isList (r .tally .lastList) ∷ [] in
       ap (λ (b : Bool). b && each (ns ++ l ∷ u ∷ s ∷ k ∷ o ∷ [])) h
       ∙ each-append ns (l ∷ u ∷ s ∷ k ∷ o ∷ [])
@@ -117,13 +118,17 @@ module _ (d : Disk) where
     unfolding committed
     rows-is = ap (λ (p : Option (Reader Written)). stateOf p .lists) (committed-here d x w l) ∙ rows-of o
 
+    used-map : (n : ℕ) (rs : List (Row ℕ)) → inUse n (map (mapRow (contents d)) rs) ≡ inUse n rs
+    unfolding inUse
+    used-map n rs = rw (placed-map (contents d) n rs, taken-map (contents d) (n - 64) rs)
+
     holder-is : (b : ℕ) → holderSound d b ≡ holderRight (d .rec) (rowsOf o) b
     unfolding holderSound holderRight isOpenUnit openUnit unitOf
-    holder-is b = rw (rows-is, placed-map (contents d) b (rowsOf o))
+    holder-is b = rw (rows-is, used-map b (rowsOf o))
 
-    holders-is : all (holderSound d) (from (λ b. b) 1 64) ≡ holdersRight (d .rec) (rowsOf o)
+    holders-is : all (holderSound d) (from (λ n. n) 1 numberCount) ≡ holdersRight (d .rec) (rowsOf o)
     unfolding holdersRight
-    holders-is = all-same (holderSound d) (holderRight (d .rec) (rowsOf o)) (λ b. b) (λ b. b) 1 64 holder-is
+    holders-is = all-same (holderSound d) (holderRight (d .rec) (rowsOf o)) (λ n. n) (λ n. n) 1 numberCount holder-is
 
     queued-is : queued d ≡ queued (disk (d .card) (d .queueData) [] (d .rec))
     unfolding queued queuedAt

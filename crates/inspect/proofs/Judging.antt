@@ -1,7 +1,7 @@
 -- A loop that tests one element after the other; what the tests of units and holders say of the record's clauses.
 use mathlib.Core.Path.{_≡_, refl, sym, ap, _∙_}
 use mathlib.Core.Logic.{_≢_, inl, inr}
-use mathlib.Core.Bool.{Bool, true, false, _&&_}
+use mathlib.Core.Bool.{Bool, true, false, _&&_, false≢true}
 use mathlib.Core.List.{List, [], _∷_}
 use Prim.Native.Nat.{ℕ, _+_, _-_, _≤_, _<_}
 use native.Mathlib.Omega.{arith}
@@ -10,16 +10,16 @@ use lib.ListN.{getD}
 use denote.Enum.Declared.{tagOf}
 use types.Run.{OneOf}
 use Rattle.lists.specs.Basic.{all, each, from}
-use Rattle.lists.specs.Change.{Change}
-use Rattle.lists.specs.State.{Row, placed}
-use Rattle.lists.proofs.Basic.{from-step, from-none, from-shift, eqb-true, eqb-false, le-true, gt-false}
+use Rattle.lists.specs.Change.{Change, mapChange}
+use Rattle.lists.specs.State.{Row}
+use Rattle.lists.specs.InUse.{numberCount, inUse, brings}
+use Rattle.lists.proofs.Basic.{from-step, from-none, from-shift, eqb-true, eqb-false, le-true, leb-true, and-true, gt-false}
 use Rattle.log.specs.Raced.{Raced}
-use Rattle.log.specs.Entry.{member, raw, legal, asChange, isBlock, isList}
+use Rattle.log.specs.Entry.{member, raw, mapEntry, legal, legalChange, asChange, isBlock, isList}
 use Rattle.log.specs.declared.entry.LogEntry.{LogEntry}
 use Rattle.log.specs.declared.entry.LogEntry.the-variants.{Take, PutFirst, PutAfter, Write, DeleteBlock, DeleteList, Commit}
 use Rattle.log.proofs.entry.LogEntry.{the-type}
 use Rattle.disk.specs.Record.{Unit, Record, unitAt, isOpen, holderOf, unitCount}
-use Rattle.disk.specs.Sound.{putBy}
 use Rattle.inspect.specs.promises.Clauses.{numbersRight, changeRight, changeIn, unitRight, unitsRight, openUnit, holderRight, holdersRight}
 
 pub and-yes : (b : Bool) → b && true ≡ b
@@ -59,13 +59,17 @@ left-passes p f n i h l e =
 pub from-one : (n : ℕ) → from (λ u. u) 1 n ≡ from (λ i. i + 1) 0 n
 from-one n = from-shift (λ u. u) (λ i. i + 1) 1 0 n (λ k l. omega arith)
 
--- an entry that is none of the two puts
-no-tag : (t : ℕ) → t ≢ 0 → t ≢ 3 → t ≢ 4 → t ≢ 5 → t ≢ 6 → OneOf (0 ∷ 3 ∷ 4 ∷ 5 ∷ 6 ∷ []) t → ⊥
-no-tag t a b c d e (inl k) = a k
-no-tag t a b c d e (inr (inl k)) = b k
-no-tag t a b c d e (inr (inr (inl k))) = c k
-no-tag t a b c d e (inr (inr (inr (inl k)))) = d k
-no-tag t a b c d e (inr (inr (inr (inr k)))) = e k
+-- an entry that brings nothing into use
+no-tag : (t : ℕ) → t < 3 → OneOf (3 ∷ 4 ∷ 5 ∷ 6 ∷ []) t → ⊥
+no-tag t l (inl k) = omega arith
+no-tag t l (inr (inl k)) = omega arith
+no-tag t l (inr (inr (inl k))) = omega arith
+no-tag t l (inr (inr (inr k))) = omega arith
+
+-- a take that may be a member is one of a list
+pub take-range : (e : LogEntry) (l : ℕ) → e ≡ Take l → legal (raw 0 (member (asChange e))) ≡ true → l ≤ 16
+unfolding asChange legal raw mapEntry mapChange legalChange
+take-range e l q h = let k = rw q at h in leb-true l 16 (and-true (leb 1 l) (leb l 16) k .1)
 
 -- A change in unit u's journal.
 module _ (hs : List ℕ) (u : ℕ) where
@@ -73,20 +77,19 @@ module _ (hs : List ℕ) (u : ℕ) where
   unfolding changeRight
   change-wrong c h = rw h
 
-  pub change-puts : (c : Change (Raced ℕ)) (b : ℕ) → legal (raw 0 (member c)) ≡ true → putBy c ≡ b ∷ [] → eqb (getD hs (b - 1) 0) u ≡ changeRight hs u c
+  pub change-brings : (c : Change (Raced ℕ)) (b : ℕ) → legal (raw 0 (member c)) ≡ true → brings c ≡ b ∷ [] → eqb (getD hs (b - 1) 0) u ≡ changeRight hs u c
   unfolding changeRight all
-  change-puts c b h k = rw (h, k) (sym (and-yes (eqb (getD hs (b - 1) 0) u)))
+  change-brings c b h k = rw (h, k) (sym (and-yes (eqb (getD hs (b - 1) 0) u)))
 
-  -- an entry that is none of the two puts
-  pub change-no-put : (e : LogEntry) → OneOf (0 ∷ 3 ∷ 4 ∷ 5 ∷ 6 ∷ []) (tagOf the-type e) → legal (raw 0 (member (asChange e))) ≡ true → true ≡ changeRight hs u (asChange e)
-  unfolding changeRight all asChange putBy
-  change-no-put (Take l) k h = rw h
-  change-no-put (PutFirst b l) k h = absurd (no-tag 1 (λ e. omega arith) (λ e. omega arith) (λ e. omega arith) (λ e. omega arith) (λ e. omega arith) k)
-  change-no-put (PutAfter b l p) k h = absurd (no-tag 2 (λ e. omega arith) (λ e. omega arith) (λ e. omega arith) (λ e. omega arith) (λ e. omega arith) k)
-  change-no-put (Write b s n) k h = rw h
-  change-no-put (DeleteBlock b) k h = rw h
-  change-no-put (DeleteList l) k h = rw h
-  change-no-put (Commit n) k h = rw h
+  pub change-brings-none : (e : LogEntry) → OneOf (3 ∷ 4 ∷ 5 ∷ 6 ∷ []) (tagOf the-type e) → legal (raw 0 (member (asChange e))) ≡ true → true ≡ changeRight hs u (asChange e)
+  unfolding changeRight all asChange legal raw mapEntry mapChange legalChange
+  change-brings-none (Take l) k h = absurd (no-tag 0 (omega arith) k)
+  change-brings-none (PutFirst b l) k h = absurd (no-tag 1 (omega arith) k)
+  change-brings-none (PutAfter b l p) k h = absurd (no-tag 2 (omega arith) k)
+  change-brings-none (Write b s n) k h = rw h
+  change-brings-none (DeleteBlock b) k h = rw h
+  change-brings-none (DeleteList l) k h = rw h
+  change-brings-none (Commit n) k h = absurd (false≢true h)
 
 -- A unit.
 module _ (hs : List ℕ) (x : Unit) (u : ℕ) where
@@ -142,7 +145,7 @@ numbers-all r = four (leb (r .ring .len) 32) (ltb (r .ring .head) 32) (isBlock (
     four true true false d = refl
     four true true true d = sym (and-yes d)
 
--- The holder h of block b, over the lists rs.
+-- The holder h of number b, over the lists rs.
 module _ (r : Record) (rs : List (Row ℕ)) (b h : ℕ) (e : holderOf r b ≡ h) where
   pub held-none : h ≡ 0 → holderRight r rs b ≡ true
   unfolding holderRight
@@ -152,14 +155,14 @@ module _ (r : Record) (rs : List (Row ℕ)) (b h : ℕ) (e : holderOf r b ≡ h)
   unfolding holderRight
   held-closed n o = rw (e, eqb-false h 0 n, ← o)
 
-  pub held-placed : h ≢ 0 → placed b rs ≡ true → holderRight r rs b ≡ false
+  pub held-used : h ≢ 0 → inUse b rs ≡ true → holderRight r rs b ≡ false
   unfolding holderRight
-  held-placed n k = rw (e, eqb-false h 0 n, k) (and-no (openUnit r h))
+  held-used n k = rw (e, eqb-false h 0 n, k) (and-no (openUnit r h))
 
-  pub held-well : h ≢ 0 → openUnit r h ≡ true → placed b rs ≡ false → holderRight r rs b ≡ true
+  pub held-well : h ≢ 0 → openUnit r h ≡ true → inUse b rs ≡ false → holderRight r rs b ≡ true
   unfolding holderRight
   held-well n o k = rw (e, eqb-false h 0 n, o, k)
 
-pub holders-all : (r : Record) (rs : List (Row ℕ)) → all (holderRight r rs) (from (λ i. i + 1) 0 64) ≡ holdersRight r rs
+pub holders-all : (r : Record) (rs : List (Row ℕ)) → all (holderRight r rs) (from (λ i. i + 1) 0 numberCount) ≡ holdersRight r rs
 unfolding holdersRight
-holders-all r rs = ap (all (holderRight r rs)) (sym (from-one 64))
+holders-all r rs = ap (all (holderRight r rs)) (sym (from-one numberCount))

@@ -14,7 +14,7 @@ use Rattle.lists.specs.State.{State, apply, applyAll, overlay}
 use Rattle.lists.specs.promises.Tables.{Tables, Shows, Ranged, Represents, Did, DidSome, ofKind}
 use Rattle.lists.proofs.Basic.{and-true, leb-true, from-step, from-none, all-from}
 use Rattle.lists.proofs.Represents.{did-apply, did-overlay}
-use Rattle.log.specs.Entry.{member, mapEntry, raw, legal, legalChange, hasMember, isBlock, isList, isRace, asChange}
+use Rattle.log.specs.Entry.{member, mapEntry, raw, legal, legalChange, isBlock, isList, isRace, asChange}
 use Rattle.log.specs.Cell.{entryIn}
 use Rattle.log.specs.declared.entry.LogEntry.{LogEntry}
 use Rattle.log.specs.declared.entry.LogEntry.the-variants.{Take, PutFirst, PutAfter, Write, DeleteBlock, DeleteList, Commit}
@@ -35,8 +35,8 @@ list-range l h = let (p, q) = and-true _ _ h in (leb-true 1 l p, leb-true l 16 q
 -- a change that may stand in a journal, by its fields, its write's bytes at location d, which is not 0
 member-change : (e : LogEntry) (d : ℕ) → 1 ≤ d → legal (raw 0 (member (asChange e))) ≡ true
     → (fieldsChange e (d + 2048 * fieldsOf e .race) ≡ some (mapChange (numberAt d) (asChange e))) × Ranged (mapChange (numberAt d) (asChange e))
-unfolding ofKind asChange mapChange mapEntry raw legal legalChange hasMember
-member-change (Take l) d n h = absurd (false≢true h)
+unfolding ofKind asChange mapChange mapEntry raw legal legalChange
+member-change (Take l) d n h = (refl, list-range l h)
 member-change (PutFirst b l) d n h = let (p, q) = and-true (isBlock b) (isList l) h in (refl, (block-range b p, list-range l q))
 member-change (PutAfter b l x) d n h =
     let (r, q) = and-true (isBlock b && isList l) (isBlock x) h in
@@ -49,7 +49,7 @@ member-change (Commit k) d n h = absurd (false≢true h)
 
 -- its race, as a table's number may have it
 member-race : (e : LogEntry) → legal (raw 0 (member (asChange e))) ≡ true → fieldsOf e .race ≤ 24
-unfolding asChange mapChange mapEntry raw legal legalChange hasMember
+unfolding asChange mapChange mapEntry raw legal legalChange
 member-race (Take l) h = omega arith
 member-race (PutFirst b l) h = omega arith
 member-race (PutAfter b l x) h = omega arith

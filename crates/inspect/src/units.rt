@@ -5,6 +5,7 @@ use disk::record::Unit;
 use disk::record::holder_of;
 use disk::record::journal_entry;
 use disk::record::journal_len;
+use disk::record::list_number;
 use disk::record::opened;
 use disk::record::window;
 use log::entry::LogEntry;
@@ -23,6 +24,7 @@ fn entry_right(rec: &[u8; RECORD], u: u8, e: LogEntry) -> bool
         return false;
     }
     match e {
+        LogEntry::Take { list } => holder_of(rec, list_number(list)) == u,
         LogEntry::PutFirst { block, list: _ } => holder_of(rec, block) == u,
         LogEntry::PutAfter {
             block,

@@ -1,20 +1,20 @@
 -- The lists of a state stand by their takings: those that were there and no change deletes, and behind them the changes' takings in force
--- (`lists-in-force`). A journal that takes no list leaves those that it does not delete (`lists-undeleted`).
+-- (`lists-in-force`). So do those of a journal replayed, if it takes no list that is taken already (`lists-overlaid`).
 use mathlib.Core.Path.{_≡_, refl, sym, ap, _∙_}
-use mathlib.Core.Bool.{Bool, true, false, _||_, not, cond, or-false, false≢true}
+use mathlib.Core.Bool.{Bool, true, false, _||_, not, cond, or-false, or-true, false≢true}
 use mathlib.Core.Option.{Option, none, some, Option·some-injective, Option·none-ne-some}
 use mathlib.Core.List.{List, [], _∷_, _++_, map, append-assoc, append-nil, map-append}
 use Prim.Native.Nat.{ℕ}
 use lib.Dec.{eqb}
-use Rattle.lists.specs.Basic.{orElse, any, all, keep}
+use Rattle.lists.specs.Basic.{orElse, any, keep}
 use Rattle.lists.specs.Change.{Change, takeList, putFirst, putAfter, write, delBlock, delList}
 use Rattle.lists.specs.State.{Row, State, state, block, row, isRow, taken, applies, insertAfter, onBlocks, at, put, otherBlock, otherRow, changed, apply, applyAll, overlay}
 use Rattle.lists.specs.Lookup.{listNums}
 use Rattle.lists.specs.Takings.{taking, deletes, undeleted, inForce}
-use Rattle.lists.proofs.Basic.{or-both, and-true, bind-some, keep-map}
+use Rattle.lists.proofs.Basic.{or-both, bind-some, keep-map, eqb-same}
 use Rattle.lists.proofs.Apply.{apply-some}
-use Rattle.lists.proofs.Count.{at-num}
-use Rattle.lists.proofs.Numbers.{mayTake}
+use Rattle.lists.proofs.Count.{at-num, takes}
+use Rattle.lists.proofs.InUse.{taken-changed}
 
 -- Elements that pass.
 module _ {A : Type 0} (p : A → Bool) where
@@ -82,19 +82,27 @@ module _ {D : Type 0} where
       go true ih = ih
       go false ih = rw ih
 
+  -- one change and those behind it: what it deletes goes, and what it takes stands behind, if none of them deletes that
+  in-force-step : (c : Change D) (cs : List (Change D)) (ls ms : List ℕ) → ms ≡ undeleted (c ∷ []) ls ++ taking c
+      → undeleted cs ms ++ inForce cs ≡ undeleted (c ∷ cs) ls ++ inForce (c ∷ cs)
+  unfolding inForce
+  in-force-step c cs ls ms e =
+      ap (λ (x : List ℕ). undeleted cs x ++ inForce cs) e
+      ∙ ap (λ (x : List ℕ). x ++ inForce cs) (undeleted-append cs (undeleted (c ∷ []) ls) (taking c) ∙ ap (λ (x : List ℕ). x ++ undeleted cs (taking c)) (undeleted-more c cs ls))
+      ∙ append-assoc (undeleted (c ∷ cs) ls) (undeleted cs (taking c)) (inForce cs)
+
+  none-yet : (s : State D) → listNums (s .lists) ≡ undeleted {D = D} [] (listNums (s .lists)) ++ inForce {D = D} []
+  unfolding inForce
+  none-yet s = sym (undeleting [] (λ l. refl) (listNums (s .lists))) ∙ sym (append-nil _)
+
   -- Changes in order.
   pub lists-in-force : (cs : List (Change D)) (s t : State D) → applyAll cs s ≡ some t
       → listNums (t .lists) ≡ undeleted cs (listNums (s .lists)) ++ inForce cs
-  unfolding applyAll inForce
-  lists-in-force [] s t e =
-      ap (λ (x : State D). listNums (x .lists)) (sym (Option·some-injective _ _ e)) ∙ sym (undeleting [] (λ l. refl) (listNums (s .lists))) ∙ sym (append-nil _)
+  unfolding applyAll
+  lists-in-force [] s t e = ap (λ (x : State D). listNums (x .lists)) (sym (Option·some-injective _ _ e)) ∙ none-yet s
   lists-in-force (c ∷ cs) s t e =
       let (u, f, g) = bind-some (apply c s) (λ x. applyAll cs x) t e in
-      let ls = listNums (s .lists) in
-      lists-in-force cs u t g
-      ∙ ap (λ (x : List ℕ). undeleted cs x ++ inForce cs) (apply-nums c s u f)
-      ∙ ap (λ (x : List ℕ). x ++ inForce cs) (undeleted-append cs (undeleted (c ∷ []) ls) (taking c) ∙ ap (λ (x : List ℕ). x ++ undeleted cs (taking c)) (undeleted-more c cs ls))
-      ∙ append-assoc (undeleted (c ∷ cs) ls) (undeleted cs (taking c)) (inForce cs)
+      lists-in-force cs u t g ∙ in-force-step c cs (listNums (s .lists)) (listNums (u .lists)) (apply-nums c s u f)
 
   pub lists-by-takings : (cs : List (Change D)) (s : State D) → applyAll cs (state []) ≡ some s → listNums (s .lists) ≡ inForce cs
   unfolding undeleted listNums
@@ -122,7 +130,7 @@ module _ {D : Type 0} where
       ∙ ap (λ (x : List ℕ). x ++ l ∷ [])
       (sym (undeleted-more (delList l) (takeList l ∷ []) (inForce cs)) ∙ undeleting (takeList l ∷ []) (λ n. refl) (undeleted {D = D} (delList l ∷ []) (inForce cs)))
 
-  -- A journal that takes no list. What it deletes goes, and a deletion that does not apply is one of a list that is gone.
+  -- A journal replayed: a deletion that does not apply is one of a list that is gone, and every taking applies.
   off-kept : (l : ℕ) (rs : List (Row D)) → taken l rs ≡ false → undeleted {D = D} (delList l ∷ []) (listNums rs) ≡ listNums rs
   unfolding taken undeleted listNums
   off-kept l [] h = refl
@@ -145,21 +153,73 @@ module _ {D : Type 0} where
       go true e = let z : some (state (changed c (s .lists))) ≡ none = rw e at h in absurd (Option·none-ne-some _ (sym z))
       go false e = e
 
-  no-taking : (c : Change D) → mayTake (λ l. false) c ≡ true → taking c ≡ []
-  no-taking (takeList l) h = absurd (false≢true h)
-  no-taking (putFirst b l) h = refl
-  no-taking (putAfter b l p) h = refl
-  no-taking (write b d) h = refl
-  no-taking (delBlock b) h = refl
-  no-taking (delList l) h = refl
+  -- no list is taken twice by these changes
+  abbrev pub TakenOnce : List (Change D) → Type 0
+  TakenOnce [] = Unit {0}
+  TakenOnce (c ∷ cs) = ((l : ℕ) → takes c l ≡ true → any (λ x. takes x l) cs ≡ false) × TakenOnce cs
 
-  pub lists-undeleted : (cs : List (Change D)) (s : State D) → all (mayTake (λ l. false)) cs ≡ true → listNums (overlay cs s .lists) ≡ undeleted cs (listNums (s .lists))
-  unfolding overlay orElse all
-  lists-undeleted [] s h = sym (undeleting [] (λ l. refl) (listNums (s .lists)))
-  lists-undeleted (c ∷ cs) s h =
-      let (a, b) = and-true (mayTake (λ l. false) c) (all (mayTake (λ l. false)) cs) h in
-      lists-undeleted cs (orElse s (apply c s)) b ∙ ap (undeleted cs) (go a (apply c s) refl) ∙ undeleted-more c cs (listNums (s .lists))
+  -- one more, of a list that none of them takes
+  pub once-more : (cs : List (Change D)) (c : Change D) → ((l : ℕ) → takes c l ≡ true → any (λ x. takes x l) cs ≡ false) → TakenOnce cs → TakenOnce (cs ++ c ∷ [])
+  once-more [] c f o = (λ l h. refl, tt)
+  once-more (x ∷ xs) c f o =
+      (λ l h. any-more l (o .0 l h) (last l h (takes c l) refl), once-more xs c (λ l h. or-both (takes x l) _ (f l h) .1) (o .1))
     where
-      go : mayTake (λ l. false) c ≡ true → (o : Option (State D)) → apply c s ≡ o → listNums (orElse s o .lists) ≡ undeleted (c ∷ []) (listNums (s .lists))
-      go a none e = sym (skipped-nums c (s .lists) (none-applies c s e))
-      go a (some t) e = apply-nums c s t e ∙ ap (λ (x : List ℕ). undeleted (c ∷ []) (listNums (s .lists)) ++ x) (no-taking c a) ∙ append-nil _
+      last : (l : ℕ) → takes x l ≡ true → (t : Bool) → takes c l ≡ t → takes c l ≡ false
+      last l h true e = absurd (false≢true (sym (or-both (takes x l) _ (f l e) .0) ∙ h))
+      last l h false e = e
+
+      any-more : (l : ℕ) → any (λ y. takes y l) xs ≡ false → takes c l ≡ false → any (λ y. takes y l) (xs ++ c ∷ []) ≡ false
+      any-more l h e = more xs h
+        where
+          more : (ys : List (Change D)) → any (λ y. takes y l) ys ≡ false → any (λ y. takes y l) (ys ++ c ∷ []) ≡ false
+          more [] h = rw e
+          more (y ∷ ys) h = let (a, b) = or-both (takes y l) (any (λ z. takes z l) ys) h in rw a (more ys b)
+
+  -- none of the lists that they take is taken
+  abbrev pub TakesNew : List (Change D) → List (Row D) → Type 0
+  TakesNew cs rs = (l : ℕ) → any (λ c. takes c l) cs ≡ true → taken l rs ≡ false
+
+  skipped-takes : (c : Change D) (rs : List (Row D)) → ((l : ℕ) → takes c l ≡ true → taken l rs ≡ false) → applies c rs ≡ false → taking c ≡ []
+  unfolding applies
+  skipped-takes (takeList l) rs f h = absurd (false≢true (sym h ∙ ap not (f l (eqb-same l))))
+  skipped-takes (putFirst b l) rs f h = refl
+  skipped-takes (putAfter b l p) rs f h = refl
+  skipped-takes (write b d) rs f h = refl
+  skipped-takes (delBlock b) rs f h = refl
+  skipped-takes (delList l) rs f h = refl
+
+  -- one change of a journal, applied or skipped
+  overlaid-step : (c : Change D) (s : State D) → ((l : ℕ) → takes c l ≡ true → taken l (s .lists) ≡ false)
+      → listNums (orElse s (apply c s) .lists) ≡ undeleted (c ∷ []) (listNums (s .lists)) ++ taking c
+  unfolding orElse
+  overlaid-step c s f = go (apply c s) refl
+    where
+      go : (o : Option (State D)) → apply c s ≡ o → listNums (orElse s o .lists) ≡ undeleted (c ∷ []) (listNums (s .lists)) ++ taking c
+      go none e =
+          let a = none-applies c s e in
+          sym (skipped-nums c (s .lists) a) ∙ sym (append-nil _) ∙ ap (λ (x : List ℕ). undeleted (c ∷ []) (listNums (s .lists)) ++ x) (sym (skipped-takes c (s .lists) f a))
+      go (some t) e = apply-nums c s t e
+
+  -- what it does not take is not taken then either
+  overlaid-taken : (c : Change D) (s : State D) (l : ℕ) → takes c l ≡ false → taken l (s .lists) ≡ false → taken l (orElse s (apply c s) .lists) ≡ false
+  unfolding orElse
+  overlaid-taken c s l p h = go (apply c s) refl
+    where
+      go : (o : Option (State D)) → apply c s ≡ o → taken l (orElse s o .lists) ≡ false
+      go none e = h
+      go (some t) e = let (a, f) = apply-some c s t e in rw f (taken-changed c (s .lists) l p h)
+
+  pub lists-overlaid : (cs : List (Change D)) (s : State D) → TakenOnce cs → TakesNew cs (s .lists)
+      → listNums (overlay cs s .lists) ≡ undeleted cs (listNums (s .lists)) ++ inForce cs
+  unfolding overlay
+  lists-overlaid [] s o f = none-yet s
+  lists-overlaid (c ∷ cs) s o f =
+      let t = orElse s (apply c s) in
+      lists-overlaid cs t (o .1) later ∙ in-force-step c cs (listNums (s .lists)) (listNums (t .lists)) (overlaid-step c s (λ l h. f l (rw h)))
+    where
+      later : TakesNew cs (orElse s (apply c s) .lists)
+      later l h = go (takes c l) refl
+        where
+          go : (t : Bool) → takes c l ≡ t → taken l (orElse s (apply c s) .lists) ≡ false
+          go true e = absurd (false≢true (sym (o .0 l e) ∙ h))
+          go false e = overlaid-taken c s l e (f l (rw h (or-true (takes c l))))

@@ -18,7 +18,7 @@ use Rattle.log.specs.Raced.{Raced, raced}
 use Rattle.log.specs.Entry.{Entry, plain, member, commit, mapEntry, carried, legal, sizeOf, changeOf, checked, entryOf, decode}
 use Rattle.log.specs.Reader.{Reader, start}
 use Rattle.log.specs.Card.{Content, Written, cardSlot, cardWritten, segmentsIn, count, segmentEntries, usedBy, isNext, entryAt, Item, good, bad, itemsOf, segmentItems, afterEmpty, items, Outcome, sound, fault, walk, walkCard, mounted}
-use Rattle.log.specs.Before.{sizeBefore, changeBefore, entryBefore, raceless, entryAtBefore, itemsOfBefore, itemsBefore, mountedBefore, allRaceless, mapsOf, lacksRace, CardsAsBefore, BytesAsBefore}
+use Rattle.log.specs.Before.{sizeBefore, changeBefore, entryBefore, raceless, entryAtBefore, itemsOfBefore, itemsBefore, mountedBefore, allRaceless, mapsOf, lacksRace, CardsAsBefore, BytesAsBefore, takesAsMember, metBefore, mountedWithoutTakes, TakesAsBefore}
 use Rattle.log.proofs.Decode.{cond-some}
 use Rattle.log.proofs.Naturality.{mapItem, mapOutcome, entry-comp, carried-map, walk-map, afterEmpty-map}
 use Rattle.log.proofs.Segment.{used-map}
@@ -236,3 +236,20 @@ pub cards-as-before : CardsAsBefore
 unfolding mountedBefore
 cards-as-before c r h =
     bytes-as-before c (λ g l. items-lack c (segmentsIn c) 0 start r h g (omega arith) (omega arith)) ∙ rw h
+
+-- Before lists went with their units: item by item the walk meets the same, or there was a fault.
+walk-as-before : (r q : Reader Written) (is : List (Item Written)) → walk r (map metBefore is) ≡ sound q → walk r is ≡ sound q
+unfolding walk
+walk-as-before r q [] h = h
+walk-as-before r q (bad g i ∷ is) h = h
+walk-as-before r q (good g i e ∷ is) h = go (λ z. walk-as-before z q is) (takesAsMember e) refl
+  where
+    go : ((z : Reader Written) → walk z (map metBefore is) ≡ sound q → walk z is ≡ sound q) → (t : Bool) → takesAsMember e ≡ t → walk r (good g i e ∷ is) ≡ sound q
+    go ih true k = absurd (walk-bad g i (map metBefore is) r q (rw k at h))
+    go ih false k =
+        let (z, w, m) = walk-good g i e (map metBefore is) r q (rw k at h) in
+        rw (w, walk) (ih z m)
+
+pub takes-as-before : TakesAsBefore
+unfolding mountedWithoutTakes mounted walkCard
+takes-as-before c r h = walk-as-before start r (items (cardWritten c) c (segmentsIn c) 0) h

@@ -79,7 +79,7 @@ enters-commit m run e n d a k q b m′ s g w = enters-if m run e (Commit n) q d 
 carried-mark : (e : LogEntry) (y : Entry (Raced ℕ)) (t : Bool) → entered t e ≡ some y → carried y ≡ carried (asEntry false e)
 unfolding asEntry carried
 carried-mark e y false h = ap carried (sym (Option·some-injective _ _ h))
-carried-mark (Take l) y true h = absurd (Option·none-ne-some _ h)
+carried-mark (Take l) y true h = ap carried (sym (Option·some-injective _ _ h))
 carried-mark (PutFirst b l) y true h = ap carried (sym (Option·some-injective _ _ h))
 carried-mark (PutAfter b l p) y true h = ap carried (sym (Option·some-injective _ _ h))
 carried-mark (Write b s n) y true h = ap carried (sym (Option·some-injective _ _ h))

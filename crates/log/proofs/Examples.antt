@@ -9,8 +9,8 @@ use lib.ListN.{replicate}
 use Rattle.lists.specs.Change.{takeList, putFirst, write, delBlock, mapChange, carriedBy}
 use Rattle.lists.specs.State.{state, row, block, taken, placed, applies, changed, apply, applyAll}
 use Rattle.log.specs.Raced.{raced}
-use Rattle.log.specs.Entry.{plain, member, commit, mapEntry, carried, raceBit, raceByte, changeBytes, encode, raw, entryLength, legalChange, hasMember, legal, changeOf, checked, entryOf, decode}
-use Rattle.log.specs.Reader.{start, settled, lastOf, read, replay}
+use Rattle.log.specs.Entry.{plain, member, commit, mapEntry, carried, raceBit, raceByte, changeBytes, encode, raw, entryLength, legalChange, legal, changeOf, checked, entryOf, decode}
+use Rattle.log.specs.Reader.{reader, start, settled, lastOf, read, replay}
 use Rattle.log.specs.Card.{good, sound, slot, cardSlot, cardWritten, count, segmentEntries, usedBy, isNext, entryAt, itemsOf, segmentItems, afterEmpty, items, walk}
 use Rattle.log.specs.declared.place.Place.{Place}
 use Rattle.log.specs.Store.{standing, formatStores, opened, after, fits, home, behind, behindAll, tail, storesFrom, dataOf, entryStores}
@@ -56,6 +56,22 @@ pub take-with-race-refused : decode (66 ∷ 1 ∷ 5 ∷ []) ≡ none
 unfolding legalChange legal changeOf checked entryOf decode
 take-with-race-refused = refl
 
+-- "map 130 becomes legal as a member", of a list in range
+pub take-as-member : decode (130 ∷ 16 ∷ []) ≡ some (member (takeList 16), [])
+unfolding legalChange legal changeOf checked entryOf decode
+take-as-member = refl
+
+pub take-17-refused : decode (130 ∷ 17 ∷ []) ≡ none
+unfolding legalChange legal changeOf checked entryOf decode
+take-17-refused = refl
+
+-- it acts at its commit alone, and is dead without one
+pub take-dead :
+    replay {D = ℕ} start (member (takeList 1) ∷ plain (takeList 2) ∷ member (takeList 3) ∷ member (putFirst 1 3) ∷ commit 2 ∷ member (takeList 4) ∷ [])
+    ≡ some (reader (takeList 4 ∷ []) (state (row 2 [] ∷ row 3 (block 1 none ∷ []) ∷ [])))
+unfolding taken placed applies changed apply applyAll lastOf read replay
+take-dead = refl
+
 -- On an empty card the count of the first entry is not in turn, nor is a second entry; and with an entry in segment 1 the count of segment 0 is not
 -- to be cleared.
 pub count-not-first : InTurn (replicate 4096 0) (opened 0) (plain (takeList 1)) 2 → ⊥
@@ -92,5 +108,5 @@ put-again-unwritten = refl
 -- "the log never uses a slot again": a dead member's is not the next one
 pub dead-slots-stay-used :
     tail (replicate 3584 0 ++ 2 ∷ 2 ∷ 1 ∷ 137 ∷ 1 ∷ 0 ∷ replicate 506 0) ≡ record { segment = 0; entries = 2; bytes = 5; slots = 1 }
-unfolding mapChange carriedBy mapEntry carried raceBit raceByte changeBytes encode raw entryLength legalChange hasMember legal changeOf checked entryOf decode slot cardSlot cardWritten count segmentEntries usedBy isNext entryAt itemsOf segmentItems afterEmpty items opened after behind behindAll tail
+unfolding mapChange carriedBy mapEntry carried raceBit raceByte changeBytes encode raw entryLength legalChange legal changeOf checked entryOf decode slot cardSlot cardWritten count segmentEntries usedBy isNext entryAt itemsOf segmentItems afterEmpty items opened after behind behindAll tail
 dead-slots-stay-used = refl

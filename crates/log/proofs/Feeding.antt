@@ -20,7 +20,7 @@ use Rattle.lists.proofs.Basic.{and-true}
 use Rattle.lists.proofs.Naturality.{change-comp}
 use Rattle.lists.proofs.Represents.{did-apply}
 use Rattle.log.specs.Raced.{Raced, raced, withBody}
-use Rattle.log.specs.Entry.{plain, member, commit, mapEntry, isBlock, isList, isSlot, isRace, legalChange, legal, hasMember, raw, asChange, asEntry}
+use Rattle.log.specs.Entry.{plain, member, commit, mapEntry, isBlock, isList, isSlot, isRace, legalChange, legal, raw, asChange, asEntry}
 use Rattle.log.specs.Reader.{Reader, reader, settled, read, lastOf}
 use Rattle.log.specs.promises.Location.{numberAt}
 use Rattle.log.specs.promises.Feed.{Memory, memberSet, Recalled, Recalls, Keeps, ReadTo, fieldsOf, FedTo, fedIf, RunUpTo, Commits}
@@ -253,7 +253,7 @@ legal-race (DeleteList l) h = omega arith
 legal-race (Commit n) h = omega arith
 
 pub raw-race : (t : Bool) (e : LogEntry) → legal (raw 0 (asEntry t e)) ≡ true → fieldsOf e .race ≤ 24
-unfolding asEntry legal raw mapEntry mapChange hasMember
+unfolding asEntry legal raw mapEntry mapChange
 raw-race t (Take l) h = omega arith
 raw-race t (PutFirst b l) h = omega arith
 raw-race t (PutAfter b l p) h = omega arith
@@ -290,7 +290,7 @@ module _ (e : LogEntry) (n : NoCommit e) (d : ℕ) (p : 1 ≤ d) where
   unfolding legal raw mapEntry
   raw-ranged true h =
       let k : legal (mapEntry (withBody 0) (member (asChange e))) ≡ true = rw (entry-change true e n) at h in
-      slotless-ranged (and-true (hasMember (mapChange (withBody 0) (asChange e))) _ k .1)
+      slotless-ranged k
   raw-ranged false h =
       let k : legal (mapEntry (withBody 0) (plain (asChange e))) ≡ true = rw (entry-change false e n) at h in
       slotless-ranged k

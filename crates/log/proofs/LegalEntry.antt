@@ -1,14 +1,14 @@
 -- What makes a declared entry legal, kind by kind.
 use mathlib.Core.Path.{_≡_, refl, sym, ap}
 use mathlib.Core.Bool.{Bool, true, false, _&&_, not, and-true as and-with-true}
-use Rattle.log.specs.Entry.{isBlock, isList, isCount, isRace, member, asChange, legal, legalChange, hasMember, raw, mapEntry, asEntry}
+use Rattle.log.specs.Entry.{isBlock, isList, isCount, isRace, member, asChange, legal, legalChange, raw, mapEntry, asEntry}
 use Rattle.lists.specs.Change.{mapChange}
 use Rattle.log.specs.declared.entry.LogEntry.{LogEntry}
 use Rattle.log.specs.declared.entry.LogEntry.the-variants.{Take, PutFirst, PutAfter, Write, DeleteBlock, DeleteList, Commit}
 
 -- the test of a member's numbers
 abbrev pub tested : LogEntry → Bool
-tested (Take l) = false
+tested (Take l) = isList l
 tested (PutFirst b l) = isBlock b && isList l
 tested (PutAfter b l p) = isBlock b && isList l && isBlock p
 tested (Write b s n) = isBlock b && isRace n
@@ -17,7 +17,7 @@ tested (DeleteList l) = isList l
 tested (Commit n) = false
 
 pub member-tested : (e : LogEntry) → tested e ≡ legal (raw 0 (member (asChange e)))
-unfolding legal legalChange hasMember raw mapEntry mapChange asChange
+unfolding legal legalChange raw mapEntry mapChange asChange
 member-tested (Take l) = refl
 member-tested (PutFirst b l) = refl
 member-tested (PutAfter b l p) = refl
@@ -28,7 +28,7 @@ member-tested (Commit n) = refl
 
 -- the test of an entry's, by the member's where that has a map
 abbrev pub testedAs : Bool → Bool → LogEntry → Bool
-testedAs m t (Take l) = not m && isList l
+testedAs m t (Take l) = t
 testedAs m t (PutFirst b l) = t
 testedAs m t (PutAfter b l p) = t
 testedAs m t (Write b s n) = t
@@ -37,7 +37,7 @@ testedAs m t (DeleteList l) = t
 testedAs m t (Commit n) = isCount n
 
 pub legal-tested : (m : Bool) (e : LogEntry) → testedAs m (legal (raw 0 (member (asChange e)))) e ≡ legal (raw 0 (asEntry m e))
-unfolding legal legalChange hasMember raw mapEntry mapChange asEntry asChange
+unfolding legal legalChange raw mapEntry mapChange asEntry asChange
 legal-tested true (Take l) = refl
 legal-tested false (Take l) = refl
 legal-tested true (PutFirst b l) = refl

@@ -10,7 +10,7 @@ use Rattle.lists.specs.Basic.{guard}
 use Rattle.lists.specs.Change.{Change, takeList, putFirst, putAfter, write, delBlock, delList, mapChange}
 use Rattle.lists.proofs.Basic.{and-true, bind-some, guard-some}
 use Rattle.log.specs.Raced.{Raced, withBody}
-use Rattle.log.specs.Entry.{Entry, plain, member, commit, mapEntry, carried, isBlock, isSlot, isRace, legalChange, hasMember, legal, decode}
+use Rattle.log.specs.Entry.{Entry, plain, member, commit, mapEntry, carried, isBlock, isSlot, isRace, legalChange, legal, decode}
 use Rattle.log.specs.Card.{Content, slot, cardSlot, cardWritten, cardLength, segmentsIn, count, segmentEntries, segmentItems, isNext, usedBy, entryAt, Item, good, bad, itemsOf, afterEmpty, items, sound, fault, walkCard, mounted}
 use Rattle.log.specs.Reader.{Reader}
 use Rattle.log.specs.promises.Location.{cardLocation, queueLocation, journalLocation, numberAt, cardNumber, bytesAt, contentAt}
@@ -70,7 +70,7 @@ module _ {D : Type 0} (f h : Raced ℕ → D) (same : (s : Raced ℕ) → s .bod
   entry-same : (e : Entry (Raced ℕ)) → legal e ≡ true → mapEntry f e ≡ mapEntry h e
   unfolding mapEntry legal
   entry-same (plain x) p = ap plain (change-same x p)
-  entry-same (member x) p = ap member (change-same x (and-true (hasMember x) (legalChange x) p .1))
+  entry-same (member x) p = ap member (change-same x p)
   entry-same (commit n) p = refl
 
 entry-legal : (k : ℕ) (bs : List ℕ) (z : Entry (Raced ℕ) × List ℕ) → entryAt k bs ≡ some z → legal (z .0) ≡ true

@@ -13,7 +13,7 @@ use Rattle.lists.specs.State.{State, apply, applyAll}
 use Rattle.lists.proofs.Basic.{and-true, guard-some, bind-some, all-append, all-drop}
 use Rattle.lists.proofs.Numbers.{mayTake, numbered, apply-numbered, applyAll-numbered}
 use Rattle.log.specs.Raced.{Raced, withBody}
-use Rattle.log.specs.Entry.{Entry, plain, member, commit, mapEntry, carried, raw, legal, legalChange, hasMember, isList}
+use Rattle.log.specs.Entry.{Entry, plain, member, commit, mapEntry, carried, raw, legal, legalChange, isList}
 use Rattle.log.specs.Reader.{Reader, settled, start, lastOf, read, replay}
 use Rattle.log.specs.Card.{Written, usedBy}
 use Rattle.log.proofs.Segment.{Fine, Carries}
@@ -36,7 +36,7 @@ legal-takes k (delList l) h = refl
 pub legal-enters : {A : Type 0} (k : ℕ) (e : Entry (Raced A)) → legal (raw k e) ≡ true → mayEnter e ≡ true
 unfolding legal raw mapEntry mayEnter
 legal-enters k (plain c) h = legal-takes k c h
-legal-enters k (member c) h = legal-takes k c (and-true (hasMember (mapChange (withBody k) c)) (legalChange (mapChange (withBody k) c)) h .1)
+legal-enters k (member c) h = legal-takes k c h
 legal-enters k (commit n) h = refl
 
 -- between two entries: the lists of the state, and those that the run takes

@@ -16,7 +16,7 @@ use Rattle.lists.specs.Basic.{guard, bind, all, from}
 use Rattle.lists.specs.Change.{Change, write, carriedBy}
 use Rattle.lists.proofs.Basic.{and-true as both-true, bind-bind, bind-ext, bind-some, guard-some, eqb-true, all-from}
 use Rattle.log.specs.Raced.{Raced, raced}
-use Rattle.log.specs.Entry.{Entry, plain, member, commit, hasMember, asEntry, changeOf, entryOf, checked, legal, legalChange, isBlock, isList, isSlot, isCount, isRace, sizeOf, decode, carried}
+use Rattle.log.specs.Entry.{Entry, plain, member, commit, asEntry, changeOf, entryOf, checked, legal, legalChange, isBlock, isList, isSlot, isCount, isRace, sizeOf, decode, carried}
 use Rattle.log.specs.Card.{part, isNext, entryAt}
 use Rattle.log.specs.promises.Parse.{byteAt, decodedAt}
 use Rattle.log.specs.promises.Found.{entered, InSegment, bytesFrom, Stands}
@@ -129,7 +129,7 @@ parsed-none c a e k m h p2 p3 p7 p9 p73 p33 p34 p16 =
 
 -- What the mark of a member adds to a map.
 abbrev asMember : Entry (Raced ℕ) → Option (Entry (Raced ℕ))
-asMember (plain c) = guard (hasMember c) (some (member c))
+asMember (plain c) = some (member c)
 asMember (member c) = none
 asMember (commit n) = none
 
@@ -141,9 +141,9 @@ checked-member : (c : Change (Raced ℕ)) → checked (member c) ≡ bind (check
 unfolding checked legal
 checked-member c = go (legalChange c)
   where
-    go : (l : Bool) → guard (hasMember c && l) (some (member c)) ≡ bind (guard l (some (plain c))) asMember
-    go true = rw and-true
-    go false = rw and-false
+    go : (l : Bool) → guard l (some (member c)) ≡ bind (guard l (some (plain c))) asMember
+    go true = refl
+    go false = refl
 
 no-commit : (x : ℕ) (l : Bool) → _≡_ {A = Option (Entry (Raced ℕ))} none (bind (guard l (some (commit x))) asMember)
 no-commit x true = refl
@@ -168,7 +168,7 @@ entry-by m x y z h = go (leb 128 m) refl
     go false q = let k : m % 128 ≡ m = omega (arith, leb-false 128 m q) in rw k (bind-alone (entryOf m x y z))
 
 entered-mark : (t : Bool) (e : LogEntry) → entered t e ≡ mark t (asEntry false e)
-unfolding asEntry hasMember
+unfolding asEntry
 entered-mark false e = refl
 entered-mark true (Take l) = refl
 entered-mark true (PutFirst b l) = refl
@@ -210,12 +210,7 @@ turn-mark : (k : ℕ) (t : Bool) (x : Entry (Raced ℕ)) (r : List ℕ)
     → bind (mark t x) (λ y. guard {A = Entry (Raced ℕ) × List ℕ} (isNext k (carried y)) (some (y, r))) ≡ guard (isNext k (carried x)) (bind (mark t x) (λ y. some (y, r)))
 unfolding carried
 turn-mark k false x r = refl
-turn-mark k true (plain c) r = go (hasMember c)
-  where
-    go : (b : Bool)
-        → bind (guard b (some (member c))) (λ y. guard {A = Entry (Raced ℕ) × List ℕ} (isNext k (carried y)) (some (y, r))) ≡ guard (isNext k (carriedBy c)) (bind (guard b (some (member c))) (λ y. some (y, r)))
-    go true = refl
-    go false = guard-none (isNext k (carriedBy c))
+turn-mark k true (plain c) r = refl
 turn-mark k true (member c) r = guard-none (isNext k (carriedBy c))
 turn-mark k true (commit n) r = guard-none (isNext k none)
 

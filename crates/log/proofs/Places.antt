@@ -15,7 +15,7 @@ use Rattle.lists.specs.Change.{Change, takeList, putFirst, putAfter, write, del
 use Rattle.lists.proofs.Basic.{and-true, le-true, leb-true, ltb-true}
 use Rattle.log.specs.declared.place.Place.{Place}
 use Rattle.log.specs.Raced.{Raced, withBody}
-use Rattle.log.specs.Entry.{Entry, plain, member, commit, mapEntry, carried, changeBytes, raceByte, encode, raw, entryLength, legal, legalChange, hasMember, isBlock, isSlot, isRace}
+use Rattle.log.specs.Entry.{Entry, plain, member, commit, mapEntry, carried, changeBytes, raceByte, encode, raw, entryLength, legal, legalChange, isBlock, isSlot, isRace}
 use Rattle.log.specs.Card.{Content, Written, usedBy}
 use Rattle.log.specs.Store.{opened, after, afterAll, fits, home, behindAll, tail, dataOf, entryStores}
 use Rattle.log.proofs.Slot.{Stands, same-getD}
@@ -70,21 +70,10 @@ legal-change k (write x d) h b =
 legal-change k (delBlock x) h b = h
 legal-change k (delList l) h b = h
 
-has-member : {A : Type 0} (k : ℕ) (c : Change (Raced A)) → hasMember (mapChange (withBody k) c) ≡ hasMember c
-unfolding hasMember mapChange
-has-member k (takeList l) = refl
-has-member k (putFirst x l) = refl
-has-member k (putAfter x l p) = refl
-has-member k (write x d) = refl
-has-member k (delBlock x) = refl
-has-member k (delList l) = refl
-
 pub legal-raw : {A : Type 0} (k : ℕ) (e : Entry (Raced A)) → legal (raw 0 e) ≡ true → k + usedBy (carried e) ≤ 14 → legal (raw k e) ≡ true
 unfolding legal raw mapEntry carried
 legal-raw k (plain c) h b = legal-change k c h b
-legal-raw k (member c) h b =
-    let (m, l) = and-true (hasMember (mapChange (withBody 0) c)) (legalChange (mapChange (withBody 0) c)) h in
-    rw (has-member k c ∙ sym (has-member 0 c) ∙ m) (legal-change k c l b)
+legal-raw k (member c) h b = legal-change k c h b
 legal-raw k (commit n) h b = h
 
 -- The place behind entries.

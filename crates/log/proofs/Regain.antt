@@ -12,7 +12,7 @@ use Rattle.lists.specs.Basic.{guard, joined}
 use Rattle.lists.specs.Change.{Change, takeList, putFirst, putAfter, write, delBlock, delList, mapChange, carriedBy}
 use Rattle.lists.proofs.Basic.{eqb-true, leb-true, and-true, bind-some, guard-some, getD-same}
 use Rattle.log.specs.Raced.{Raced, raced, withBody}
-use Rattle.log.specs.Entry.{Entry, plain, member, commit, mapEntry, carried, encode, raw, legal, legalChange, hasMember, isBlock, isSlot, isRace, decode}
+use Rattle.log.specs.Entry.{Entry, plain, member, commit, mapEntry, carried, encode, raw, legal, legalChange, isBlock, isSlot, isRace, decode}
 use Rattle.log.specs.Reader.{Reader, read, replay, start}
 use Rattle.log.specs.Card.{Written, cardSlot, cardWritten, count, segmentEntries, usedBy, isNext, entryAt, Item, good, bad, itemsOf, segmentItems, afterEmpty, items, sound, fault, walk, walkCard, mounted}
 use Rattle.log.specs.Store.{dataOf}
@@ -52,7 +52,7 @@ change-slot k (delList l) h n m = omega arith
 entry-slot : (k : ℕ) (y : Entry (Raced ℕ)) → legal y ≡ true → isNext k (carried y) ≡ true → k ≤ 14 → k + usedBy (carried y) ≤ 14
 unfolding legal carried usedBy
 entry-slot k (plain c) h n m = change-slot k c h n m
-entry-slot k (member c) h n m = change-slot k c (and-true (hasMember c) (legalChange c) h .1) n m
+entry-slot k (member c) h n m = change-slot k c h n m
 entry-slot k (commit j) h n m = omega arith
 
 -- what stands in the next slot

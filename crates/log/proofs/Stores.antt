@@ -11,7 +11,7 @@ use Rattle.lists.specs.Change.{Change, takeList, putFirst, putAfter, write, del
 use Rattle.lists.proofs.Basic.{and-true, leb-true, ltb-true}
 use Rattle.log.specs.declared.place.Place.{Place}
 use Rattle.log.specs.Raced.{Raced}
-use Rattle.log.specs.Entry.{Entry, plain, member, commit, carried, raceByte, changeBytes, encode, raw, entryLength, legal, legalChange, hasMember, isBlock, isList, isSlot, isRace}
+use Rattle.log.specs.Entry.{Entry, plain, member, commit, carried, raceByte, changeBytes, encode, raw, entryLength, legal, legalChange, isBlock, isList, isSlot, isRace}
 use Rattle.log.specs.Card.{Written, slot, segmentsIn, usedBy}
 use Rattle.log.specs.Store.{Store, opened, after, afterAll, fits, home, tail, storesFrom, dataOf, entryStores}
 use Rattle.log.specs.Flush.{ahead}
@@ -89,7 +89,7 @@ change-bytes k (delList l) m h = (omega arith, (list-small l h, tt))
 entry-bytes : (e : Entry (Raced ℕ)) → legal e ≡ true → AllBytes (encode e)
 unfolding encode legal
 entry-bytes (plain c) h = change-bytes 0 c (omega arith) h
-entry-bytes (member c) h = change-bytes 128 c (omega arith) (and-true (hasMember c) (legalChange c) h .1)
+entry-bytes (member c) h = change-bytes 128 c (omega arith) h
 entry-bytes (commit n) h = let k : n ≤ 15 = leb-true n 15 h in (omega arith, (omega arith, tt))
 
 -- a place on a card of n segments: its entries have two bytes at least, so that the count is a byte

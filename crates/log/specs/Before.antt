@@ -1,7 +1,7 @@
--- The log as it was read before writes had races: document 01's table of maps, lengths without bit 6, and the walk with these; a write carries its
--- slot, and to a reader its 256 bytes.
+-- The log as it was read before: before writes had races, document 01's table of maps, lengths without bit 6, and the walk with these, a write carrying its
+-- slot, and to a reader its 256 bytes; and before lists went with their units, when 130 was no map.
 use mathlib.Core.Path.{_≡_}
-use mathlib.Core.Bool.{Bool, true, cond}
+use mathlib.Core.Bool.{Bool, true, false, cond}
 use mathlib.Core.Option.{Option, none, some, Option·map}
 use mathlib.Core.List.{List, [], _∷_, _++_, map}
 use Prim.Native.Nat.{ℕ, zero, suc, _+_, _-_, _/_, _%_, _<_}
@@ -10,10 +10,11 @@ use lib.ListN.{length, drop, getD}
 use Rattle.lists.specs.Basic.{guard, bind, all}
 use Rattle.lists.specs.Change.{Change, takeList, putFirst, putAfter, write, delBlock, delList, mapChange}
 use Rattle.lists.specs.State.{mapState}
+use Rattle.lists.specs.Takings.{taking}
 use Rattle.log.specs.Raced.{Raced, raced}
 use Rattle.log.specs.Entry.{Entry, plain, member, commit, mapEntry, carried, legal}
 use Rattle.log.specs.Reader.{Reader, reader, start}
-use Rattle.log.specs.Card.{Content, Written, cardSlot, segmentsIn, count, segmentEntries, usedBy, isNext, Item, good, bad, afterEmpty, Outcome, sound, fault, walk, mounted}
+use Rattle.log.specs.Card.{Content, Written, cardSlot, cardWritten, segmentsIn, count, segmentEntries, usedBy, isNext, Item, good, bad, afterEmpty, items, Outcome, sound, fault, walk, mounted}
 
 -- "An entry's length is 1 plus the number of ones in bits 0 to 4."
 abbrev pub sizeBefore : ℕ → ℕ
@@ -86,3 +87,20 @@ CardsAsBefore = (c : List ℕ) (r : Reader Content) → mountedBefore c ≡ soun
 -- and every card, acceptable or not, no entry of which has bit 6 in its map
 abbrev pub BytesAsBefore : Type 0
 BytesAsBefore = (c : List ℕ) → NoRaceBit c → mounted c ≡ allRaceless (mountedBefore c)
+
+-- "No other map is legal; so 130 is not.": a member that takes a list was a fault
+abbrev pub takesAsMember : {D : Type 0} → Entry D → Bool
+takesAsMember (plain c) = false
+takesAsMember (member c) = leb 1 (length (taking c))
+takesAsMember (commit n) = false
+
+abbrev pub metBefore : {D : Type 0} → Item D → Item D
+metBefore (good g i e) = cond (takesAsMember e) (bad g i) (good g i e)
+metBefore (bad g i) = bad g i
+
+unfoldable pub mountedWithoutTakes : List ℕ → Outcome Written
+mountedWithoutTakes c = walk start (map metBefore (items (cardWritten c) c (segmentsIn c) 0))
+
+-- "map 130 becomes legal as a member": every card that was accepted without it is accepted, and means the same
+abbrev pub TakesAsBefore : Type 0
+TakesAsBefore = (c : List ℕ) (r : Reader Written) → mountedWithoutTakes c ≡ sound r → mounted c ≡ sound r

@@ -84,18 +84,10 @@ legalChange (write b s) = isBlock b && isSlot (s .body) && isRace (s .race)
 legalChange (delBlock b) = isBlock b
 legalChange (delList l) = isList l
 
--- "Members have 128 more: 131, 135, 137, 161, 162. No other map is legal; so 130 is not.", but "maps 73 and 201 become legal"
-unfoldable pub hasMember : {D : Type 0} → Change D → Bool
-hasMember (takeList l) = false
-hasMember (putFirst b l) = true
-hasMember (putAfter b l p) = true
-hasMember (write b s) = true
-hasMember (delBlock b) = true
-hasMember (delList l) = true
-
+-- "Members have 128 more: 131, 135, 137, 161, 162.", "maps 73 and 201 become legal", "map 130 becomes legal as a member": every change may be one.
 unfoldable pub legal : Entry (Raced ℕ) → Bool
 legal (plain c) = legalChange c
-legal (member c) = hasMember c && legalChange c
+legal (member c) = legalChange c
 legal (commit n) = isCount n
 
 -- "An entry's length is 1 plus the number of ones in bits 0 to 4.", and "an entry's length counts bit 6 too"

@@ -34,7 +34,7 @@ pub fn is_member(e: LogEntry) -> bool
     ensures { λ r. ⌜ r ≡ legal (raw 0 (member (asChange e))) ⌝ }
 {
     match e {
-        LogEntry::Take { list: _ } => false,
+        LogEntry::Take { list } => is_list(list),
         LogEntry::PutFirst { block, list } => both(is_block(block), is_list(list)),
         LogEntry::PutAfter {
             block,
@@ -57,7 +57,7 @@ pub fn is_legal(member: bool, e: LogEntry) -> bool
     ensures { λ r. ⌜ r ≡ legal (raw 0 (asEntry member e)) ⌝ }
 {
     match e {
-        LogEntry::Take { list } => both(!member, is_list(list)),
+        LogEntry::Take { list: _ } => is_member(e),
         LogEntry::PutFirst { block: _, list: _ } => is_member(e),
         LogEntry::PutAfter {
             block: _,

@@ -116,7 +116,7 @@ fn plain(
     }
 }
 
-// A member is kept. A take and a commit are no members.
+// A member is kept. A commit is none.
 fn member(
     members: &mut [u8; 128],
     run: usize,
@@ -129,7 +129,10 @@ fn member(
     ensures { λ r. ⌜ ((t : Tables) → Enters (record { tables = t; members = now (members .entry) }) run true e (cardLocation g slots) at slots r (record { tables = t; members = now (members .exit) })) ⌝ }
 {
     match e {
-        LogEntry::Take { list: _ } => Step::Stuck,
+        LogEntry::Take { list } => {
+            let kept = keep(members, run, kind::TAKE, 0, list, 0, 0);
+            go(kept, at, slots, run + 1)
+        }
         LogEntry::PutFirst { block, list } => {
             let kept = keep(members, run, kind::PUT_FIRST, block, list, 0, 0);
             go(kept, at, slots, run + 1)

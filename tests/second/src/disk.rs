@@ -1,4 +1,4 @@
-//! The calls: document 01, "The calls", "Flush" and "The questions, in order"; document 02, E1, E4, E7, E10.
+//! The calls: document 01, "The calls", "Flush" and "The questions, in order"; document 02, E1, E4, E6, E7, E10.
 //!
 //! Each call asks its questions in the order of their numbers and returns the first that is answered no; "a call
 //! passes over what it doesn't use". Numbers come as wide as a caller may write them and are never cut.
@@ -135,15 +135,21 @@ impl Lent<'_> {
 
     // ---- Changes -----------------------------------------------------------------------------------------------
 
-    /// NewList: takes a free list and returns its number. Asks 1, 3, 4, 10, 13.
+    /// NewList: takes a free list and returns its number. Asks 1, 3, 4, 10, then 11 in a unit or 13 on stream 0.
     ///
-    /// "It always queues a plain entry, inside a unit too."
+    /// "NewList inside a unit is journalled like everything else [..], the number is held by the unit".
     pub fn new_list(&mut self, stream: u64) -> Result<u8, Refusal> {
         let versions = self.versions()?;
-        self.stream(stream)?;
-        let list = first_free(self.record.list_given, LISTS, |list| !versions.committed.is_taken(list))?;
-        self.queue_takes(1)?;
-        self.record.enqueue(Entry::Plain(Change::TakeList { list }));
+        let to = self.stream(stream)?;
+        let held = self.record.held_lists();
+        let list = first_free(self.record.list_given, LISTS, |list| {
+            !versions.committed.is_taken(list) && !held.has(list)
+        })?;
+        self.takes_change(to)?;
+        self.add(to, Change::TakeList { list });
+        if let Stream::Unit(unit) = to {
+            self.record.unit_mut(unit).held_lists.add(list);
+        }
         self.record.list_given = list;
         Ok(list)
     }
@@ -158,7 +164,7 @@ impl Lent<'_> {
         let view = self.view(&versions, stream)?;
         list_is_taken(&view, list)?;
         predecessor_is_on(&view, list, predecessor)?;
-        let held = self.record.held();
+        let held = self.record.held_blocks();
         let block = first_free(self.record.block_given, BLOCKS, |block| {
             !versions.committed.is_on_a_list(block) && !held.has(block)
         })?;
@@ -174,7 +180,7 @@ impl Lent<'_> {
         };
         self.add(to, change);
         if let Stream::Unit(unit) = to {
-            self.record.unit_mut(unit).held.add(block);
+            self.record.unit_mut(unit).held_blocks.add(block);
         }
         self.record.block_given = block;
         Ok(block)

@@ -1,4 +1,4 @@
-//! Entries of the log and their bytes: document 01, "Entries"; document 02, E10.
+//! Entries of the log and their bytes: document 01, "Entries"; document 02, E6, E10.
 
 use crate::limits::{BLOCKS, JOURNAL, LISTS, RACES, SLOTS};
 
@@ -61,11 +61,6 @@ impl Change {
             Change::Write { block, race } => block_in_range(block) && race <= RACES,
             Change::DeleteBlock { block } => block_in_range(block),
         }
-    }
-
-    /// "No other map is legal; so 130 is not": taking a list has no member map.
-    pub fn has_member_map(self) -> bool {
-        !matches!(self, Change::TakeList { .. })
     }
 
     /// Whether it needs a slot.
@@ -131,7 +126,8 @@ const DELETE_BLOCK: u8 = REMOVAL | BLOCK;
 const DELETE_LIST: u8 = REMOVAL | LIST;
 const COMMIT: u8 = COUNT;
 
-// The maps of members.
+// The maps of members: "map 130 becomes legal as a member".
+const MEMBER_TAKE_LIST: u8 = MEMBER | TAKE_LIST;
 const MEMBER_PUT_FIRST: u8 = MEMBER | PUT_FIRST;
 const MEMBER_PUT_AFTER: u8 = MEMBER | PUT_AFTER;
 const MEMBER_WRITE: u8 = MEMBER | WRITE;
@@ -209,8 +205,7 @@ impl Entry {
     #[inline(always)]
     pub fn is_legal(self) -> bool {
         match self {
-            Entry::Plain(change) => change.in_range(),
-            Entry::Member(change) => change.has_member_map() && change.in_range(),
+            Entry::Plain(change) | Entry::Member(change) => change.in_range(),
             Entry::Commit { members } => usize::from(members) <= JOURNAL,
         }
     }
@@ -267,7 +262,7 @@ impl Entry {
             return Decoded::in_range(Entry::Commit { members }, 0, length_of_map(COMMIT));
         }
         let (change, slot, length) = match *bytes {
-            [TAKE_LIST, list, ..] => (Change::TakeList { list }, 0, length_of_map(TAKE_LIST)),
+            [TAKE_LIST | MEMBER_TAKE_LIST, list, ..] => (Change::TakeList { list }, 0, length_of_map(TAKE_LIST)),
             [PUT_FIRST | MEMBER_PUT_FIRST, block, list, ..] => {
                 (Change::PutFirst { block, list }, 0, length_of_map(PUT_FIRST))
             }
@@ -332,11 +327,7 @@ mod tests {
         for (change, map, fields) in changes {
             let bytes_of = |map: u8| [vec![map], fields.clone()].concat();
             assert_round_trip(Entry::Plain(change), &bytes_of(map));
-            if change.has_member_map() {
-                assert_round_trip(Entry::Member(change), &bytes_of(map + 128));
-            } else {
-                assert_eq!(Entry::decode(&bytes_of(map + 128)), Err(Cause::Map));
-            }
+            assert_round_trip(Entry::Member(change), &bytes_of(map + 128));
         }
         assert_round_trip(Entry::Commit { members: 15 }, &[16, 15]);
         assert_eq!(Entry::decode(&[144, 15]), Err(Cause::Map));
@@ -365,10 +356,20 @@ mod tests {
         assert!(!Change::Write { block: 1, race: 25 }.in_range());
     }
 
+    /// "List 1 to 16", of a member too.
     #[test]
-    fn only_fourteen_maps_are_legal() {
+    fn lists_taken_are_from_1_to_16() {
+        for map in [2, 130] {
+            let is_legal = |&list: &u8| Entry::decode(&[map, list]).is_ok();
+            let legal: Vec<u8> = (0..=255).filter(is_legal).collect();
+            assert_eq!(legal, (1..=16).collect::<Vec<u8>>());
+        }
+    }
+
+    #[test]
+    fn only_fifteen_maps_are_legal() {
         let is_legal = |&map: &u8| Entry::decode(&[map, 1, 1, 1, 1, 1]).is_ok();
         let legal: Vec<u8> = (0..=255).filter(is_legal).collect();
-        assert_eq!(legal, [2, 3, 7, 9, 16, 33, 34, 73, 131, 135, 137, 161, 162, 201]);
+        assert_eq!(legal, [2, 3, 7, 9, 16, 33, 34, 73, 130, 131, 135, 137, 161, 162, 201]);
     }
 }

@@ -5,36 +5,48 @@ use crate::limits::{BLOCKS, BLOCK_BYTES, JOURNAL, LISTS, QUEUE, SEGMENT_BYTES, U
 use crate::log::{stores_of, Log, Stores};
 use crate::state::{Content, Reading, State};
 
-/// A set of block numbers.
+/// A set of block numbers, or of list numbers.
 #[derive(Clone, Copy, PartialEq, Eq, Debug)]
-pub struct BlockSet(u64);
+pub struct NumberSet(u64);
 
-impl BlockSet {
-    /// No block.
-    pub const EMPTY: BlockSet = BlockSet(0);
+impl NumberSet {
+    /// No number.
+    pub const EMPTY: NumberSet = NumberSet(0);
 
-    fn bit(block: u8) -> u64 {
-        1 << (block - 1)
+    fn bit(number: u8) -> u64 {
+        1 << (number - 1)
     }
 
-    /// Adds `block`, 1 to 64.
-    pub fn add(&mut self, block: u8) {
-        self.0 |= BlockSet::bit(block);
+    /// Adds `number`, 1 to 64.
+    pub fn add(&mut self, number: u8) {
+        self.0 |= NumberSet::bit(number);
     }
 
-    /// Whether it has `block`, 1 to 64.
-    pub fn has(self, block: u8) -> bool {
-        self.0 & BlockSet::bit(block) != 0
+    /// Whether it has `number`, 1 to 64.
+    pub fn has(self, number: u8) -> bool {
+        self.0 & NumberSet::bit(number) != 0
     }
 
-    /// Whether it has a block that `other` has.
-    pub fn meets(self, other: BlockSet) -> bool {
+    /// Whether it has a number that `other` has.
+    pub fn meets(self, other: NumberSet) -> bool {
         self.0 & other.0 != 0
     }
 
-    /// The blocks of both.
-    pub fn union(self, other: BlockSet) -> BlockSet {
-        BlockSet(self.0 | other.0)
+    /// The numbers of both.
+    pub fn union(self, other: NumberSet) -> NumberSet {
+        NumberSet(self.0 | other.0)
+    }
+
+    /// The numbers of all; None if one of them is in two.
+    fn union_of_apart(sets: impl Iterator<Item = NumberSet>) -> Option<NumberSet> {
+        let mut union = NumberSet::EMPTY;
+        for set in sets {
+            if set.meets(union) {
+                return None;
+            }
+            union = union.union(set);
+        }
+        Some(union)
     }
 }
 
@@ -48,7 +60,9 @@ pub struct Unit {
     journal: [Change; JOURNAL],
     journal_length: u8,
     /// Blocks made in it: "A block made in a unit is held by it until it ends."
-    pub held: BlockSet,
+    pub held_blocks: NumberSet,
+    /// Lists taken in it: "the number is held by the unit and so free for no stream".
+    pub held_lists: NumberSet,
 }
 
 impl Unit {
@@ -58,7 +72,8 @@ impl Unit {
         window: 0,
         journal: [Change::TakeList { list: 1 }; JOURNAL],
         journal_length: 0,
-        held: BlockSet::EMPTY,
+        held_blocks: NumberSet::EMPTY,
+        held_lists: NumberSet::EMPTY,
     };
 
     /// Its changes in order.
@@ -86,23 +101,28 @@ impl Unit {
         all_apply
     }
 
-    /// Its part of question 3.
+    /// Its part of question 3; every change has a member map (document 02, E6).
     fn is_sound(&self) -> bool {
         usize::from(self.journal_length) <= JOURNAL
             && match self.is_open {
                 true => (1..=WINDOWS).contains(&self.window),
-                false => self.journal_length == 0 && self.held == BlockSet::EMPTY,
+                false => self.journal_length == 0 && self.holds_nothing(),
             }
             && self
                 .journal()
                 .iter()
-                .all(|&change| change.in_range() && change.has_member_map() && self.holds_what_is_put(change))
+                .all(|&change| change.in_range() && self.holds_what_is_made(change))
     }
 
-    /// "Each block a journal puts held by that unit."
-    fn holds_what_is_put(&self, change: Change) -> bool {
+    fn holds_nothing(&self) -> bool {
+        self.held_blocks == NumberSet::EMPTY && self.held_lists == NumberSet::EMPTY
+    }
+
+    /// "Each block a journal puts held by that unit", and "each list a journal takes is held by that unit".
+    fn holds_what_is_made(&self, change: Change) -> bool {
         match change {
-            Change::PutFirst { block, .. } | Change::PutAfter { block, .. } => self.held.has(block),
+            Change::PutFirst { block, .. } | Change::PutAfter { block, .. } => self.held_blocks.has(block),
+            Change::TakeList { list } => self.held_lists.has(list),
             _ => true,
         }
     }
@@ -178,9 +198,15 @@ impl Record {
     }
 
     /// Blocks that open units hold.
-    pub fn held(&self) -> BlockSet {
-        let held = self.units.iter().map(|unit| unit.held);
-        held.fold(BlockSet::EMPTY, BlockSet::union)
+    pub fn held_blocks(&self) -> NumberSet {
+        let held = self.units.iter().map(|unit| unit.held_blocks);
+        held.fold(NumberSet::EMPTY, NumberSet::union)
+    }
+
+    /// Lists that open units hold.
+    pub fn held_lists(&self) -> NumberSet {
+        let held = self.units.iter().map(|unit| unit.held_lists);
+        held.fold(NumberSet::EMPTY, NumberSet::union)
     }
 
     /// Entries in the queue.
@@ -291,15 +317,15 @@ impl Record {
             })
     }
 
-    /// "Held blocks on no committed list and held once."
+    /// "Held blocks on no committed list and held once"; "a held list number is not taken in the committed state and is
+    /// held once".
     fn has_sound_holders(&self, committed: &State) -> bool {
-        let mut held = BlockSet::EMPTY;
-        for unit in &self.units {
-            if unit.held.meets(held) {
-                return false;
-            }
-            held = held.union(unit.held);
-        }
-        (1..=BLOCKS).all(|block| !(held.has(block) && committed.is_on_a_list(block)))
+        let blocks = NumberSet::union_of_apart(self.units.iter().map(|unit| unit.held_blocks));
+        let lists = NumberSet::union_of_apart(self.units.iter().map(|unit| unit.held_lists));
+        let (Some(blocks), Some(lists)) = (blocks, lists) else {
+            return false;
+        };
+        (1..=BLOCKS).all(|block| !(blocks.has(block) && committed.is_on_a_list(block)))
+            && (1..=LISTS).all(|list| !(lists.has(list) && committed.is_taken(list)))
     }
 }

@@ -1,7 +1,7 @@
 //! The book of document 01 ("Flush", demand 3), kept beside random scripts: the committed state is what the history
 //! makes, the persistent one what its longest prefix makes whose closing stores are on the card, and a mount gives
 //! that state, whatever was cut. Which blocks are unwritten is part of a state (document 02, E4), and so is the race of each
-//! that is written (E10).
+//! that is written (E10). A NewList in a unit joins its unit's batch (E6).
 //!
 //! The book is fed the lines of a script, which calls are accepted, which are refused 12, and the numbers given. It
 //! shares nothing with the library but the sizes: states are lists of lists here.
@@ -196,7 +196,7 @@ impl Book {
     }
 
     fn change(&mut self, stream: usize, change: Change) {
-        if stream > 0 && !matches!(change, Change::TakeList { .. }) {
+        if stream > 0 {
             return self.batches[stream - 1].push(change);
         }
         self.wait(&change, Some(self.history.len()));

@@ -1,12 +1,13 @@
 //! The "Runs with known outcome" of document 01, in their order; those that it marks P are named so. Then what document 02
-//! says of blocks that nobody wrote (E4), of printed pages (E1), of windows (E7) and of races (E10).
+//! says of blocks that nobody wrote (E4), of printed pages (E1), of windows (E7), of races (E10) and of lists taken in units
+//! (E6).
 
 use second::disk::{Ending, Flushed, Lent, MountRefusal, Refusal};
-use second::entry::Cause;
+use second::entry::{Cause, Change};
 use second::limits::{BLOCK_BYTES, JOURNAL_BYTES, QUEUE_BYTES, SEGMENT_BYTES, SUMMARY_AT};
 use second::lister;
 use second::page;
-use second::record::Record;
+use second::record::{NumberSet, Record};
 
 /// What a caller lends.
 #[derive(Clone)]
@@ -324,8 +325,7 @@ fn lister_refuses_lengths_and_faults() {
 fn faults_have_their_place() {
     /// The entry at fault and what is wrong with it; None if the log is acceptable.
     type Expected = Option<(u8, Cause)>;
-    let faults: [(&[u8], Expected); 17] = [
-        (&[1, 130, 1], Some((0, Cause::Map))),
+    let faults: [(&[u8], Expected); 16] = [
         (&[1, 144, 0], Some((0, Cause::Map))),
         (&[1, 2, 0], Some((0, Cause::Range))),
         (&[1, 2, 17], Some((0, Cause::Range))),
@@ -832,7 +832,7 @@ fn other_refusals_raise_no_count() {
     assert_eq!(owner.lend().end(1), Err(Refusal::Stream));
     assert_eq!(owner.lend().end(0), Err(Refusal::Stream));
     assert_eq!(owner.lend().begin(1, 2), Ok(()));
-    assert_eq!(owner.lend().new_list(1), Ok(2));
+    assert_eq!(owner.lend().new_list(0), Ok(2));
     assert_eq!(owner.lend().new_block(1, 1, 0), Err(Refusal::List));
     assert_eq!(owner.lend().new_block(0, 2, 0), Ok(2));
     while owner.lend().write(0, 2, &seven(), 0).is_ok() {}
@@ -1127,4 +1127,403 @@ fn a_card_without_races_is_as_it_was() {
     owner.remount();
     assert_eq!(owner.read_with_race(0, 1), Ok((seven(), 0)));
     assert_eq!(owner.read_with_race(5, 1), Ok((seven(), 0)));
+}
+
+// ---- Document 02, E6 ------------------------------------------------------------------------------------------------
+
+impl Owner {
+    /// The lists of a view, in the inventory's order.
+    fn inventory(&mut self, view: u64) -> Vec<u8> {
+        let mut lists = [165; 16];
+        let count = self.lend().inventory(view, &mut lists).expect("the view is open");
+        assert!(lists[count..].iter().all(|&byte| byte == 165));
+        lists[..count].to_vec()
+    }
+
+    /// Unit 1 takes list 2 and has block 2 on it, written.
+    fn with_list_in_unit() -> Owner {
+        let mut owner = Owner::begun_and_flushed();
+        assert_eq!(owner.lend().begin(1, 1), Ok(()));
+        assert_eq!(owner.lend().new_list(1), Ok(2));
+        assert_eq!(owner.lend().new_block(1, 2, 0), Ok(2));
+        assert_eq!(owner.lend().write(1, 2, &[9; BLOCK_BYTES], 0), Ok(()));
+        owner
+    }
+
+    /// Stream 0 takes lists up to the last that is free.
+    fn take_all_lists(&mut self) {
+        while self.lend().new_list(0).is_ok() {}
+        assert_eq!(self.lend().new_list(0), Err(Refusal::NoneFree));
+    }
+}
+
+/// "Only that unit's view has the list. An accepted End takes it": 3 + 4 + 260 + 3 stores.
+#[test]
+fn a_list_goes_with_its_unit() {
+    let mut owner = Owner::with_list_in_unit();
+    assert_eq!(owner.lend().begin(2, 1), Ok(()));
+    assert_eq!(
+        [0, 1, 2, 5].map(|view| owner.inventory(view)),
+        [vec![1], vec![1, 2], vec![1], vec![1]]
+    );
+    assert_eq!(owner.lend().next_block(1, 2, 0), Ok(2));
+    for view in [0, 2, 5] {
+        assert_eq!(owner.lend().next_block(view, 2, 0), Err(Refusal::List));
+    }
+    for stream in [0, 2] {
+        assert_eq!(owner.lend().new_block(stream, 2, 0), Err(Refusal::List));
+        assert_eq!(owner.lend().delete_list(stream, 2), Err(Refusal::List));
+        assert_eq!(owner.lend().delete_block(stream, 2), Err(Refusal::Block));
+    }
+    assert_eq!(owner.page(1), Ok(line(Some(1), &[1]) + &line(Some(2), &[2])));
+    assert_eq!(owner.page(0), Ok(line(Some(1), &[1])));
+    assert_eq!(owner.flush(65_535), flushed(0, Ending::Drained));
+    assert_eq!(owner.lend().end(1), Ok(()));
+    assert_eq!(
+        [0, 2, 5].map(|view| owner.inventory(view)),
+        [vec![1, 2], vec![1, 2], vec![1]]
+    );
+    assert_eq!(owner.flush(65_535), flushed(270, Ending::Drained));
+    assert_eq!(owner.summary(0)[0], 7);
+    assert_eq!(owner.summary(0)[9..19], [130, 2, 131, 2, 2, 137, 2, 1, 16, 3]);
+    owner.remount();
+    assert_eq!(owner.inventory(5), [1, 2]);
+    assert_eq!(owner.read(5, 2), Ok([9; BLOCK_BYTES]));
+}
+
+/// "A lost unit leaves it in no view": a cut before the commit's last store, and after it.
+#[test]
+fn a_cut_takes_the_list_with_its_unit() {
+    for stores in 0..=270 {
+        let mut owner = Owner::with_list_in_unit();
+        assert_eq!(owner.lend().end(1), Ok(()));
+        assert!(owner.flush(stores).is_ok());
+        owner.remount();
+        let is_whole = stores == 270;
+        let lists = if is_whole { vec![1, 2] } else { vec![1] };
+        assert_eq!([owner.inventory(0), owner.inventory(5)], [lists.clone(), lists]);
+        assert_eq!(owner.lend().new_list(0), Ok(if is_whole { 3 } else { 2 }));
+    }
+}
+
+/// A mounting closes the unit: its list is nowhere, and its number is the first that is free.
+#[test]
+fn a_mounting_takes_the_list_with_its_unit() {
+    let mut owner = Owner::with_list_in_unit();
+    let card = owner.card.clone();
+    owner.remount();
+    assert_eq!([owner.inventory(0), owner.inventory(5)], [vec![1], vec![1]]);
+    assert_eq!(owner.lend().begin(1, 1), Ok(()));
+    assert_eq!(owner.inventory(1), [1]);
+    assert_eq!(owner.lend().new_list(1), Ok(2));
+    assert!(owner.card == card);
+}
+
+/// Refusal 12 leaves it in no view and releases its number; "given last" stays where it came to.
+#[test]
+fn a_conflict_takes_the_list_with_its_unit() {
+    let mut owner = Owner::with_list_in_unit();
+    assert_eq!(owner.lend().write(1, 1, &[5; BLOCK_BYTES], 0), Ok(()));
+    assert_eq!(owner.lend().delete_block(0, 1), Ok(()));
+    // Block 1 is skipped, the list is shown all the same.
+    assert_eq!(owner.inventory(1), [1, 2]);
+    assert_eq!(owner.lend().end(1), Err(Refusal::Conflict));
+    assert_eq!([owner.inventory(0), owner.inventory(5)], [vec![1], vec![1]]);
+    assert_eq!(owner.lend().begin(1, 1), Ok(()));
+    assert_eq!(owner.inventory(1), [1]);
+    assert_eq!(owner.flush(65_535), flushed(3, Ending::Drained));
+    assert_eq!(owner.summary(0)[9..12], [33, 1, 165]);
+    for list in (3..=16).chain([2]) {
+        assert_eq!(owner.lend().new_list(0), Ok(list));
+    }
+}
+
+/// "The number is held by the unit and so free for no stream": until the unit ends, also if it deletes the list again.
+#[test]
+fn held_lists_are_given_to_nobody() {
+    let mut owner = Owner::formatted(1);
+    assert_eq!(owner.lend().begin(1, 1), Ok(()));
+    assert_eq!(owner.lend().begin(2, 1), Ok(()));
+    assert_eq!(owner.lend().new_list(1), Ok(1));
+    assert_eq!(owner.lend().new_list(0), Ok(2));
+    assert_eq!(owner.lend().new_list(2), Ok(3));
+    owner.take_all_lists();
+    let taken: Vec<u8> = [2].into_iter().chain(4..=16).collect();
+    assert_eq!(owner.inventory(0), taken);
+    let refused = |owner: &mut Owner| [0, 1, 2].map(|stream| owner.lend().new_list(stream));
+    assert_eq!(refused(&mut owner), [Err(Refusal::NoneFree); 3]);
+    assert_eq!(owner.lend().delete_list(1, 1), Ok(()));
+    assert_eq!(refused(&mut owner), [Err(Refusal::NoneFree); 3]);
+    // A list that is deleted in the committed state is free; in a unit's view alone it is not.
+    assert_eq!(owner.lend().delete_list(2, 5), Ok(()));
+    assert_eq!(refused(&mut owner), [Err(Refusal::NoneFree); 3]);
+    assert_eq!(owner.lend().delete_list(0, 4), Ok(()));
+    assert_eq!(owner.lend().new_list(1), Ok(4));
+    assert_eq!(refused(&mut owner), [Err(Refusal::NoneFree); 3]);
+    // The unit ends: 1 is free, 4 is taken, and 3 is still held.
+    assert_eq!(owner.lend().end(1), Ok(()));
+    assert_eq!(owner.lend().new_list(2), Ok(1));
+    assert_eq!(owner.lend().new_list(0), Err(Refusal::NoneFree));
+    // The other is refused 12: 1 and 3 are free.
+    assert_eq!(owner.lend().delete_list(0, 5), Ok(()));
+    assert_eq!(owner.lend().end(2), Err(Refusal::Conflict));
+    for list in [3, 5, 1] {
+        assert_eq!(owner.lend().new_list(0), Ok(list));
+    }
+    assert_eq!(owner.lend().new_list(0), Err(Refusal::NoneFree));
+}
+
+/// "For this call on streams 1 to 4, 11 can be met": the 16th entry; 10 comes before, and a refusal gives no number.
+#[test]
+fn a_full_journal_takes_no_list() {
+    let mut owner = Owner::formatted(1);
+    assert_eq!(owner.lend().begin(4, 1), Ok(()));
+    for list in 1..=15 {
+        assert_eq!(owner.lend().new_list(4), Ok(list));
+    }
+    assert_eq!(owner.lend().new_list(4), Err(Refusal::JournalFull));
+    assert_eq!(owner.lend().new_list(0), Ok(16));
+    assert_eq!(owner.lend().new_list(4), Err(Refusal::NoneFree));
+    assert_eq!(owner.lend().end(4), Ok(()));
+    let lists: Vec<u8> = [16].into_iter().chain(1..=15).collect();
+    assert_eq!(owner.inventory(0), lists);
+    assert_eq!(owner.flush(65_535), flushed(17 * 3, Ending::Drained));
+    owner.remount();
+    assert_eq!(owner.inventory(5), lists);
+}
+
+/// "And 13 cannot": the queue is full, and the unit takes its list; its End waits.
+#[test]
+fn a_unit_takes_a_list_while_the_queue_is_full() {
+    let mut owner = Owner::begun(1);
+    for _ in 3..32 {
+        assert_eq!(owner.lend().write(0, 1, &seven(), 0), Ok(()));
+    }
+    assert_eq!(owner.lend().begin(1, 1), Ok(()));
+    assert_eq!(owner.lend().new_list(0), Err(Refusal::QueueFull));
+    assert_eq!(owner.lend().new_list(1), Ok(2));
+    assert_eq!(owner.lend().end(1), Err(Refusal::QueueFull));
+    assert_eq!(owner.inventory(1), [1, 2]);
+    // The first entry drained makes room for one, the second for both.
+    assert_eq!(owner.flush(3), flushed(3, Ending::Spent));
+    assert_eq!(owner.lend().end(1), Err(Refusal::QueueFull));
+    assert_eq!(owner.flush(4), flushed(4, Ending::Spent));
+    assert_eq!(owner.lend().end(1), Ok(()));
+    assert_eq!(owner.inventory(0), [1, 2]);
+}
+
+/// "E3's order counts from then; before that its unit's view shows it after the committed lists, in journal order."
+#[test]
+fn the_order_of_a_units_lists() {
+    let mut owner = Owner::formatted(1);
+    assert_eq!(owner.lend().begin(1, 1), Ok(()));
+    assert_eq!(owner.lend().begin(2, 1), Ok(()));
+    for (stream, list) in [(0, 1), (1, 2), (0, 3), (2, 4), (1, 5), (0, 6)] {
+        assert_eq!(owner.lend().new_list(stream), Ok(list));
+    }
+    assert_eq!(
+        [0, 1, 2].map(|view| owner.inventory(view)),
+        [vec![1, 3, 6], vec![1, 3, 6, 2, 5], vec![1, 3, 6, 4]]
+    );
+    assert_eq!(owner.lend().end(2), Ok(()));
+    assert_eq!(owner.inventory(1), [1, 3, 6, 4, 2, 5]);
+    assert_eq!(owner.lend().new_list(0), Ok(7));
+    assert_eq!(owner.inventory(1), [1, 3, 6, 4, 7, 2, 5]);
+    assert_eq!(owner.lend().end(1), Ok(()));
+    assert_eq!(owner.lend().new_list(0), Ok(8));
+    assert_eq!(owner.inventory(0), [1, 3, 6, 4, 7, 2, 5, 8]);
+    assert_eq!(owner.flush(65_535), flushed(10 * 3, Ending::Drained));
+    assert_eq!(
+        owner.summary(0)[..21],
+        [10, 2, 1, 2, 3, 2, 6, 130, 4, 16, 1, 2, 7, 130, 2, 130, 5, 16, 2, 2, 8]
+    );
+    owner.remount();
+    assert_eq!(owner.inventory(5), [1, 3, 6, 4, 7, 2, 5, 8]);
+}
+
+/// In journal order, not by number: 1 follows 16.
+#[test]
+fn a_units_lists_are_not_sorted() {
+    let mut owner = Owner::formatted(1);
+    for list in 1..=15 {
+        assert_eq!(owner.lend().new_list(0), Ok(list));
+    }
+    for list in [1, 2, 9] {
+        assert_eq!(owner.lend().delete_list(0, list), Ok(()));
+    }
+    assert_eq!(owner.lend().begin(3, 1), Ok(()));
+    for list in [16, 1, 2, 9] {
+        assert_eq!(owner.lend().new_list(3), Ok(list));
+    }
+    let committed: Vec<u8> = (3..=8).chain(10..=15).collect();
+    let shown = |own: &[u8]| [&committed, own].concat();
+    assert_eq!(owner.inventory(3), shown(&[16, 1, 2, 9]));
+    assert_eq!(owner.lend().delete_list(3, 1), Ok(()));
+    assert_eq!(owner.inventory(3), shown(&[16, 2, 9]));
+    assert_eq!(owner.lend().end(3), Ok(()));
+    assert_eq!(owner.inventory(0), shown(&[16, 2, 9]));
+}
+
+/// A unit that takes a list and deletes it again: both are journalled, and nothing is left.
+#[test]
+fn a_list_taken_and_deleted_in_a_unit() {
+    let mut owner = Owner::formatted(1);
+    assert_eq!(owner.lend().begin(1, 1), Ok(()));
+    assert_eq!(owner.lend().new_list(1), Ok(1));
+    assert_eq!(owner.lend().new_block(1, 1, 0), Ok(1));
+    assert_eq!(owner.lend().delete_list(1, 1), Ok(()));
+    assert_eq!(owner.inventory(1), []);
+    assert_eq!(owner.lend().new_block(1, 1, 0), Err(Refusal::List));
+    assert_eq!(owner.lend().end(1), Ok(()));
+    assert_eq!(owner.inventory(0), []);
+    assert_eq!(owner.flush(65_535), flushed(3 + 4 + 3 + 3, Ending::Drained));
+    assert_eq!(owner.summary(0)[..10], [4, 130, 1, 131, 1, 1, 162, 1, 16, 3]);
+    owner.remount();
+    assert_eq!(owner.inventory(5), []);
+    assert_eq!(owner.lend().new_list(0), Ok(1));
+}
+
+/// A list deleted under one unit and taken by another satisfies the first once that other has ended.
+#[test]
+fn a_list_made_again_in_a_unit() {
+    let mut owner = Owner::formatted(1);
+    owner.take_all_lists();
+    assert_eq!(owner.lend().begin(1, 1), Ok(()));
+    assert_eq!(owner.lend().begin(2, 1), Ok(()));
+    assert_eq!(owner.lend().new_block(1, 7, 0), Ok(1));
+    assert_eq!(owner.lend().delete_list(0, 7), Ok(()));
+    assert_eq!(owner.lend().new_list(2), Ok(7));
+    assert_eq!(owner.lend().next_block(1, 7, 0), Err(Refusal::List));
+    let mut early = owner.clone();
+    assert_eq!(early.lend().end(1), Err(Refusal::Conflict));
+    assert_eq!(owner.lend().end(2), Ok(()));
+    assert_eq!(owner.lend().next_block(1, 7, 0), Ok(1));
+    assert_eq!(owner.lend().end(1), Ok(()));
+    assert_eq!(owner.lend().next_block(0, 7, 0), Ok(1));
+}
+
+/// "A held list number is not taken in the committed state and is held once, and each list a journal takes is held by that
+/// unit, in the soundness question too."
+#[test]
+fn question_3_judges_held_lists() {
+    let is_sound = |change: &dyn Fn(&mut Record)| {
+        let mut owner = Owner::begun(1);
+        assert_eq!(owner.lend().begin(1, 1), Ok(()));
+        assert_eq!(owner.lend().begin(2, 1), Ok(()));
+        assert_eq!(owner.lend().new_list(1), Ok(2));
+        change(&mut owner.record);
+        owner.lend().conflicts(1).is_ok()
+    };
+    let take = |list| Change::TakeList { list };
+    assert!(is_sound(&|_| {}));
+    // A held number that no journal takes.
+    assert!(is_sound(&|record| record.unit_mut(1).held_lists.add(16)));
+    assert!(is_sound(&|record| record.unit_mut(2).held_lists.add(3)));
+    // Taken in the committed state, by the queue.
+    assert!(!is_sound(&|record| record.unit_mut(2).held_lists.add(1)));
+    // Held twice.
+    assert!(!is_sound(&|record| record.unit_mut(2).held_lists.add(2)));
+    // Held by a unit that is closed.
+    assert!(!is_sound(&|record| record.unit_mut(3).held_lists.add(3)));
+    // Taken by a journal and held by nobody, or by another unit.
+    assert!(!is_sound(&|record| record.unit_mut(1).held_lists = NumberSet::EMPTY));
+    assert!(!is_sound(&|record| record.unit_mut(2).add(take(3))));
+    assert!(!is_sound(&|record| {
+        record.unit_mut(1).held_lists.add(3);
+        record.unit_mut(2).add(take(3));
+    }));
+    assert!(is_sound(&|record| {
+        record.unit_mut(2).held_lists.add(3);
+        record.unit_mut(2).add(take(3));
+    }));
+    // An entry that doesn't apply is no fault of a journal.
+    assert!(is_sound(&|record| record.unit_mut(1).add(take(2))));
+    for list in [0, 17] {
+        assert!(!is_sound(&|record| record.unit_mut(1).add(take(list))));
+    }
+}
+
+/// "Map 130 becomes legal as a member": acting, dead, out of range, and not applicable.
+#[test]
+fn members_that_take_lists_on_a_card() {
+    /// The lists of an acceptable log in order, or the entry at fault and what is wrong with it.
+    type Expected = Result<&'static [u8], (u8, Cause)>;
+    let cards: &[(&[u8], Expected)] = &[
+        (&[2, 130, 1, 16, 1], Ok(&[1])),
+        (&[2, 130, 16, 16, 1], Ok(&[16])),
+        (&[3, 130, 9, 131, 1, 9, 16, 2], Ok(&[9])),
+        (&[4, 130, 3, 130, 2, 16, 2, 2, 1], Ok(&[3, 2, 1])),
+        (&[4, 130, 1, 162, 1, 130, 1, 16, 3], Ok(&[1])),
+        (&[4, 2, 1, 162, 1, 130, 1, 16, 2], Ok(&[1])),
+        // Dead: at the end, before a plain entry, before a commit of none, before a commit's own.
+        (&[1, 130, 1], Ok(&[])),
+        (&[2, 130, 1, 2, 1], Ok(&[1])),
+        (&[3, 130, 1, 16, 0, 2, 1], Ok(&[1])),
+        (&[3, 130, 1, 130, 2, 16, 1], Ok(&[2])),
+        (&[2, 2, 1, 130, 1], Ok(&[1])),
+        (&[2, 130, 1, 130, 1], Ok(&[])),
+        // Its range is judged, dead or not.
+        (&[1, 130, 0], Err((0, Cause::Range))),
+        (&[1, 130, 17], Err((0, Cause::Range))),
+        (&[1, 130, 255], Err((0, Cause::Range))),
+        (&[2, 130, 0, 16, 1], Err((0, Cause::Range))),
+        (&[3, 2, 1, 130, 17, 16, 1], Err((1, Cause::Range))),
+        // A member's fault in acting is its commit's.
+        (&[3, 2, 1, 130, 1, 16, 1], Err((2, Cause::Inapplicable))),
+        (&[3, 130, 1, 130, 1, 16, 2], Err((2, Cause::Inapplicable))),
+        (&[3, 131, 1, 1, 130, 1, 16, 2], Err((2, Cause::Inapplicable))),
+        (&[3, 130, 1, 131, 1, 1, 16, 1], Err((2, Cause::Inapplicable))),
+        (&[3, 130, 1, 2, 1, 16, 1], Err((2, Cause::Run))),
+        (&[3, 130, 1, 16, 1, 2, 1], Err((2, Cause::Inapplicable))),
+    ];
+    for &(summary, expected) in cards {
+        let mut owner = Owner::formatted(1);
+        owner.card[SUMMARY_AT..][..summary.len()].copy_from_slice(summary);
+        let answer = match owner.lend().mount() {
+            Ok(()) => Ok(owner.inventory(5)),
+            Err(MountRefusal::Log(fault)) => Err((fault.entry, fault.cause)),
+            Err(MountRefusal::Lengths) => panic!("the lengths are right"),
+        };
+        assert_eq!(answer, expected.map(<[u8]>::to_vec), "{summary:?}");
+    }
+}
+
+/// A member that takes a list ends with the summary, and its commit stands in the next segment; or its list is behind the
+/// summary.
+#[test]
+fn a_member_that_takes_a_list_ends_within_the_summary() {
+    // Dead puts of three bytes, commits of no member of two: 509 and 510.
+    for (puts, commits, is_whole) in [(1, 253, true), (2, 252, false)] {
+        let mut summary = [[131, 9, 1].repeat(puts), [16, 0].repeat(commits), vec![130, 7]].concat();
+        summary.truncate(511);
+        let entries = puts + commits;
+        let mut owner = Owner::formatted(2);
+        owner.card[SUMMARY_AT] = entries as u8 + 1;
+        owner.card[SUMMARY_AT + 1..][..511].copy_from_slice(&summary);
+        owner.card[SEGMENT_BYTES + SUMMARY_AT..][..3].copy_from_slice(&[1, 16, 1]);
+        match owner.lend().mount() {
+            Ok(()) => assert!(is_whole && owner.inventory(5) == [7]),
+            Err(MountRefusal::Log(fault)) => {
+                assert_eq!(
+                    (is_whole, fault.entry, fault.cause),
+                    (false, entries as u8, Cause::Bounds)
+                );
+            }
+            Err(MountRefusal::Lengths) => panic!("the lengths are right"),
+        }
+    }
+}
+
+/// A take adds no data: "Only the 256 bytes of a write being added change there; other entries change none."
+#[test]
+fn a_take_leaves_the_data_buffers() {
+    let mut owner = Owner::formatted(1);
+    assert_eq!(owner.lend().begin(2, 1), Ok(()));
+    assert_eq!(owner.lend().new_list(2), Ok(1));
+    assert_eq!(owner.lend().end(2), Ok(()));
+    assert!(owner
+        .journal_data
+        .iter()
+        .chain(&owner.queue_data)
+        .all(|&byte| byte == 165));
 }

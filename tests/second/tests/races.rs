@@ -11,7 +11,7 @@ use second::record::Record;
 use second::shell::Shell;
 use second::state::State;
 
-const SEEDS: u64 = 320;
+const SEEDS: u64 = 340;
 const CARDS: u64 = 2_000;
 
 /// What was reached.

@@ -220,6 +220,41 @@ fn races_are_written_and_read() {
     ]);
 }
 
+/// "Only that unit's view has the list."
+#[test]
+fn lists_go_with_their_unit() {
+    check(&[
+        ("newlist 1", "1 0\n"),
+        ("card 4096 0", "ok\n"),
+        ("newlist 1", "3 0\n"),
+        ("format", "0\n"),
+        ("newlist 1", "4 0\n"),
+        ("begin 1", "0\n"),
+        ("newlist 5", "4 0\n"),
+        ("newlist 1", "0 1\n"),
+        ("newblock 1 1 0", "0 1\n"),
+        ("newlist 0", "0 2\n"),
+        ("inventory 1", "0 2 2 1\n"),
+        ("show 1", "list 2:\nlist 1: 1\nblock 1: unwritten\n"),
+        (
+            "page 1",
+            "0 82\n   1   1                                \n   2                                    \n",
+        ),
+        ("next 1 1 0", "0 1\n"),
+        ("inventory 0", "0 1 2\n"),
+        ("show 0", "list 2:\n"),
+        ("next 0 1 0", "7 0\n"),
+        ("newblock 0 1 0", "7 0\n"),
+        ("end 1", "0\n"),
+        ("show 0", "list 2:\nlist 1: 1\nblock 1: unwritten\n"),
+        ("cut flush 65535 12", "cut 12\n"),
+        ("list", "segments 1 used 1 entries 3\nlist 2:\n"),
+        ("mount", "0 0 0\n"),
+        ("inventory 5", "0 1 2\n"),
+        ("newlist 0", "0 1\n"),
+    ]);
+}
+
 #[test]
 fn what_is_not_a_command() {
     check(&[

@@ -3,16 +3,16 @@ use mathlib.Core.Path.{_≡_}
 use mathlib.Core.Bool.{Bool, true, false, _&&_, _||_, not, cond}
 use mathlib.Core.Option.{Option, some}
 use mathlib.Core.List.{List, [], _∷_, _++_}
-use Prim.Native.Nat.{ℕ, _+_}
+use Prim.Native.Nat.{ℕ}
 use lib.Dec.{leb, eqb}
 use Rattle.lists.specs.Basic.{isSome, orElse}
+use Rattle.lists.specs.InUse.{listNumber}
 use Rattle.lists.specs.State.{Row, State, taken, placed, onList, overlay}
 use Rattle.lists.specs.promises.Tables.{Tables, Shows}
 use Rattle.log.specs.declared.entry.LogEntry.{LogEntry}
 use Rattle.log.specs.declared.entry.LogEntry.the-variants.{Take, PutFirst, PutAfter}
-use Rattle.log.specs.Entry.{isList, asEntry}
-use Rattle.log.specs.Cell.{cellOf}
-use Rattle.disk.specs.Record.{Record, unitAt, holderOf, appended, holding, withLastBlock, withLastList}
+use Rattle.log.specs.Entry.{isList}
+use Rattle.disk.specs.Record.{Record, unitAt, holderOf, holding, withLastBlock, withLastList}
 use Rattle.disk.specs.declared.answer.NumberReply.{NumberReply}
 use Rattle.disk.specs.declared.answer.NumberReply.the-variants.{Number, Refused}
 use Rattle.disk.specs.Disk.{Disk}
@@ -23,25 +23,26 @@ use Rattle.calls.specs.promises.Adds.{added, rooms}
 
 -- of committed lists rs
 abbrev pub freeListIn : {D : Type 0} → Record → List (Row D) → Option ℕ
-freeListIn r rs = freeFrom (λ l. taken l rs) 16 16 (r .tally .lastList)
+freeListIn r rs = freeFrom (λ l. taken l rs || not (eqb (holderOf r (listNumber l)) 0)) 16 16 (r .tally .lastList)
 
 abbrev pub freeBlockIn : {D : Type 0} → Record → List (Row D) → Option ℕ
 freeBlockIn r rs = freeFrom (λ b. placed b rs || not (eqb (holderOf r b) 0)) 64 64 (r .tally .lastBlock)
 
--- NewList behind question 4
-abbrev pub takenList : Record → ℕ → Record
-takenList r l = withLastList (appended (cellOf (asEntry false (Take l))) r) l
+-- number n held by unit s, by none on stream 0
+abbrev pub heldBy : ℕ → ℕ → Record → Record
+heldBy s n r = cond (eqb s 0) r (holding n s r)
 
-abbrev pub Takes : Record → List (Row ℕ) → NumberReply → Record → Type 0
-Takes r rs (Refused x) r′ = (r′ ≡ r) × (firstNo ((10, isSome (freeListIn r rs)) ∷ (13, leb (r .ring .len + 1) 32) ∷ []) ≡ number x)
-Takes r rs (Number l) r′ = (r′ ≡ takenList r l) × (freeListIn r rs ≡ some l) × (leb (r .ring .len + 1) 32 ≡ true)
+-- NewList behind question 4: list l taken on stream s
+abbrev pub takenList : ℕ → ℕ → Record → Record
+takenList s l r = withLastList (heldBy s (listNumber l) (added s (Take l) r)) l
+
+abbrev pub Takes : ℕ → Record → List (Row ℕ) → NumberReply → Record → Type 0
+Takes s r rs (Refused x) r′ = (r′ ≡ r) × ((d : Disk) → d .rec ≡ r → firstNo ((10, isSome (freeListIn r rs)) ∷ rooms d s) ≡ number x)
+Takes s r rs (Number l) r′ = (r′ ≡ takenList s l r) × (freeListIn r rs ≡ some l) × ((d : Disk) → d .rec ≡ r → firstNo (rooms d s) ≡ 0)
 
 -- NewBlock: block b put on list l behind block p, first if p is 0, and held by unit s
 abbrev pub putEntry : ℕ → ℕ → ℕ → LogEntry
 putEntry b l p = cond (eqb p 0) (PutFirst b l) (PutAfter b l p)
-
-abbrev pub heldBy : ℕ → ℕ → Record → Record
-heldBy s b r = cond (eqb s 0) r (holding b s r)
 
 unfoldable pub putBlock : ℕ → ℕ → ℕ → ℕ → Record → Record
 putBlock s l p b r = withLastBlock (heldBy s b (added s (putEntry b l p) r)) b

@@ -8,7 +8,8 @@ use lib.Dec.{leb, eqb, ltb}
 use lib.ListN.{getD}
 use Rattle.lists.specs.Basic.{isSome, all, each, from}
 use Rattle.lists.specs.Change.{Change}
-use Rattle.lists.specs.State.{Row, State, placed, applyAll, overlay}
+use Rattle.lists.specs.State.{Row, State, applyAll, overlay}
+use Rattle.lists.specs.InUse.{numberCount, inUse, brings}
 use Rattle.lists.specs.promises.Tables.{Tables, Shows}
 use Rattle.log.specs.Raced.{Raced}
 use Rattle.log.specs.Entry.{Entry, member, raw, legal, isBlock, isList, asChange}
@@ -17,7 +18,7 @@ use Rattle.log.specs.Reader.{Reader, replay}
 use Rattle.log.specs.promises.Feed.{Memory, Keeps}
 use Rattle.disk.specs.Record.{Unit, Record, noCell, unitAt, isOpen, holderOf, queuePlaces, journalPlaces, unitCount, windowCount}
 use Rattle.disk.specs.Disk.{disk, queued}
-use Rattle.disk.specs.Sound.{putBy, headStanding}
+use Rattle.disk.specs.Sound.{headStanding}
 use Rattle.inspect.specs.promises.Located.{queueSaid, queueHere, journalHere}
 
 -- "counts and numbers in range"
@@ -26,7 +27,7 @@ numbersRight r = each (leb (r .ring .len) queuePlaces ∷ ltb (r .ring .head) qu
 
 -- may change c stand in unit u's journal, hs being the holders?
 unfoldable pub changeRight : List ℕ → ℕ → Change (Raced ℕ) → Bool
-changeRight hs u c = legal (raw 0 (member c)) && all (λ b. eqb (getD hs (b - 1) 0) u) (putBy c)
+changeRight hs u c = legal (raw 0 (member c)) && all (λ n. eqb (getD hs (n - 1) 0) u) (brings c)
 
 -- change k of a journal, a write's slot as it stands there
 abbrev pub changeIn : Unit → ℕ → Change (Raced ℕ)
@@ -44,13 +45,13 @@ unitsRight r = all (λ u. unitRight (r .held .holder) (unitAt r u) u) (from (λ 
 unfoldable pub openUnit : Record → ℕ → Bool
 openUnit r u = leb 1 u && leb u unitCount && isOpen (unitAt r u)
 
--- block b has no holder, or an open unit holds it and it is on no list of rs, those of the committed state
+-- number n has no holder, or an open unit holds it and it is not in use in rs, the lists of the committed state
 unfoldable pub holderRight : {D : Type 0} → Record → List (Row D) → ℕ → Bool
-holderRight r rs b = eqb (holderOf r b) 0 || openUnit r (holderOf r b) && not (placed b rs)
+holderRight r rs n = eqb (holderOf r n) 0 || openUnit r (holderOf r n) && not (inUse n rs)
 
--- all 64
+-- all of them
 unfoldable pub holdersRight : {D : Type 0} → Record → List (Row D) → Bool
-holdersRight r rs = all (holderRight r rs) (from (λ b. b) 1 64)
+holdersRight r rs = all (holderRight r rs) (from (λ n. n) 1 numberCount)
 
 -- What is promised where the queue is fed to the reader that lent tables keep.
 

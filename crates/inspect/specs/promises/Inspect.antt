@@ -4,6 +4,7 @@ use mathlib.Core.Bool.{Bool, true, false, cond}
 use mathlib.Core.List.{[], _∷_}
 use Prim.Native.Nat.{ℕ}
 use Rattle.lists.specs.Basic.{isSome, all, each, from}
+use Rattle.lists.specs.InUse.{numberCount}
 use Rattle.lists.specs.promises.Tables.{Tables}
 use Rattle.log.specs.Entry.{raw, legal}
 use Rattle.log.specs.Store.{tail}
@@ -31,7 +32,7 @@ behindLog d =
     each
     (all (λ e. legal (raw 0 e)) (queued d)
     ∷ isSome (committedReader d)
-    ∷ all (holderSound d) (from (λ b. b) 1 64)
+    ∷ all (holderSound d) (from (λ n. n) 1 numberCount)
     ∷ headStanding (d .card) (d .rec .ring .done) (queued d)
     ∷ [])
 

@@ -14,10 +14,10 @@ use Rattle.log.specs.declared.entry.LogEntry.the-variants.{Take, PutFirs
 use Rattle.log.specs.declared.reader.Found.{Found}
 use Rattle.log.specs.declared.reader.Found.the-variants.{Plain, Member, Bad}
 
--- what a parsed entry stands for, t telling whether its map has the mark of a member: "131, 135, 137, 161, 162. No other map is legal", but 201
+-- what a parsed entry stands for, t telling whether its map has the mark of a member; no commit has it
 abbrev pub entered : Bool → LogEntry → Option (Entry (Raced ℕ))
 entered false e = some (asEntry false e)
-entered true (Take l) = none
+entered true (Take l) = some (asEntry true (Take l))
 entered true (PutFirst b l) = some (asEntry true (PutFirst b l))
 entered true (PutAfter b l p) = some (asEntry true (PutAfter b l p))
 entered true (Write b s n) = some (asEntry true (Write b s n))

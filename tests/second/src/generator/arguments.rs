@@ -224,7 +224,7 @@ impl Generator<'_> {
 }
 
 /// Stores of the first `entries` entries of the queue, from their beginnings.
-fn stores_of_queue(record: &Record, entries: usize) -> usize {
+pub(super) fn stores_of_queue(record: &Record, entries: usize) -> usize {
     record.queue().take(entries).map(crate::log::stores_of).sum()
 }
 

@@ -1,7 +1,7 @@
 //! Random cards for the lister and the page program.
 
 use super::generate;
-use super::logs::{random_faulty_log, random_faulty_race, random_log};
+use super::logs::{random_faulty_log, random_faulty_race, random_faulty_take, random_log};
 use crate::limits::SEGMENT_BYTES;
 use crate::random::Random;
 
@@ -11,11 +11,12 @@ pub fn card(seed: u64, segments: usize) -> Vec<u8> {
     let mut random = Random::new(!seed);
     let most = segments as u64;
     let segments = random.pick(&[1, 1, 2, 3, random.clone().between(1, most), most, most + 1]) as usize;
-    let mut card = match random.below(14) {
+    let mut card = match random.below(16) {
         0..=3 => card_of_script(seed),
         4..=7 => random_log(&mut random, segments),
         8 => random_faulty_log(&mut random, segments),
         9..=12 => random_faulty_race(&mut random, segments),
+        13..=14 => random_faulty_take(&mut random, segments),
         _ => vec![random.byte(); segments * SEGMENT_BYTES],
     };
     match random.below(10) {

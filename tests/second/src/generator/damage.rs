@@ -35,7 +35,7 @@ impl Generator<'_> {
         }
     }
 
-    fn poke(&mut self, at: usize, byte: u8) {
+    pub(super) fn poke(&mut self, at: usize, byte: u8) {
         if let Some(&before) = self.shell.card().get(at) {
             self.damage.push((at, before));
         }
@@ -43,7 +43,7 @@ impl Generator<'_> {
     }
 
     /// The bytes that were written over are put back, the last first.
-    fn repair(&mut self) {
+    pub(super) fn repair(&mut self) {
         while let Some((at, byte)) = self.damage.pop() {
             self.run(format_args!("poke {at} {byte}"));
         }
@@ -200,14 +200,18 @@ impl Generator<'_> {
         }
     }
 
-    /// A unit holds a block that is free on a part of the card, and on the whole card perhaps on a list.
+    /// A unit holds a block, or a list, that is free on a part of the card, and on the whole card perhaps is not.
     fn hold_on_a_part(&mut self) {
         let segments = self.segments() as u64;
         let length = self.random.between(1, segments.max(2) - 1) as usize * SEGMENT_BYTES;
         self.run(format_args!("lend card {length}"));
         if self.run(format_args!("mount")).is_accepted() {
             self.begin_unit(1);
-            self.new_block(1);
+            if self.random.chance(50) {
+                self.new_block(1);
+            } else {
+                self.new_list(1);
+            }
         }
         self.run(format_args!("lend all"));
     }

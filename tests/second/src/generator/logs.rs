@@ -61,10 +61,10 @@ impl Generator<'_> {
     /// The same with a short log that has a fault.
     pub(super) fn faulty_log(&mut self) {
         let segments = self.segments_of_profile();
-        let log = if self.random.chance(40) {
-            random_faulty_race(&mut self.random, segments)
-        } else {
-            random_faulty_log(&mut self.random, segments)
+        let log = match self.random.below(20) {
+            0..=7 => random_faulty_race(&mut self.random, segments),
+            8..=10 => random_faulty_take(&mut self.random, segments),
+            _ => random_faulty_log(&mut self.random, segments),
         };
         self.store_log(&log);
     }
@@ -149,6 +149,18 @@ pub(super) fn random_faulty_race(random: &mut Random, segments: usize) -> Vec<u8
     writer.card
 }
 
+/// The same with a member that takes a list, and has a fault, or nearly one.
+pub(super) fn random_faulty_take(random: &mut Random, segments: usize) -> Vec<u8> {
+    let mut writer = Writer::new(segments);
+    let steps = random.between(0, 6);
+    writer.write_log(random, steps, 10);
+    writer.add_faulty_take(random);
+    if random.chance(30) {
+        writer.add_unit(random);
+    }
+    writer.card
+}
+
 /// A log being stored, with the state that it makes.
 struct Writer {
     card: Vec<u8>,
@@ -192,7 +204,7 @@ impl Writer {
         let has_members = random.chance(50);
         loop {
             let is_added = if has_members && random.chance(60) {
-                let change = any_member_change(random);
+                let change = any_change(random);
                 self.add(random, Entry::Member(change))
             } else {
                 self.add_plain(random)
@@ -284,7 +296,7 @@ impl Writer {
     /// Members that no commit takes.
     fn add_dead_members(&mut self, random: &mut Random, most: u64) -> bool {
         for _ in 0..random.below(most + 1) {
-            let change = any_member_change(random);
+            let change = any_change(random);
             if !self.add(random, Entry::Member(change)) {
                 return false;
             }
@@ -300,9 +312,14 @@ impl Writer {
         }
         let mut view = self.reading.state;
         let mut members = 0;
+        let takes_lists = random.chance(40);
         for _ in 0..random.pick(&[0, 1, 2, 3, 4, JOURNAL]) {
-            let change = change_of(random, &view);
-            if !change.has_member_map() || !view.apply(change, SOME_CONTENT) {
+            let take = free_list(random, &view).filter(|_| takes_lists && random.chance(30));
+            let change = match take {
+                Some(list) => Change::TakeList { list },
+                None => change_of(random, &view),
+            };
+            if !view.apply(change, SOME_CONTENT) {
                 continue;
             }
             if !self.add(random, Entry::Member(change)) {
@@ -328,11 +345,11 @@ impl Writer {
                 self.add(random, Entry::Commit { members });
             }
             5 => {
-                let change = any_member_change(random);
+                let change = any_change(random);
                 self.add(random, Entry::Plain(change));
             }
             6..=7 => {
-                let change = any_member_change(random);
+                let change = any_change(random);
                 self.add(random, Entry::Member(change));
                 self.add(random, Entry::Commit { members: 1 });
             }
@@ -415,7 +432,7 @@ impl Writer {
         let list = state.list_of(block).unwrap_or(1);
         let free_list = (1..=LISTS).find(|&list| !state.is_taken(list)).unwrap_or(1);
         let free_block = (1..=BLOCKS).find(|&block| !state.is_on_a_list(block)).unwrap_or(1);
-        match random.below(8) {
+        match random.below(9) {
             0 => vec![66, free_list, race],
             1 => vec![67, free_block, list, race],
             2 => vec![71, free_block, list, block, race],
@@ -425,6 +442,64 @@ impl Writer {
             5 => vec![105, block, self.slots, race],
             6 => vec![75, block, list, self.slots, race],
             _ => vec![80, 0, race],
+        }
+    }
+
+    /// Members of which one takes a list: at the border of its range, twice, before what needs it or behind; then a commit of
+    /// all of them, of some, of one too many, or none.
+    fn add_faulty_take(&mut self, random: &mut Random) {
+        let state = self.reading.state;
+        let list = free_list(random, &state).unwrap_or(LISTS);
+        let taken = random.pick_if_any(state.lists()).unwrap_or(list);
+        let block = (1..=BLOCKS).find(|&block| !state.is_on_a_list(block)).unwrap_or(1);
+        let (take, take_taken) = (Change::TakeList { list }, Change::TakeList { list: taken });
+        let (delete, delete_taken) = (Change::DeleteList { list }, Change::DeleteList { list: taken });
+        let put = Change::PutFirst { block, list };
+        let members = match random.below(13) {
+            0..=3 => {
+                self.add_bytes(&[130, random.pick(&[0, 0, LISTS, LISTS + 1, LISTS + 1, 32, 128, 255])]);
+                return self.add_commit_about(random, 1);
+            }
+            4..=5 => return self.add_take_at_the_end(random, list),
+            6 => vec![take_taken],
+            7 => vec![take, take],
+            8 => vec![put, take],
+            9 => vec![take, put],
+            10 => vec![take, put, delete, take],
+            11 => vec![delete_taken, take_taken],
+            // A dead member doesn't take the list: a plain entry does.
+            _ => {
+                self.add(random, Entry::Member(take));
+                self.add(random, Entry::Plain(take));
+                return self.add_commit_about(random, 0);
+            }
+        };
+        for &change in &members {
+            self.add(random, Entry::Member(change));
+        }
+        self.add_commit_about(random, members.len() as u8);
+    }
+
+    /// A commit of `members`, of one less or one more, or none.
+    fn add_commit_about(&mut self, random: &mut Random, members: u8) {
+        let commit = match random.below(10) {
+            0..=4 => members,
+            5..=6 => members.saturating_sub(1),
+            7 => members + 1,
+            _ => return,
+        };
+        self.add(random, Entry::Commit { members: commit });
+    }
+
+    /// A member that takes `list` ends with the summary, or has its last byte behind it; its commit opens the next segment.
+    fn add_take_at_the_end(&mut self, random: &mut Random, list: u8) {
+        // A put, so that the entries are fewer than a count can say.
+        self.block_on_a_list(random);
+        let left = random.between(1, 2) as usize;
+        self.leave(left);
+        self.add_bytes(&[130, list][..left]);
+        if random.chance(60) {
+            self.add(random, Entry::Commit { members: 1 });
         }
     }
 
@@ -457,7 +532,7 @@ impl Writer {
                 block,
                 race: any_race(random),
             },
-            None => any_member_change(random),
+            None => any_change(random),
         };
         self.add(random, Entry::Member(change));
         if random.chance(50) {
@@ -495,9 +570,9 @@ impl Writer {
         let change = if random.chance(50) {
             change_of(random, &self.reading.state)
         } else {
-            any_member_change(random)
+            any_change(random)
         };
-        let is_member = change.has_member_map() && random.chance(60);
+        let is_member = random.chance(60);
         let entry = if is_member {
             Entry::Member(change)
         } else {
@@ -524,7 +599,6 @@ impl Writer {
 /// A change that applies to `state`.
 fn change_of(random: &mut Random, state: &State) -> Change {
     let blocks = blocks_of(state);
-    let free_lists: Vec<u8> = (1..=LISTS).filter(|&list| !state.is_taken(list)).collect();
     let free_blocks: Vec<u8> = (1..=BLOCKS).filter(|&block| !state.is_on_a_list(block)).collect();
     let kind = random.below(20);
     if let (0..=1, Some(list)) = (kind, random.pick_if_any(state.lists())) {
@@ -549,7 +623,7 @@ fn change_of(random: &mut Random, state: &State) -> Change {
             },
         };
     }
-    match random.pick_if_any(&free_lists) {
+    match free_list(random, state) {
         Some(list) => Change::TakeList { list },
         None => Change::DeleteList {
             list: random.pick(state.lists()),
@@ -557,13 +631,20 @@ fn change_of(random: &mut Random, state: &State) -> Change {
     }
 }
 
-/// A change of a kind that has a member map, with any numbers in range.
-fn any_member_change(random: &mut Random) -> Change {
+/// A list that is not taken, if there is one.
+fn free_list(random: &mut Random, state: &State) -> Option<u8> {
+    let free: Vec<u8> = (1..=LISTS).filter(|&list| !state.is_taken(list)).collect();
+    random.pick_if_any(&free)
+}
+
+/// A change of any kind, with any numbers in range.
+fn any_change(random: &mut Random) -> Change {
     let list = random.between(1, u64::from(LISTS)) as u8;
     let block = random.between(1, u64::from(BLOCKS)) as u8;
     let predecessor = random.between(1, u64::from(BLOCKS)) as u8;
     let race = any_race(random);
     random.pick(&[
+        Change::TakeList { list },
         Change::PutFirst { block, list },
         Change::PutAfter {
             block,

@@ -8,6 +8,7 @@ mod arguments;
 mod calls;
 mod cards;
 mod damage;
+mod lists;
 mod logs;
 mod pages;
 mod power;
@@ -57,6 +58,8 @@ enum Action {
     Windows,
     /// Writes for races and for none.
     Races,
+    /// Lists taken in units.
+    Lists,
     /// Stores, cuts, and what comes after them.
     Flush,
     CutFlush,
@@ -97,6 +100,7 @@ const COMMON: &[(Action, u64)] = &[
     (Action::Pages, 1),
     (Action::Windows, 1),
     (Action::Races, 1),
+    (Action::Lists, 1),
     (Action::CutFlush, 1),
     (Action::Cut, 1),
     (Action::Mount, 1),
@@ -224,7 +228,7 @@ const PROFILES: &[Profile] = &[
     Profile {
         actions: &[(Action::FaultyLog, 100), (Action::Damage, 10)],
         segments: (1, 4),
-        lines: (1_000, 2_500),
+        lines: (1_500, 4_000),
     },
     // Numbers that run out.
     Profile {
@@ -298,6 +302,25 @@ const PROFILES: &[Profile] = &[
             (Action::CutFlush, 6),
             (Action::Mount, 3),
             (Action::Damage, 4),
+        ],
+        segments: (1, 9),
+        lines: (400, 1_200),
+    },
+    // Lists taken in units.
+    Profile {
+        actions: &[
+            (Action::Lists, 40),
+            (Action::FillLists, 3),
+            (Action::MadeAgain, 1),
+            (Action::Conflict, 3),
+            (Action::FillJournal, 2),
+            (Action::End, 8),
+            (Action::Show, 4),
+            (Action::Flush, 12),
+            (Action::CutFlush, 4),
+            (Action::Mount, 3),
+            (Action::Lend, 2),
+            (Action::Damage, 2),
         ],
         segments: (1, 9),
         lines: (400, 1_200),
@@ -435,6 +458,7 @@ impl Generator<'_> {
             Action::LongestPage => self.longest_page(),
             Action::Windows => self.windows(),
             Action::Races => self.races(),
+            Action::Lists => self.lists(),
             Action::Flush => self.flush(),
             Action::CutFlush => self.cut_flush(),
             Action::Cut => self.cut(),

@@ -45,7 +45,7 @@ impl Generator<'_> {
         self.after_cut();
     }
 
-    fn after_cut(&mut self) {
+    pub(super) fn after_cut(&mut self) {
         if self.random.chance(30) {
             self.run(format_args!("list"));
             self.run(format_args!("sum"));

@@ -1,4 +1,4 @@
--- A unit holds the block, stream 0 does not. Assumes nothing.
+-- A unit holds the number, stream 0 does not. Assumes nothing.
 use Rattle.lists.proofs.Basic.{eqb-false, eq-true}
 use borrow.Author.Needs.{needs}
 use Rattle.calls.proofs.give.held.Statement.{statement}

@@ -3,9 +3,9 @@ use Rattle.disk.specs.Record.{recordIn}
 use Rattle.disk.specs.Disk.{diskIn}
 use Rattle.disk.specs.Call.{newList}
 use Rattle.disk.specs.Answers.{numberAnswer}
-use Rattle.disk.proofs.Clauses.{right}
 use Rattle.calls.proofs.Refusing.{edit-unseen}
 use Rattle.calls.proofs.Giving.{takes-performs}
+use Rattle.calls.proofs.Putting.{stands-take}
 use borrow.Author.Needs.{needs}
 use Rattle.calls.proofs.new_list.new_list.Statement.{statement}
 use Rattle.calls.proofs.new_list.new_list.Tie as tie
@@ -28,8 +28,9 @@ enum-told c = search needs
 
 take-list-requires : tie.Need-take-list-requires
 take-list-requires c κs =
-    let k = rw (c .before .before .enum-told .given .1) at (c .before .before .before .before .enter .ensures) in
-    right _ (k .lengths) (k .sound) .log .head
+    let a = c .before .before .before .before .before .before .before .before .before .before .args in
+    let d = diskIn (a .card .now) (a .queue-data .now) (a .journal-data .now) (a .rec .now) in
+    stands-take (a .stream) d _ (rw (c .before .before .enum-told .given .1) at (c .before .before .before .before .enter .ensures))
 
 returns-2 : tie.Need-returns-2
 returns-2 c =

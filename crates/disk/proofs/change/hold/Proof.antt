@@ -1,4 +1,4 @@
--- The byte of the block. Assumes nothing.
+-- The byte of the number. Assumes nothing.
 use Prim.Native.Nat.{ℕ, _+_, _-_, _*_, _/_, _%_}
 use native.Mathlib.Omega.{arith}
 use Rattle.disk.proofs.Bytes.{holder-in}
@@ -19,7 +19,7 @@ element-write-rec : tie.Need-element-write-rec
 element-write-rec c = search needs
 
 returns : tie.Need-returns
-returns c = let a = c .before .before .args in holder-in (a .rec .now) (c .sized .ensures) (a .b - 1) (a .u) (omega arith)
+returns c = let a = c .before .before .args in holder-in (a .rec .now) (c .sized .ensures) (a .n - 1) (a .u) (omega arith)
 
 pub hold-spec : {M : Type 1} → statement M
 hold-spec = tie.close (tie.spec sized-requires sub-rec add-rec element-write-rec returns)

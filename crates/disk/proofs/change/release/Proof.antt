@@ -7,10 +7,10 @@ use Rattle.disk.proofs.change.release.Statement.{statement}
 use Rattle.disk.proofs.change.release.Tie as tie
 
 abbrev Inv-loop : tie.InvT-loop
-Inv-loop rec₀ u i₀ rec i = (i ≤ 64) × Freed u rec₀ rec i
+Inv-loop rec₀ u i₀ rec i = (i ≤ 80) × Freed u rec₀ rec i
 
 abbrev μ-loop : tie.MeasureT-loop
-μ-loop rec₀ u i₀ rec i = 64 - i
+μ-loop rec₀ u i₀ rec i = 80 - i
 
 sized-requires : tie.Need-sized-requires Inv-loop μ-loop
 sized-requires c κs = search needs

@@ -7,100 +7,72 @@ use Rattle.log.proofs.legal.is_legal.Tie as tie
 use Rattle.log.proofs.legal.is_legal.Reads as reads
 use Rattle.log.proofs.legal.is_legal.Lts as lts
 use Rattle.log.proofs.legal.both.Reads as both-reads
-use Rattle.log.proofs.legal.is_list.Reads as is-list-reads
 use Rattle.log.proofs.legal.is_member.Reads as is-member-reads
 
--- src/legal.rt:45:26
-enum-known-e : tie.Need-enum-known-e
-enum-known-e c = search needs
-
--- src/legal.rt:45:50
-is-list-requires : tie.Need-is-list-requires
-is-list-requires c κs = search needs
-
--- src/legal.rt:45:36
-both-requires : tie.Need-both-requires
-both-requires c κs = search needs
-
--- src/legal.rt:46:53
 enum-told : tie.Need-enum-told
 enum-told c = search needs
 
--- src/legal.rt:46:53
 is-member-requires : tie.Need-is-member-requires
 is-member-requires c κs = search needs
 
--- src/legal.rt:47:69
 enum-told-2 : tie.Need-enum-told-2
 enum-told-2 c = search needs
 
--- src/legal.rt:47:69
 is-member-requires-2 : tie.Need-is-member-requires-2
 is-member-requires-2 c κs = search needs
 
--- src/legal.rt:48:50
 enum-told-3 : tie.Need-enum-told-3
 enum-told-3 c = search needs
 
--- src/legal.rt:48:50
 is-member-requires-3 : tie.Need-is-member-requires-3
 is-member-requires-3 c κs = search needs
 
--- src/legal.rt:49:47
 enum-told-4 : tie.Need-enum-told-4
 enum-told-4 c = search needs
 
--- src/legal.rt:49:47
 is-member-requires-4 : tie.Need-is-member-requires-4
 is-member-requires-4 c κs = search needs
 
--- src/legal.rt:50:45
 enum-told-5 : tie.Need-enum-told-5
 enum-told-5 c = search needs
 
--- src/legal.rt:50:45
 is-member-requires-5 : tie.Need-is-member-requires-5
 is-member-requires-5 c κs = search needs
 
--- src/legal.rt:51:28
-enum-known-e-2 : tie.Need-enum-known-e-2
-enum-known-e-2 c = search needs
+enum-told-6 : tie.Need-enum-told-6
+enum-told-6 c = search needs
 
--- src/legal.rt:41:1
+is-member-requires-6 : tie.Need-is-member-requires-6
+is-member-requires-6 c κs = search needs
+
+enum-known-e : tie.Need-enum-known-e
+enum-known-e c = search needs
+
 returns : tie.Need-returns
-returns c = cc (legal-tested (c .before .before .before .before .before .args .member) (Take (c .before .before .before .e .given .0 .0)))
+returns c = cc (legal-tested (c .before .before .before .args .member) (Take (c .before .enum-told .given .0 .0)))
 
--- src/legal.rt:41:1
 returns-2 : tie.Need-returns-2
-returns-2 c = cc (legal-tested (c .before .before .before .args .member) (PutFirst (c .before .enum-told .given .0 .0) (c .before .enum-told .given .0 .1 .0)))
+returns-2 c = cc (legal-tested (c .before .before .before .args .member) (PutFirst (c .before .enum-told2 .given .0 .0) (c .before .enum-told2 .given .0 .1 .0)))
 
--- src/legal.rt:41:1
 returns-3 : tie.Need-returns-3
-returns-3 c = cc (legal-tested (c .before .before .before .args .member) (PutAfter (c .before .enum-told2 .given .0 .0) (c .before .enum-told2 .given .0 .1 .0) (c .before .enum-told2 .given .0 .1 .1 .0)))
+returns-3 c = cc (legal-tested (c .before .before .before .args .member) (PutAfter (c .before .enum-told3 .given .0 .0) (c .before .enum-told3 .given .0 .1 .0) (c .before .enum-told3 .given .0 .1 .1 .0)))
 
--- src/legal.rt:41:1
 returns-4 : tie.Need-returns-4
-returns-4 c = cc (legal-tested (c .before .before .before .args .member) (Write (c .before .enum-told3 .given .0 .0) (c .before .enum-told3 .given .0 .1 .0) (c .before .enum-told3 .given .0 .1 .1 .0)))
+returns-4 c = cc (legal-tested (c .before .before .before .args .member) (Write (c .before .enum-told4 .given .0 .0) (c .before .enum-told4 .given .0 .1 .0) (c .before .enum-told4 .given .0 .1 .1 .0)))
 
--- src/legal.rt:41:1
 returns-5 : tie.Need-returns-5
-returns-5 c = cc (legal-tested (c .before .before .before .args .member) (DeleteBlock (c .before .enum-told4 .given .0 .0)))
+returns-5 c = cc (legal-tested (c .before .before .before .args .member) (DeleteBlock (c .before .enum-told5 .given .0 .0)))
 
--- src/legal.rt:41:1
 returns-6 : tie.Need-returns-6
-returns-6 c = cc (legal-tested (c .before .before .before .args .member) (DeleteList (c .before .enum-told5 .given .0 .0)))
+returns-6 c = cc (legal-tested (c .before .before .before .args .member) (DeleteList (c .before .enum-told6 .given .0 .0)))
 
--- src/legal.rt:41:1
 returns-7 : tie.Need-returns-7
-returns-7 c = cc (legal-tested (c .before .before .before .args .member) (Commit (c .before .e2 .given .0 .0)))
+returns-7 c = cc (legal-tested (c .before .before .before .args .member) (Commit (c .before .e .given .0 .0)))
 
 pub is-legal-spec : {M : Type 1} → statement M
 is-legal-spec =
     tie.close
     (tie.spec
-    enum-known-e
-    is-list-requires
-    both-requires
     enum-told
     is-member-requires
     enum-told-2
@@ -111,7 +83,9 @@ is-legal-spec =
     is-member-requires-4
     enum-told-5
     is-member-requires-5
-    enum-known-e-2
+    enum-told-6
+    is-member-requires-6
+    enum-known-e
     returns
     returns-2
     returns-3

@@ -1,0 +1,194 @@
+-- Numbers stay held until their unit ends (`held-until-end`), and what comes in a unit shows in no other view (`unit-apart`).
+use mathlib.Core.Path.{_≡_, refl, sym, ap, _∙_}
+use mathlib.Core.Logic.{_≢_}
+use mathlib.Core.Bool.{Bool, true, false, cond, true≢false}
+use mathlib.Core.Option.{Option, none, some}
+use mathlib.Core.List.{List, [], _∷_}
+use Prim.Native.Nat.{ℕ, zero, suc, _-_, _≤_}
+use native.Mathlib.Omega.{arith}
+use lib.Dec.{leb, eqb}
+use lib.ListN.{length, getD}
+use Rattle.lists.specs.Change.{Change, takeList, putFirst, putAfter, write, delBlock, delList, carriedBy}
+use Rattle.lists.specs.State.{State, overlay}
+use Rattle.lists.specs.InUse.{listNumber, inUse}
+use Rattle.lists.proofs.Basic.{and-true, eqb-same, leb-true}
+use Rattle.lists.proofs.InUse.{brought}
+use Rattle.log.specs.Entry.{Entry, plain, carried, isList}
+use Rattle.log.specs.Reader.{Reader}
+use Rattle.log.specs.Card.{Written, mounted}
+use Rattle.log.proofs.Segment.{Sized}
+use Rattle.log.proofs.Places.{Good}
+use Rattle.disk.specs.Record.{holderOf}
+use Rattle.disk.specs.Disk.{Disk, unitOf, queued, journalOf, readerOf, stateOf, persistent, committed, view}
+use Rattle.disk.specs.Sound.{isOpenUnit}
+use Rattle.disk.specs.Call.{Edit, newList, Call, format, mount, conflictCount, onStream, inView, begin, end, flush, ends, resets}
+use Rattle.disk.specs.Questions.{streamOpen, viewOpen, editQuestions, questions, refusal}
+use Rattle.disk.specs.Perform.{Result, enqueue, enqueueAll, journalAdd, change, hold, gaveBlock, gaveList, noted, made, numberGiven, changeFor, opening, closing, conflicted, unitEntries, afterFlush, accepted, refused, perform}
+use Rattle.disk.specs.Statements.{ListGiven, HeldUntilEnd, UnitApart, ConflictApart}
+use Rattle.disk.proofs.Queue.{beside-all, queued-journal, queued-hold, queued-gaveBlock, queued-gaveList, queued-closing, queued-conflicted, reader-same}
+use Rattle.disk.proofs.Journal.{journal-other, journal-hold, journal-gaveBlock, journal-gaveList, journal-closing-other, journal-conflicted}
+use Rattle.disk.proofs.Questions.{yes-all, past, unit-range, open-range, journal-room, list-number}
+use Rattle.disk.proofs.Clauses.{Right, right}
+use Rattle.disk.proofs.Held.{closing-holder, hold-holder, hold-other}
+use Rattle.disk.proofs.Changes.{Makes, edit-makes}
+use Rattle.disk.proofs.Performing.{perform-accepted, perform-refused}
+
+-- What is noted of a number given: it is held, and counts as given last.
+noted-by : (P : Disk → Type 0) (s : ℕ) → ((n : ℕ) (d : Disk) → P d → P (hold s n d)) → ((b : ℕ) (d : Disk) → P d → P (gaveBlock b d))
+    → ((l : ℕ) (d : Disk) → P d → P (gaveList l d)) → (c : Change Written) (d : Disk) → P d → P (noted s c d)
+unfolding noted
+noted-by P s h b l (takeList x) d p = l x (hold s (listNumber x) d) (h (listNumber x) d p)
+noted-by P s h b l (putFirst x y) d p = b x (hold s x d) (h x d p)
+noted-by P s h b l (putAfter x y z) d p = b x (hold s x d) (h x d p)
+noted-by P s h b l (write x y) d p = p
+noted-by P s h b l (delBlock x) d p = p
+noted-by P s h b l (delList x) d p = p
+
+-- Holders.
+change-table : (s : ℕ) (c : Change Written) (d : Disk) → change s c d .rec .held .holder ≡ d .rec .held .holder
+unfolding change enqueue journalAdd
+change-table zero c d = refl
+change-table (suc u) c d = refl
+
+change-holder : (s : ℕ) (c : Change Written) (d : Disk) (n : ℕ) → holderOf (change s c d .rec) n ≡ holderOf (d .rec) n
+change-holder s c d n = ap (λ (hs : List ℕ). getD hs (n - 1) 0) (change-table s c d)
+
+-- a number that is held stays so where free ones are given
+noted-holder : (s : ℕ) (c : Change Written) (d : Disk) (n : ℕ) → holderOf (d .rec) n ≢ 0 → ((x : ℕ) → brought c x ≡ true → holderOf (d .rec) x ≡ 0)
+    → holderOf (noted s c d .rec) n ≡ holderOf (d .rec) n
+unfolding noted gaveBlock gaveList
+noted-holder s (takeList l) d n h f = hold-other s (listNumber l) n d (f (listNumber l) (rw (eqb-same (listNumber l)))) h
+noted-holder s (putFirst b l) d n h f = hold-other s b n d (f b (rw (eqb-same b))) h
+noted-holder s (putAfter b l p) d n h f = hold-other s b n d (f b (rw (eqb-same b))) h
+noted-holder s (write b x) d n h f = refl
+noted-holder s (delBlock b) d n h f = refl
+noted-holder s (delList l) d n h f = refl
+
+edit-holder : (s : ℕ) (e : Edit) (d : Disk) (n : ℕ) → refusal (onStream s e) d ≡ 0 → holderOf (d .rec) n ≢ 0 → holderOf (accepted (onStream s e) d .disk .rec) n ≡ holderOf (d .rec) n
+unfolding accepted made
+edit-holder s e d n h z =
+    let c = changeFor e (numberGiven e d) in
+    let m = edit-makes s e d h in
+    let same = change-holder s c d in
+    noted-holder s c (change s c d) n (λ q. z (sym (same n) ∙ q)) (λ x q. same x ∙ m .free x q .0) ∙ same n
+
+end-holder : (v : ℕ) (d : Disk) (n : ℕ) → holderOf (d .rec) n ≢ v → holderOf (accepted (end v) d .disk .rec) n ≡ holderOf (d .rec) n
+unfolding accepted
+end-holder v d n h =
+    let x = enqueueAll (unitEntries (journalOf d v)) d in
+    let e : holderOf (x .rec) n ≡ holderOf (d .rec) n = rw (beside-all (unitEntries (journalOf d v)) d .holder) in
+    closing-holder v x n (λ q. h (sym e ∙ q)) ∙ e
+
+accepted-holder : (c : Call) (d : Disk) (n : ℕ) → refusal c d ≡ 0 → holderOf (d .rec) n ≢ 0 → resets c ≡ false → ends c ≢ some (holderOf (d .rec) n)
+    → holderOf (accepted c d .disk .rec) n ≡ holderOf (d .rec) n
+unfolding resets ends accepted opening afterFlush
+accepted-holder format d n h z r o = absurd (true≢false r)
+accepted-holder mount d n h z r o = absurd (true≢false r)
+accepted-holder (conflictCount w) d n h z r o = refl
+accepted-holder (onStream s e) d n h z r o = edit-holder s e d n h z
+accepted-holder (inView v k) d n h z r o = refl
+accepted-holder (begin u w) d n h z r o = refl
+accepted-holder (end u) d n h z r o = end-holder u d n (λ q. o (ap some (sym q)))
+accepted-holder (flush a) d n h z r o = refl
+
+refused-holder : (c : Call) (m : ℕ) (d : Disk) (n : ℕ) → ends c ≢ some (holderOf (d .rec) n) → holderOf (refused c m d .rec) n ≡ holderOf (d .rec) n
+unfolding refused conflicted
+refused-holder c m d n o = go (ends c) refl (eqb m 12) refl
+  where
+    go : (x : Option ℕ) → ends c ≡ x → (t : Bool) → eqb m 12 ≡ t → holderOf (refused c m d .rec) n ≡ holderOf (d .rec) n
+    go none e t q = rw (e, refused)
+    go (some u) e true q = rw (e, refused) (rw (q, refused) (closing-holder u d n (λ h. o (e ∙ ap some (sym h)))))
+    go (some u) e false q = rw (e, refused) (rw (q, refused))
+
+pub held-until-end : HeldUntilEnd
+held-until-end c d n z r o = go (refusal c d) refl
+  where
+    go : (m : ℕ) → refusal c d ≡ m → holderOf (perform c d .disk .rec) n ≡ holderOf (d .rec) n
+    go zero q = ap (λ (x : Result). holderOf (x .disk .rec) n) (perform-accepted c d q) ∙ accepted-holder c d n q z r o
+    go (suc m) q = ap (λ (x : Result). holderOf (x .disk .rec) n) (perform-refused c d m q) ∙ refused-holder c (suc m) d n o
+
+-- NewList's number.
+pub list-given : ListGiven
+unfolding questions editQuestions accepted made noted changeFor numberGiven gaveList
+list-given s d h =
+    let y = yes-all (onStream s newList) d h in
+    let l = numberGiven newList d in
+    let (n, z, i) = list-number d (y 3) in
+    let (a, b) = edit-makes s newList d h .free (listNumber l) (rw (eqb-same (listNumber l))) in
+    let t = right d (y 0) (y 1) .units .table in
+    let x = change s (takeList l) d in
+    rw (perform-accepted (onStream s newList) d h)
+    (a, b, hold-holder s (listNumber l) x (omega arith) (omega (arith, ap length (change-table s (takeList l) d), leb-true l 16 (and-true (leb 1 l) (leb l 16) i .1))) (change-holder s (takeList l) d (listNumber l) ∙ a))
+
+-- Views: those of two disks that have the same card, queue and, where it is asked for, journal.
+views-same : (d e : Disk) → e .card ≡ d .card → queued e ≡ queued d → (v : ℕ) → (isOpenUnit d v ≡ true → journalOf e v ≡ journalOf d v) → viewOpen d v ≡ true → view e v ≡ view d v
+unfolding view viewOpen streamOpen persistent committed
+views-same d e c q v j h = go (eqb v 5) refl (eqb v 0) refl
+  where
+    committed-same : committed e ≡ committed d
+    committed-same = ap stateOf (reader-same d e c q)
+
+    go : (a : Bool) → eqb v 5 ≡ a → (b : Bool) → eqb v 0 ≡ b → view e v ≡ view d v
+    go true x b y = rw x (ap (λ (k : List ℕ). stateOf (readerOf (mounted k))) c)
+    go false x true y = rw (x, y) committed-same
+    go false x false y = rw (x, y) (λ i. overlay (j (rw (x, y) at h) i) (committed-same i))
+
+-- Beside the journal of its own unit, what comes in a unit leaves card, queue and journals.
+record Beside (d e : Disk) : Type 0 where
+  card : e .card ≡ d .card
+  queue : queued e ≡ queued d
+  journals : (v : ℕ) → journalOf e v ≡ journalOf d v
+
+noted-beside : (s : ℕ) (c : Change Written) (d : Disk) → Beside d (noted s c d)
+unfolding hold gaveBlock gaveList
+noted-beside s c d =
+    noted-by (Beside d) s held gave-block gave-list c d (record { card = refl; queue = refl; journals = λ v. refl })
+  where
+    held-card : (s n : ℕ) (e : Disk) → hold s n e .card ≡ e .card
+    held-card zero n e = refl
+    held-card (suc u) n e = refl
+
+    held : (n : ℕ) (e : Disk) → Beside d e → Beside d (hold s n e)
+    held n e b = record { card = held-card s n e ∙ b .card; queue = queued-hold s n e ∙ b .queue; journals = λ v. journal-hold s n e v ∙ b .journals v }
+
+    gave-block : (n : ℕ) (e : Disk) → Beside d e → Beside d (gaveBlock n e)
+    gave-block n e b = record { card = b .card; queue = queued-gaveBlock n e ∙ b .queue; journals = λ v. journal-gaveBlock n e v ∙ b .journals v }
+
+    gave-list : (n : ℕ) (e : Disk) → Beside d e → Beside d (gaveList n e)
+    gave-list n e b = record { card = b .card; queue = queued-gaveList n e ∙ b .queue; journals = λ v. journal-gaveList n e v ∙ b .journals v }
+
+plain-sized : (c : Change Written) → Good (plain c) → Sized (carriedBy c)
+unfolding carried
+plain-sized c g = g .sized
+
+made-apart : (u : ℕ) (c : Change Written) (d : Disk) → streamOpen d (suc u) ≡ true → Right d → Makes (suc u) c d → (v : ℕ) → suc u ≢ v → viewOpen d v ≡ true → view (made (suc u) c d) v ≡ view d v
+unfolding made change journalAdd
+made-apart u c d o k m v n h =
+    let x = journalAdd (suc u) c d in
+    let b = noted-beside (suc u) c x in
+    let (p, q, _) = open-range d u o in
+    views-same d (noted (suc u) c x) (b .card) (b .queue ∙ queued-journal (suc u) c d) v
+    (λ w. let (y, z, _) = unit-range d v w in
+    b .journals v ∙ journal-other (suc u) c d p q (k .journalData) (journal-room d u (m .journal)) (plain-sized c (m .good)) v y z n (k .units .units v y z .room)) h
+
+pub unit-apart : UnitApart
+unfolding questions accepted refused ends
+unit-apart zero e d z v n o = absurd (z refl)
+unit-apart (suc u) e d z v n o = go (refusal (onStream (suc u) e) d) refl
+  where
+    go : (m : ℕ) → refusal (onStream (suc u) e) d ≡ m → view (perform (onStream (suc u) e) d .disk) v ≡ view d v
+    go zero q =
+        let y = yes-all (onStream (suc u) e) d q in
+        ap (λ (x : Result). view (x .disk) v) (perform-accepted (onStream (suc u) e) d q)
+        ∙ made-apart u (changeFor e (numberGiven e d)) d (y 2) (right d (y 0) (y 1)) (edit-makes (suc u) e d q) v n o
+    go (suc m) q = ap (λ (x : Result). view (x .disk) v) (perform-refused (onStream (suc u) e) d m q)
+
+pub conflict-apart : ConflictApart
+unfolding refusal questions refused ends conflicted closing
+conflict-apart u d h v n o =
+    let y = past 3 (questions (end u) d) 12 (omega arith) h in
+    let (p, q, _) = unit-range d u (y 2 (omega arith)) in
+    let w = unitOf d u .window in
+    ap (λ (x : Result). view (x .disk) v) (perform-refused (end u) d 11 h)
+    ∙ views-same d (conflicted w (closing u d)) refl (queued-conflicted w (closing u d) ∙ queued-closing u d) v
+    (λ t. journal-conflicted w (closing u d) v ∙ journal-closing-other u v d p (unit-range d v t .0) n) o
