@@ -11,6 +11,7 @@ use Rattle.lists.specs.Change.{Change, delBlock, delList, mapChange, carriedBy}
 use Rattle.lists.specs.State.{Row, taken, placed}
 use Rattle.lists.specs.promises.Tables.{Tables, OfShown}
 use Rattle.lists.proofs.Basic.{eqb-false, le-true, lt-true, gt-false, ge-false}
+use Rattle.lists.proofs.Lookup.{lists-shown}
 use Rattle.log.specs.declared.entry.LogEntry.{LogEntry}
 use Rattle.log.specs.declared.entry.LogEntry.the-variants.{DeleteBlock, DeleteList}
 use Rattle.log.specs.Card.{Written}
@@ -91,7 +92,7 @@ module _ (k : Call) (d : Disk) (s : ℕ) (e : LogEntry) (n : ℕ) (p q : Bool) (
   pub seen-decides : (a : Reply) (r : Record) → refusal k d ≡ firstNo (opens false d s ++ (5, p) ∷ (n, q) ∷ rooms d s)
       → (z : Sees false d s t) → q ≡ here (z .located .here .lists) → OfShown t (λ rs. AddsAfter ((5, p) ∷ (n, here rs) ∷ []) s e (d .rec) a r)
       → Decides k d s e a r
-  seen-decides a r h z w f = go a (f (z .located .here .lists) (z .located .shows))
+  seen-decides a r h z w f = go a (f (z .located .here .lists) (lists-shown t (z .located .here) (z .located .shows)))
     where
       asked : refusal k d ≡ firstNo ((5, p) ∷ (n, here (z .located .here .lists)) ∷ rooms d s)
       asked = h ∙ seen ((5, p) ∷ (n, q) ∷ rooms d s) z ∙ ap (λ (b : Bool). firstNo ((5, p) ∷ (n, b) ∷ rooms d s)) w

@@ -13,6 +13,7 @@ use Rattle.lists.specs.State.{Row, State, taken, placed, onList, overlay, mapSt
 use Rattle.lists.specs.promises.Tables.{Tables}
 use Rattle.lists.proofs.Basic.{or-cases, eqb-true, eqb-false}
 use Rattle.lists.proofs.Naturality.{taken-map, onList-map}
+use Rattle.lists.proofs.Lookup.{lists-shown}
 use Rattle.log.specs.Entry.{isList, member, mapEntry, raw, legal, asEntry}
 use Rattle.log.specs.Cell.{cellOf}
 use Rattle.disk.specs.Record.{Record, holderOf, unitAt}
@@ -79,7 +80,7 @@ unit-some d (suc s) l h n = unit-lawful d (suc s) l h (omega arith) n
 
 -- what the code needs
 pub stands-take : (s : ℕ) (d : Disk) (t : Tables) → Admitted true d s t → Shown t × (s ≤ 4) × (d .rec .ring .head < 32)
-stands-take s d t k = (record { lists = k .located .here .lists; shows = k .located .shows }, stands-range d s t k, right d (k .lengths) (k .sound) .log .head)
+stands-take s d t k = (record { lists = k .located .here .lists; shows = lists-shown t (k .located .here) (k .located .shows) }, stands-range d s t k, right d (k .lengths) (k .sound) .log .head)
 
 pub stands-put : (s : ℕ) (d : Disk) (t : Tables) → Admitted true d s t
     → Shown t × (s ≤ 4) × (d .rec .ring .head < 32) × (unitAt (d .rec) s .len ≤ 15)
@@ -87,7 +88,7 @@ pub stands-put : (s : ℕ) (d : Disk) (t : Tables) → Admitted true d s t
 stands-put s d t k =
     let n = stands-range d s t k in
     let w = unit-some d s (k .lengths) (k .sound) n in
-    (record { lists = k .located .here .lists; shows = k .located .shows }, n, right d (k .lengths) (k .sound) .log .head, w .room, w .lawful)
+    (record { lists = k .located .here .lists; shows = lists-shown t (k .located .here) (k .located .shows) }, n, right d (k .lengths) (k .sound) .log .head, w .room, w .lawful)
 
 module _ (s : ℕ) (d : Disk) (t : Tables) (k : Admitted true d s t) where
   here : State ℕ

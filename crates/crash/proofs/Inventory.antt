@@ -5,7 +5,7 @@ use mathlib.Core.List.{List, [], _++_, append-nil}
 use Prim.Native.Nat.{ℕ, zero, suc}
 use lib.Dec.{eqb, eqb·suc-zero}
 use Rattle.lists.specs.Basic.{joined}
-use Rattle.lists.specs.State.{State, state, applyAll, overlay}
+use Rattle.lists.specs.State.{State, empty, applyAll, overlay}
 use Rattle.lists.specs.Lookup.{listNums}
 use Rattle.lists.specs.Takings.{undeleted, inForce}
 use Rattle.lists.proofs.Basic.{and-true, not-false}
@@ -49,7 +49,7 @@ module _ (d : Disk) (b : Book) (i : Live d b) where
   committed-lists =
       let t = i .told in
       ap (λ (s : State Written). listNums (s .lists)) (committed-state d b i)
-      ∙ lists-by-takings (joined (b .history)) (t .reader .state) (ap (λ (l : List Act). applyAll (joined l) (state [])) (t .history) ∙ replay-acts (t .entries) start (t .reader) (t .replays))
+      ∙ lists-by-takings (joined (b .history)) (t .reader .state) (ap (λ (l : List Act). applyAll (joined l) empty) (t .history) ∙ replay-acts (t .entries) start (t .reader) (t .replays))
 
   module _ (k : Right d) where
     unit-lists : (u : ℕ) → isOpenUnit d u ≡ true → listNums (overlay (journalOf d u) (committed d) .lists) ≡ inForce (joined (b .history) ++ batchOf b u)

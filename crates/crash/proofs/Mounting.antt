@@ -6,7 +6,7 @@ use Prim.Native.Nat.{ℕ, _*_, _/_, _%_, _≤_, _<_}
 use native.Mathlib.Omega.{arith}
 use lib.ListN.{length, length-map}
 use Rattle.lists.specs.Basic.{isSome, joined}
-use Rattle.lists.specs.State.{State, state, applyAll}
+use Rattle.lists.specs.State.{State, empty, applyAll}
 use Rattle.lists.proofs.Basic.{eq-true, le-true}
 use Rattle.log.specs.Reader.{Reader, start, replay}
 use Rattle.log.specs.Card.{Written, cardLength, sound, mounted}
@@ -44,7 +44,7 @@ unfolding placedEntries onCard
 kept c b h m s =
     record {
       state = s .reader .state;
-      prefix = ap (λ (l : List Act). applyAll (joined l) (state [])) (s .prefix) ∙ replay-acts (s .entries) start (s .reader) (s .replays);
+      prefix = ap (λ (l : List Act). applyAll (joined l) empty) (s .prefix) ∙ replay-acts (s .entries) start (s .reader) (s .replays);
       mounts = λ x l. accepts x l;
       shows = λ x l v. mount-shows c x (s .reader) walks (accepts x l) v;
     }

@@ -4,10 +4,10 @@ use Prim.{Unit, tt}
 use mathlib.Core.Path.{_≡_, refl}
 use mathlib.Core.Bool.{true}
 use mathlib.Core.Option.{none}
-use mathlib.Core.List.{List, [], _∷_}
+use mathlib.Core.List.{List, [], _∷_, _++_}
 use Prim.Native.Nat.{ℕ}
 use lib.ListN.{replicate}
-use Rattle.lists.specs.Basic.{joined}
+use Rattle.lists.specs.Basic.{from, joined}
 use Rattle.lists.specs.Change.{takeList, putFirst}
 use Rattle.lists.specs.State.{State, state, row, block}
 use Rattle.lists.specs.Takings.{undeleted, inForce}
@@ -64,9 +64,9 @@ events =
 pub last : Scene
 last = play (begun blank) events
 
--- list 1 with blocks 2 and 1, both unwritten
+-- list 1 with blocks 2 and 1, both unwritten; no number was freed
 pub mountedState : State Written
-mountedState = state (row 1 (block 2 none ∷ block 1 none ∷ []) ∷ [])
+mountedState = state (row 1 (block 2 none ∷ block 1 none ∷ []) ∷ []) (from (λ n. n) 3 62 ++ from (λ n. n) 66 15)
 
 -- opens what the events and the book compute with
 playing : Unit {0}
@@ -134,6 +134,6 @@ took = play (begun blank) taking
 pub took-lists :
     (valid (begun blank) taking ≡ true)
     × (onCard (took .book) ≡ (takeList 1 ∷ []) ∷ (takeList 3 ∷ []) ∷ (takeList 2 ∷ []) ∷ [])
-    × (view (took .world .disk) 0 ≡ state (row 1 [] ∷ row 3 [] ∷ row 2 [] ∷ []))
+    × (view (took .world .disk) 0 ≡ state (row 1 [] ∷ row 3 [] ∷ row 2 [] ∷ []) (from (λ n. n) 1 64 ++ from (λ n. n) 68 13))
 unfolding playing taking took
 took-lists = (refl, refl, refl)

@@ -9,7 +9,7 @@ use Prim.Native.Nat.{ℕ}
 use lib.ListN.{replicate, length-replicate}
 use Rattle.lists.specs.Basic.{joined}
 use Rattle.lists.specs.Change.{Change, takeList, putFirst, putAfter, write, delBlock, delList}
-use Rattle.lists.specs.State.{Row, State, state, placed, applies, changed, apply, applyAll}
+use Rattle.lists.specs.State.{Row, State, empty, placed, applies, changed, apply, applyAll}
 use Rattle.lists.specs.Lookup.{written}
 use Rattle.lists.proofs.Basic.{either, bind-some}
 use Rattle.lists.proofs.Apply.{apply-some}
@@ -68,10 +68,10 @@ changes-say b o (c ∷ cs) s t d e k =
     let (a, q) = apply-some c s u f in
     rw (told-more b o c cs) (changes-say b (telling b o c) cs u t (apply-distinct c s u f d) g (rw q (change-says b o c (s .lists) d a k)))
 
-pub written-told : (b : ℕ) (cs : List (Change Written)) (s : State Written) → applyAll cs (state []) ≡ some s → placed b (s .lists) ≡ true
+pub written-told : (b : ℕ) (cs : List (Change Written)) (s : State Written) → applyAll cs empty ≡ some s → placed b (s .lists) ≡ true
     → lastTold b none cs ≡ some (written b (s .lists))
 unfolding placed
-written-told b cs s e h = changes-say b none cs (state []) s empty-distinct e (λ p. absurd (false≢true p)) h
+written-told b cs s e h = changes-say b none cs empty s empty-distinct e (λ p. absurd (false≢true p)) h
 
 -- some lent data
 rest : Rest

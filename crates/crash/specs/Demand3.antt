@@ -9,7 +9,7 @@ use mathlib.Core.List.{List, [], _∷_}
 use Prim.Native.Nat.{ℕ}
 use lib.ListN.{length}
 use Rattle.lists.specs.Basic.{joined}
-use Rattle.lists.specs.State.{State, state as stateOf, applyAll}
+use Rattle.lists.specs.State.{State, empty, applyAll}
 use Rattle.log.specs.Card.{Written, segmentsIn}
 use Rattle.disk.specs.Disk.{Disk, view}
 use Rattle.disk.specs.Call.{format, mount, flush}
@@ -53,10 +53,10 @@ abbrev pub Lent : Rest → Type 0
 Lent x = (length (x .queueData) ≡ 8192) × (length (x .journalData) ≡ 15360)
 
 -- A card keeps what the book says: the history's longest prefix acts ("A prefix acts on the empty state, an End's changes in order."), every mounting is
--- accepted, and what it then shows, in whatever view, is the prefix's state.
+-- accepted, and what it then shows, in whatever view, is the prefix's state: lists, blocks and contents, and "the log's order of freeing".
 pub record Kept (c : List ℕ) (b : Book) : Type 0 where
   pub state : State Written
-  pub prefix : applyAll (joined (onCard b)) (stateOf []) ≡ some state
+  pub prefix : applyAll (joined (onCard b)) empty ≡ some state
   pub mounts : (x : Rest) → Lent x → refusal mount (leaves c x) ≡ 0
   pub shows : (x : Rest) → Lent x → (v : ℕ) → view (perform mount (leaves c x) .disk) v ≡ state
 

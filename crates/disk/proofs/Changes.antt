@@ -12,7 +12,7 @@ use lib.Seq.{drop-at}
 use borrow.Author.Tests.{lt-leb}
 use Rattle.lists.specs.Basic.{all}
 use Rattle.lists.specs.Change.{Change, takeList, write, delBlock, delList, mapChange, carriedBy}
-use Rattle.lists.specs.State.{Row, State, state, taken, placed, applies, changed, apply, applyAll}
+use Rattle.lists.specs.State.{Row, State, state, taken, placed, applies, changed, freeAfter, apply, applyAll}
 use Rattle.lists.specs.InUse.{listNumber, inUse}
 use Rattle.lists.proofs.Basic.{and-true, not-true, eqb-true, leb-true, le-true, guard-true, all-append}
 use Rattle.lists.proofs.InUse.{brought}
@@ -54,7 +54,7 @@ unfolding legal raw mapEntry mapChange legalChange carried carriedBy
 delList-good l h = record { lawful = h; sized = tt }
 
 -- Changes that apply.
-pub apply-applies : (c : Change Written) (s : State Written) → applies c (s .lists) ≡ true → apply c s ≡ some (state (changed c (s .lists)))
+pub apply-applies : (c : Change Written) (s : State Written) → applies c (s .lists) ≡ true → apply c s ≡ some (state (changed c (s .lists)) (freeAfter c (s .lists) (s .free)))
 unfolding apply
 apply-applies c s h = guard-true (applies c (s .lists)) _ h
 

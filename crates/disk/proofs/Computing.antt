@@ -2,7 +2,8 @@
 use Prim.{Unit, tt}
 use Rattle.lists.specs.Basic.{isSome, orElse, all, each, from, joined}
 use Rattle.lists.specs.Change.{mapChange, carriedBy}
-use Rattle.lists.specs.State.{taken, placed, onList, applies, changed, apply, applyAll, overlay}
+use Rattle.lists.specs.State.{taken, placed, onList, applies, changed, frees, freeAfter, apply, applyAll, overlay}
+use Rattle.lists.specs.Numbers.{allNumbers}
 use Rattle.lists.specs.InUse.{inUse}
 use Rattle.log.specs.Entry.{mapEntry, carried, raceBit, raceByte, changeBytes, encode, raw, entryLength, legalChange, legal, changeOf, checked, entryOf, decode, asChange, asEntry}
 use Rattle.log.specs.Cell.{cellOf, memberIn, kindIn, entryIn}
@@ -19,5 +20,5 @@ use Rattle.lists.specs.Lookup.{contentIn, contentOf, written, blocksOf, nextIn,
 use Rattle.disk.specs.Perform.{spliceSome, enqueue, enqueueAll, journalAdd, change, hold, gaveBlock, gaveList, noted, made, putAt, numberGiven, changeFor, readTo, found, opening, closing, conflicted, unitEntries, flowOf, flushed, afterFlush, formatted, endingNumber, accepted, refused, faultAt, refusalAnswer, perform, performAll}
 
 unfoldable pub computing : Unit {0}
-unfolding isSome orElse all each from joined mapChange carriedBy taken placed onList applies changed apply applyAll overlay mapEntry carried raceBit raceByte changeBytes encode raw entryLength legalChange legal changeOf checked entryOf decode asChange asEntry cellOf memberIn kindIn entryIn lastOf read replay slot cardSlot cardWritten cardLength count segmentEntries usedBy isNext entryAt itemsOf segmentItems afterEmpty items walk walkCard mounted doStores formatStores opened after afterAll fits home behind behindAll tail storesFrom dataOf entryStores storeNext nextStore flushFrom freshUnit freshRecord shaped released queuedAt queued unitOf journalAt journalOf readerOf committedReader stateOf persistent committed view lengthsRight isOpenUnit inUse journalSound unitSound holderSound standing headAt headStanding recordSound ends lentTo destination resets mountable streamOpen viewOpen predecessorRight freeFrom freeBlock freeList journalRoom endApplies queueRoom streamRoom editQuestions lookQuestions questions ask firstNo refusal splice spliceSome enqueue enqueueAll journalAdd change hold gaveBlock gaveList noted made putAt numberGiven changeFor readTo found opening closing conflicted unitEntries contentIn contentOf written blocksOf nextIn nextAfter listNums flowOf flushed afterFlush formatted endingNumber accepted refused faultAt refusalAnswer perform performAll
+unfolding isSome orElse all each from joined mapChange carriedBy allNumbers taken placed onList applies changed frees freeAfter apply applyAll overlay mapEntry carried raceBit raceByte changeBytes encode raw entryLength legalChange legal changeOf checked entryOf decode asChange asEntry cellOf memberIn kindIn entryIn lastOf read replay slot cardSlot cardWritten cardLength count segmentEntries usedBy isNext entryAt itemsOf segmentItems afterEmpty items walk walkCard mounted doStores formatStores opened after afterAll fits home behind behindAll tail storesFrom dataOf entryStores storeNext nextStore flushFrom freshUnit freshRecord shaped released queuedAt queued unitOf journalAt journalOf readerOf committedReader stateOf persistent committed view lengthsRight isOpenUnit inUse journalSound unitSound holderSound standing headAt headStanding recordSound ends lentTo destination resets mountable streamOpen viewOpen predecessorRight freeFrom freeBlock freeList journalRoom endApplies queueRoom streamRoom editQuestions lookQuestions questions ask firstNo refusal splice spliceSome enqueue enqueueAll journalAdd change hold gaveBlock gaveList noted made putAt numberGiven changeFor readTo found opening closing conflicted unitEntries contentIn contentOf written blocksOf nextIn nextAfter listNums flowOf flushed afterFlush formatted endingNumber accepted refused faultAt refusalAnswer perform performAll
 computing = tt

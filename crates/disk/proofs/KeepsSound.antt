@@ -12,7 +12,7 @@ use lib.ListN.{length, length-set, length-replicate, getD-replicate}
 use lib.Seq.{take-all}
 use Rattle.lists.specs.Basic.{all, joined}
 use Rattle.lists.specs.Change.{Change, takeList, putFirst, putAfter, write, delBlock, delList, mapChange, carriedBy}
-use Rattle.lists.specs.State.{State, state, applies, changed, apply, applyAll}
+use Rattle.lists.specs.State.{State, state, applies, changed, freeAfter, apply, applyAll}
 use Rattle.lists.specs.InUse.{listNumber, inUse, brings}
 use Rattle.lists.proofs.Basic.{and-true, not-false, eqb-same, eqb-true, leb-true, some-of, getD-same, joined-nils}
 use Rattle.lists.proofs.InUse.{brought, in-use-changed, in-use-all}
@@ -178,7 +178,7 @@ plain-right c d m g a f k =
     s = k .reader .state
 
     t : State Written
-    t = state (changed c (s .lists))
+    t = state (changed c (s .lists)) (freeAfter c (s .lists) (s .free))
 
     e : committed d ≡ s
     e = committed-is d (k .reader) (k .log .replays)

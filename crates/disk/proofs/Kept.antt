@@ -9,7 +9,7 @@ use lib.Dec.{leb}
 use lib.ListN.{length, getD}
 use Rattle.lists.specs.Basic.{bind, all, joined, orElse}
 use Rattle.lists.specs.Change.{Change, mapChange}
-use Rattle.lists.specs.State.{State, state, apply, applyAll, overlay}
+use Rattle.lists.specs.State.{State, empty, apply, applyAll, overlay}
 use Rattle.lists.proofs.Basic.{and-true, guard-some, bind-some, all-append, all-drop, all-each}
 use Rattle.log.specs.Raced.{withBody}
 use Rattle.log.specs.Entry.{Entry, plain, member, commit, mapEntry, carried, raw, legal, legalChange}
@@ -29,7 +29,7 @@ all-joined p [] f = refl
 all-joined p (xs ∷ xss) f = all-append p xs (joined xss) (f 0 (omega arith)) (all-joined p xss (λ h l. f (suc h) (omega arith)))
 
 -- Q is what is kept, by the changes that pass the test.
-module _ (Q : State Written → Type 0) (ok : Change Written → Bool) (empty : Q (state []))
+module _ (Q : State Written → Type 0) (ok : Change Written → Bool) (begins : Q empty)
     (lawful : (k : ℕ) (c : Change Written) → legalChange (mapChange (withBody k) c) ≡ true → ok c ≡ true)
     (keeps : (c : Change Written) (s t : State Written) → ok c ≡ true → apply c s ≡ some t → Q s → Q t) where
   all-keeps : (cs : List (Change Written)) (s t : State Written) → all ok cs ≡ true → applyAll cs s ≡ some t → Q s → Q t
@@ -70,7 +70,7 @@ module _ (Q : State Written → Type 0) (ok : Change Written → Bool) (empty : 
 
   start-kept : Kept start
   unfolding all
-  start-kept = record { state = empty; run = refl }
+  start-kept = record { state = begins; run = refl }
 
   settled-kept : (o : Option (State Written)) (q : Reader Written) → bind o (λ s. some (settled s)) ≡ some q → ((t : State Written) → o ≡ some t → Q t) → Kept q
   unfolding all

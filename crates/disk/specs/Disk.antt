@@ -7,7 +7,7 @@ use lib.Dec.{eqb}
 use lib.ListN.{length, getD}
 use Rattle.lists.specs.Basic.{bind, from}
 use Rattle.lists.specs.Change.{Change, mapChange}
-use Rattle.lists.specs.State.{State, state, overlay}
+use Rattle.lists.specs.State.{State, empty, overlay}
 use Rattle.log.specs.Raced.{withBody}
 use Rattle.log.specs.Entry.{Entry, mapEntry, asEntry, asChange}
 use Rattle.log.specs.Cell.{memberIn, entryIn}
@@ -63,7 +63,7 @@ unfoldable pub committedReader : Disk → Option (Reader Written)
 committedReader d = bind (readerOf (mounted (d .card))) (λ r. replay r (queued d))
 
 unfoldable pub stateOf : Option (Reader Written) → State Written
-stateOf none = state []
+stateOf none = empty
 stateOf (some r) = r .state
 
 -- "The persistent state is the log's. The committed state is that of the log followed by the queue."

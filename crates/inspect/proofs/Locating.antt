@@ -13,6 +13,7 @@ use Rattle.lists.specs.Change.{mapChange}
 use Rattle.lists.specs.State.{Row, State, taken, placed, onList, applyAll, overlay, mapRow, mapState}
 use Rattle.lists.specs.Lookup.{contentOf, nextAfter, listNums, takenAfter}
 use Rattle.lists.specs.promises.Tables.{Tables, IsBlock, IsList, OfShown, locatedAt}
+use Rattle.lists.proofs.Lookup.{lists-shown}
 use Rattle.lists.proofs.Naturality.{taken-map, placed-map, onList-map, change-comp, applyAll-map, overlay-map, nextAfter-map, listNums-map, contentOf-map}
 use Rattle.log.specs.Raced.{Raced, withBody}
 use Rattle.log.specs.Entry.{mapEntry, asChange}
@@ -110,7 +111,7 @@ module _ (d : Disk) (t : Tables) (s : State Written) (k : Located d t s) where
 
   -- what holds of all lists that the tables show
   pub of-shown : (P : List (Row ℕ) → Type 0) → OfShown t P → P (k .here .lists)
-  of-shown P f = f (k .here .lists) (k .shows)
+  of-shown P f = f (k .here .lists) (lists-shown t (k .here) (k .shows))
 
   pub taken-told : (l : ℕ) (b : Bool) → OfShown t (λ rs. IsList l → b ≡ taken l rs) → IsList l → b ≡ taken l (s .lists)
   taken-told l b f r = of-shown (λ rs. IsList l → b ≡ taken l rs) f r ∙ sym (taken-here l)

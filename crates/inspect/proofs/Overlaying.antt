@@ -11,7 +11,7 @@ use lib.ListN.{getD}
 use Rattle.lists.specs.Basic.{isSome, orElse, bind, all, from}
 use Rattle.lists.specs.Change.{Change, mapChange}
 use Rattle.lists.specs.State.{State, apply, applyAll, overlay}
-use Rattle.lists.specs.promises.Tables.{Tables, Shows, Ranged, Represents, Did, DidSome, ofKind}
+use Rattle.lists.specs.promises.Tables.{Tables, ShowsAll, Ranged, Represents, Did, DidSome, ofKind}
 use Rattle.lists.proofs.Basic.{and-true, leb-true, from-step, from-none, all-from}
 use Rattle.lists.proofs.Represents.{did-apply, did-overlay}
 use Rattle.log.specs.Entry.{member, mapEntry, raw, legal, legalChange, isBlock, isList, isRace, asChange}
@@ -79,11 +79,11 @@ restOf x u k = from (changeHere x u) k (x .len - k)
 -- the tables show v, from which the changes from number k on lead where all of them led from s
 pub record Laid (x : Unit) (u : ℕ) (s : State ℕ) (every : Bool) (k : ℕ) (t : Tables) : Type 0 where
   pub now : State ℕ
-  pub shows : Shows t (now .lists)
+  pub shows : ShowsAll t now
   pub leads : overlay (restOf x u k) now ≡ overlay (journalHere x u) s
   pub applies : every && isSome (applyAll (restOf x u k) now) ≡ isSome (applyAll (journalHere x u) s)
 
-pub laid-none : (x : Unit) (u : ℕ) (s : State ℕ) (t : Tables) → Shows t (s .lists) → Laid x u s true 0 t
+pub laid-none : (x : Unit) (u : ℕ) (s : State ℕ) (t : Tables) → ShowsAll t s → Laid x u s true 0 t
 unfolding journalHere
 laid-none x u s t h = let e : x .len - 0 ≡ x .len = omega arith in record { now = s; shows = h; leads = rw e; applies = rw e }
 
@@ -118,7 +118,7 @@ module _ (x : Unit) (u : ℕ) (s : State ℕ) (lawful : all (λ c. legal (raw 0 
       }
 
 pub laid-all : (x : Unit) (u : ℕ) (t : Tables) (every : Bool) (k : ℕ) (t′ : Tables) → x .len ≤ k
-    → ((s : State ℕ) → Shows t (s .lists) → Laid x u s every k t′) → Overlays t x u every t′
+    → ((s : State ℕ) → ShowsAll t s → Laid x u s every k t′) → Overlays t x u every t′
 unfolding overlay applyAll isSome
 laid-all x u t every k t′ l h =
     let q : restOf x u k ≡ [] = from-none (changeHere x u) k (x .len) l in

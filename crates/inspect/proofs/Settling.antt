@@ -6,6 +6,7 @@ use mathlib.Core.List.{List, []}
 use Prim.Native.Nat.{ℕ}
 use Rattle.lists.specs.Basic.{isSome, each}
 use Rattle.lists.specs.promises.Tables.{Tables, OfShown}
+use Rattle.lists.proofs.Lookup.{lists-shown}
 use Rattle.log.specs.Reader.{Reader, replay}
 use Rattle.log.specs.promises.Feed.{Memory, Keeps}
 use Rattle.disk.specs.Record.{Record}
@@ -45,7 +46,7 @@ module _ (c q : List ℕ) (m : Memory) (run : ℕ) (r : Record) (b : Bool) (t : 
     answer-is : (x : Reader ℕ) → Keeps m run x → h && headStanding c (r .ring .done) (queued (disk c q [] r)) ≡ settledRight c q r x
     answer-is x k =
         let (l, y, e, s) = rw entered at (fed x k) in
-        ap (λ (b : Bool). b && headStanding c (r .ring .done) (queued (disk c q [] r))) (held (y .state .lists) s)
+        ap (λ (b : Bool). b && headStanding c (r .ring .done) (queued (disk c q [] r))) (held (y .state .lists) (lists-shown t (y .state) s))
         ∙ settled-entered c q r x l y e
 
     pub settles-held : h ≡ false → Settles c q m run r false t

@@ -5,14 +5,14 @@ use mathlib.Core.Option.{Option, none, some, Option·some-injective}
 use mathlib.Core.List.{List, [], _∷_}
 use Rattle.lists.specs.Basic.{orElse}
 use Rattle.lists.specs.Change.{Change}
-use Rattle.lists.specs.State.{Row, State, state, applies, changed, apply, applyAll, overlay}
+use Rattle.lists.specs.State.{Row, State, state, applies, changed, freeAfter, apply, applyAll, overlay}
 use Rattle.lists.proofs.Basic.{guard-some, bind-some}
 
 module _ {D : Type 0} where
-  pub apply-some : (c : Change D) (s t : State D) → apply c s ≡ some t → (applies c (s .lists) ≡ true) × (t ≡ state (changed c (s .lists)))
+  pub apply-some : (c : Change D) (s t : State D) → apply c s ≡ some t → (applies c (s .lists) ≡ true) × (t ≡ state (changed c (s .lists)) (freeAfter c (s .lists) (s .free)))
   unfolding apply
   apply-some c s t e =
-      let (a, f) = guard-some (applies c (s .lists)) (some (state (changed c (s .lists)))) t e in
+      let (a, f) = guard-some (applies c (s .lists)) (some (state (changed c (s .lists)) (freeAfter c (s .lists) (s .free)))) t e in
       (a, sym (Option·some-injective _ _ f))
 
   -- what a change that applies keeps, changes keep

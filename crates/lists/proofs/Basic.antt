@@ -215,6 +215,10 @@ module _ {A B : Type 0} (f : A → B) where
         keep-step true = refl
         keep-step false = refl
 
+pub keep-all : {A : Type 0} (p : A → Bool) → ((x : A) → p x ≡ true) → (xs : List A) → keep p xs ≡ xs
+keep-all p e [] = refl
+keep-all p e (x ∷ xs) = rw (e x, keep-all p e xs)
+
 -- Elements by number, from k on.
 module _ {A : Type 0} where
   pub from-length : (f : ℕ → A) (k n : ℕ) → length (from f k n) ≡ n

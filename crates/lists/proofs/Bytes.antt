@@ -1,16 +1,16 @@
 -- The four tables in one array of bytes: what stands at a node's bytes is what the tables hold, and a byte stored there changes one number of one table.
 use mathlib.Core.Path.{_≡_, refl, sym, ap, _∙_}
 use mathlib.Core.Logic.{_≢_}
-use mathlib.Core.List.{List, _∷_}
-use Prim.Native.Nat.{ℕ, zero, suc, _+_, _*_, _/_, _%_, _<_}
+use mathlib.Core.List.{List}
+use Prim.Native.Nat.{ℕ, _+_, _*_, _/_, _%_, _<_}
 use native.Mathlib.Omega.{arith}
 use native.Mathlib.Nat.{add-zero, zero-add}
 use native.Mathlib.Decide.{ℕ-discrete}
-use lib.ListN.{length, getD, set, replicate, length-set}
+use lib.ListN.{length, getD, set, length-set}
 use lib.Seq.{ext-getD, getD-set-same, getD-set-other}
 use Rattle.lists.specs.Basic.{from}
-use Rattle.lists.specs.promises.Tables.{Tables, tables, column, locationsIn, tablesIn, nextOf, prevOf, ownerOf, locationOf, withNext, withPrev, withOwner, withLocation, linkNodes, cleared}
-use Rattle.lists.proofs.Basic.{from-length, from-get, from-ext, getD-same}
+use Rattle.lists.specs.promises.Tables.{column, locationsIn, tablesIn, nextOf, prevOf, ownerOf, locationOf, withNext, withPrev, withOwner, withLocation}
+use Rattle.lists.proofs.Basic.{from-length, from-get, from-ext}
 
 -- A list by its elements' numbers, with one element changed.
 from-set : (f g : ℕ → ℕ) (n x v : ℕ) → x < n → g x ≡ v → ((i : ℕ) → i < n → i ≢ x → g i ≡ f i) → from g 0 n ≡ set (from f 0 n) x v
@@ -112,29 +112,3 @@ module _ (bs : List ℕ) (x a b : ℕ) (h : x < 256) (l : length bs ≡ 1280) wh
       let same : (f : ℕ) → f < 3 → column f (set cs (1024 + x) b) ≡ column f bs =
       λ f g. column-high cs x b h k f (omega arith) ∙ column-other bs x a h l 3 f (omega arith) (omega arith) (λ z. omega arith) in
       rw (same 0 (omega arith), same 1 (omega arith), same 2 (omega arith), locations-set)
-
--- All bytes 0.
-from-zeros : (n k : ℕ) → from {A = ℕ} (λ i. 0) k n ≡ replicate n 0
-unfolding from
-from-zeros zero k = refl
-from-zeros (suc n) k = ap {B = List ℕ} (λ r. 0 ∷ r) (from-zeros n (suc k))
-
-zeros : List ℕ
-zeros = replicate 1280 0
-
-zero-at : (i : ℕ) → getD zeros i 0 ≡ 0
-unfolding zeros
-zero-at i = getD-same 1280 i 0
-
-column-zeros : (f : ℕ) → column f zeros ≡ replicate 256 0
-unfolding column
-column-zeros f = from-ext (λ n. getD zeros (4 * n + f) 0) (λ n. 0) 256 (λ i k. zero-at (4 * i + f)) ∙ from-zeros 256 0
-
-locations-zeros : locationsIn zeros ≡ replicate 256 0
-unfolding locationsIn
-locations-zeros =
-    from-ext (λ n. getD zeros (4 * n + 3) 0 + 256 * getD zeros (1024 + n) 0) (λ n. 0) 256 (λ i k. rw (zero-at (4 * i + 3), zero-at (1024 + i))) ∙ from-zeros 256 0
-
-pub tables-zeros : tablesIn (replicate 1280 0) ≡ tables (replicate 256 0) (replicate 256 0) (replicate 256 0) (replicate 256 0)
-unfolding tablesIn zeros
-tables-zeros = rw (column-zeros 0, column-zeros 1, column-zeros 2, locations-zeros)

@@ -1,8 +1,9 @@
--- Chains of nodes in two tables: what a node put in, and nodes taken out, leave linked.
+-- Chains of nodes in two tables: what a node put in, taken out and moved leaves linked.
 use mathlib.Core.Path.{_≡_, refl, sym, _∙_}
 use mathlib.Core.Logic.{_≢_}
 use mathlib.Core.List.{List, [], _∷_, _++_}
 use Prim.Native.Nat.{ℕ, _<_}
+use native.Mathlib.Omega.{arith}
 use lib.ListN.{length, getD, set, length-set}
 use lib.Seq.{getD-set-same, getD-set-other}
 use Rattle.lists.specs.promises.Tables.{Away, Apart, Linked}
@@ -61,13 +62,17 @@ pub apart-middle : (a : List ℕ) (x : ℕ) (b : List ℕ) → Apart (a ++ x ∷
 apart-middle [] x b h = tt
 apart-middle (y ∷ a) x b h = ((λ e. away-right y a (x ∷ b) (h .0) .0 (sym e)), apart-middle a x b (h .1))
 
-away-last : (n a : ℕ) (xs : List ℕ) → Away n (a ∷ xs) → last a xs ≢ n
+pub away-last : (n a : ℕ) (xs : List ℕ) → Away n (a ∷ xs) → last a xs ≢ n
 away-last n a [] h = h .0
 away-last n a (x ∷ xs) h = away-last n x xs (h .1)
 
 pub small-middle : (xs : List ℕ) (y : ℕ) (ys : List ℕ) → Small (xs ++ y ∷ ys) → y < 256
 small-middle [] y ys h = h .0
 small-middle (x ∷ xs) y ys h = small-middle xs y ys (h .1)
+
+pub small-append : (a b : List ℕ) → Small a → Small b → Small (a ++ b)
+small-append [] b h k = k
+small-append (x ∷ a) b h k = (h .0, small-append a b (h .1) k)
 
 pub small-left : (a b : List ℕ) → Small (a ++ b) → Small a
 small-left [] b h = tt
@@ -80,6 +85,19 @@ small-right (x ∷ a) b h = small-right a b (h .1)
 pub last-snoc : (a : ℕ) (xs : List ℕ) (y : ℕ) → last a (xs ++ y ∷ []) ≡ y
 last-snoc a [] y = refl
 last-snoc a (x ∷ xs) y = last-snoc x xs y
+
+pub last-append : (a : ℕ) (xs : List ℕ) (y : ℕ) (ys : List ℕ) → last a (xs ++ y ∷ ys) ≡ last y ys
+last-append a [] y ys = refl
+last-append a (x ∷ xs) y ys = last-append x xs y ys
+
+-- one taken out is away from the others
+pub apart-out : (a : List ℕ) (n : ℕ) (b : List ℕ) → Apart (a ++ n ∷ b) → Away n (a ++ b)
+apart-out a n b h = away-append n a b (apart-middle a n b h) (apart-right a (n ∷ b) h .0)
+
+-- the first of a list that has one
+pub uncons : (b : List ℕ) (z : ℕ) (zs : List ℕ) → (y : ℕ) × (r : List ℕ) × (b ++ z ∷ zs ≡ y ∷ r)
+uncons [] z zs = (z, zs, refl)
+uncons (x ∷ b) z zs = (x, b ++ z ∷ zs, refl)
 
 module _ (nx pv : List ℕ) where
   pub next-at : (a : ℕ) (A : List ℕ) (y : ℕ) (B : List ℕ) → Linked nx pv a (A ++ y ∷ B) → getD nx (last a A) 0 ≡ y
@@ -150,3 +168,34 @@ module _ (nx pv : List ℕ) (ln : length nx ≡ 256) (lp : length pv ≡ 256) wh
         getD-set-other pv y c (last c A) 0 (λ e. away-right c S (y ∷ B) (away-right c A (S ++ y ∷ B) (p .1 .0)) .0 (sym e)) ∙ k .1,
         linked-cut c A S y B (p .1) (s .1) (k .2),
       )
+
+-- From node 0 on these nodes follow, no two the same.
+pub record Chained (nx pv ns : List ℕ) : Type 0 where
+  pub apart : Apart (0 ∷ ns)
+  pub small : Small ns
+  pub linked : Linked nx pv 0 ns
+
+module _ {nx pv : List ℕ} (ln : length nx ≡ 256) (lp : length pv ≡ 256) where
+  -- n taken out, which stands behind the last of A and before y
+  module _ (A : List ℕ) (n y : ℕ) (B : List ℕ) (c : Chained nx pv (A ++ n ∷ y ∷ B)) where
+    pub cut-before : getD pv n 0 ≡ last 0 A
+    cut-before = prev-at nx pv 0 A n (y ∷ B) (c .linked)
+
+    pub cut-behind : getD nx n 0 ≡ y
+    cut-behind = linked-tail nx pv 0 A (n ∷ y ∷ B) (c .linked) .2 .0
+
+    pub chained-cut : Chained (set nx (getD pv n 0) (getD nx n 0)) (set pv (getD nx n 0) (getD pv n 0)) (A ++ y ∷ B)
+    chained-cut = rw (cut-before, cut-behind) (record {
+      apart = apart-cut (0 ∷ A) (n ∷ []) (y ∷ B) (c .apart);
+      small = small-append A (y ∷ B) (small-left A (n ∷ y ∷ B) (c .small)) (small-right A (n ∷ y ∷ B) (c .small) .1);
+      linked = linked-cut nx pv ln lp 0 A (n ∷ []) y B (c .apart) (omega arith, c .small) (c .linked);
+    })
+
+  -- n put in there
+  pub chained-insert : (A : List ℕ) (n y : ℕ) (B : List ℕ) → Chained nx pv (A ++ y ∷ B) → Away n (0 ∷ A ++ y ∷ B) → n < 256
+      → Chained (set (set nx (last 0 A) n) n y) (set (set pv n (last 0 A)) y n) (A ++ n ∷ y ∷ B)
+  chained-insert A n y B c w m = record {
+    apart = apart-insert n (0 ∷ A) (y ∷ B) w (c .apart);
+    small = small-append A (n ∷ y ∷ B) (small-left A (y ∷ B) (c .small)) (m, small-right A (y ∷ B) (c .small));
+    linked = linked-insert nx pv ln lp n 0 A y B (c .apart) w (omega arith, c .small) m (c .linked);
+  }

@@ -3,20 +3,26 @@ use mathlib.Core.Path.{_≡_, refl, sym, ap, _∙_}
 use mathlib.Core.Logic.{⊎-elim}
 use mathlib.Core.Bool.{Bool, true, false, not, cond}
 use mathlib.Core.Option.{some}
-use mathlib.Core.List.{List, [], _∷_, map}
+use mathlib.Core.List.{List, [], _∷_, _++_, map, append-assoc, append-nil}
 use Prim.Native.Nat.{ℕ, zero, suc, _-_, _≤_}
 use native.Mathlib.Omega.{arith}
 use lib.Dec.{eqb}
-use lib.ListN.{length, drop, length-drop, length-map}
-use lib.Seq.{drop-length, drop-nil}
+use lib.ListN.{length, take, drop, length-drop, length-map}
+use lib.Seq.{take-length, drop-length, drop-nil}
 use Rattle.lists.specs.Basic.{keep}
-use Rattle.lists.specs.State.{Row, state, isRow, onBlocks, at, taken, otherRow, applies, changed, apply}
-use Rattle.lists.specs.Lookup.{blocksOf}
-use Rattle.lists.specs.Clearing.{firstOff, stepsOff, lessFirst, isEmptyRow, emptyGone, AfterSteps, StepsTaken, StepsDelete}
-use Rattle.lists.proofs.Basic.{either, or-both, any-map, map-drop}
+use Rattle.lists.specs.Change.{delList}
+use Rattle.lists.specs.Numbers.{listNumber}
+use Rattle.lists.specs.State.{Row, state, empty, isRow, onBlocks, at, taken, otherRow, blocksOf, applies, changed, frees, freeAfter, apply}
+use Rattle.lists.specs.Clearing.{firstOff, stepsOff, stepsFree, lessFirst, isEmptyRow, emptyGone, AfterSteps, StepsTaken, StepsFree, StepsDelete}
+use Rattle.lists.proofs.Basic.{either, or-both, any-map, map-drop, keep-all}
 use Rattle.lists.proofs.Count.{rowsOf, none-taken, at-num}
 use Rattle.lists.proofs.Nodes.{map-other, keep-other}
 use Rattle.lists.proofs.Distinct.{empty-distinct, applyAll-distinct}
+
+take-more : {A : Type 0} (k : ℕ) (l : List A) → take k l ++ take 1 (drop k l) ≡ take (suc k) l
+take-more zero l = refl
+take-more (suc k) [] = refl
+take-more (suc k) (x ∷ l) = ap (λ (r : List _). x ∷ r) (take-more k l)
 
 drop-more : {A : Type 0} (k : ℕ) (l : List A) → drop 1 (drop k l) ≡ drop (suc k) l
 drop-more zero l = refl
@@ -69,6 +75,13 @@ module _ {D : Type 0} where
     λ k h e. omega (arith, sym (length-drop k (blocksOf rs l)) ∙ ap length (sym (steps-blocks k l rs) ∙ e)),
   )
 
+  pub steps-free : StepsFree D
+  unfolding stepsFree
+  steps-free zero l rs fs = sym (append-nil fs)
+  steps-free (suc k) l rs fs =
+      rw (steps-free k l rs fs, steps-blocks k l rs) (append-assoc fs (take k (blocksOf rs l)) (take 1 (drop k (blocksOf rs l)))
+      ∙ ap (λ (x : List ℕ). fs ++ x) (take-more k (blocksOf rs l)))
+
   -- one step more at the beginning; what steps leave alone
   pub steps-first : (k l : ℕ) (rs : List (Row D)) → stepsOff k l (firstOff l rs) ≡ stepsOff (suc k) l rs
   unfolding stepsOff
@@ -110,9 +123,18 @@ module _ {D : Type 0} where
       (λ (e : eqb (r .num) l ≡ false). simp e (ap (λ (x : List (Row D)). r ∷ x) (gone-blocks n l rs (rw (e, blocksOf) at h) (omega (arith, rw e at k)))))
       (either (eqb (r .num) l))
 
+  -- all of its blocks
+  pub steps-freed : (l : ℕ) (rs : List (Row D)) (fs : List ℕ) → stepsFree (length (blocksOf rs l)) l rs fs ≡ fs ++ blocksOf rs l
+  steps-freed l rs fs = steps-free (length (blocksOf rs l)) l rs fs ∙ ap (λ (x : List ℕ). fs ++ x) (take-length (blocksOf rs l))
+
+  pub free-deleted : (l : ℕ) (rs : List (Row D)) (fs : List ℕ) → freeAfter {D = D} (delList l) rs fs ≡ stepsFree (length (blocksOf rs l)) l rs fs ++ listNumber l ∷ []
+  unfolding freeAfter frees
+  free-deleted l rs fs = rw (steps-freed l rs fs, keep-all (λ (n : ℕ). true) (λ n. refl) fs) (sym (append-assoc fs (blocksOf rs l) (listNumber l ∷ [])))
+
   pub steps-delete : StepsDelete D
   unfolding apply applies changed lessFirst emptyGone
   steps-delete cs s e l h =
-      let d = applyAll-distinct cs (state []) s e empty-distinct in
+      let d = applyAll-distinct cs empty s e empty-distinct in
       let q = gone-blocks (length (blocksOf (s .lists) l)) l (s .lists) refl (d .lists l) in
-      rw h (rw (after-steps (length (blocksOf (s .lists) l)) l (s .lists)) (ap (λ (x : List (Row D)). some (state x)) (sym q)))
+      rw h (rw (after-steps (length (blocksOf (s .lists) l)) l (s .lists), free-deleted l (s .lists) (s .free))
+      (ap (λ (x : List (Row D)). some (state x (stepsFree (length (blocksOf (s .lists) l)) l (s .lists) (s .free) ++ listNumber l ∷ []))) (sym q)))

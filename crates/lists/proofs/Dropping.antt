@@ -6,11 +6,11 @@ use mathlib.Core.List.{List, [], _∷_}
 use Prim.Native.Nat.{ℕ, zero, suc, _≤_, _<_}
 use native.Mathlib.Omega.{arith}
 use lib.Dec.{eqb}
-use lib.ListN.{length, getD, set}
+use lib.ListN.{length, getD, set, length-set}
 use native.Mathlib.Decide.{ℕ-discrete}
 use lib.Seq.{getD-set-other, getD-set-same}
 use Rattle.lists.specs.State.{Block}
-use Rattle.lists.specs.promises.Tables.{Tables, nextOf, ownerOf, cutNodes, dropFirst, dropUpTo, dropAll, Away, Apart, HasBlocks, blockNodes, times}
+use Rattle.lists.specs.promises.Tables.{Tables, nextOf, ownerOf, dropFirst, dropUpTo, dropAll, Away, Apart, HasBlocks, blockNodes, times}
 use Rattle.lists.proofs.Basic.{eqb-false, eq-true, getD-set-default}
 
 -- How often l stands among the owners: once less with each node freed, so that there is an end of them.
@@ -50,41 +50,47 @@ pub blocks-all : (o p : List ℕ) (l : ℕ) (xs : List (Block ℕ)) → HasBlock
 blocks-all o p l [] h = tt
 blocks-all o p l (x ∷ xs) h = (h .0 .owned, blocks-all o p l xs (h .1))
 
--- A list's blocks go, one by one.
-module _ (n l : ℕ) (t : Tables) where
-  drop-owner : dropFirst n t .owner ≡ set (t .owner) (nextOf t n) 0
-  unfolding dropFirst cutNodes
+-- A list's blocks go, one by one, each behind the last free node z.
+module _ (n l z : ℕ) (t : Tables) where
+  drop-owner : dropFirst n z t .owner ≡ set (t .owner) (nextOf t n) 0
+  unfolding dropFirst
   drop-owner = refl
 
-  pub drop-fewer : ownerOf t (nextOf t n) ≡ l → 1 ≤ l → times l (t .owner) ≡ suc (times l (dropFirst n t .owner))
+  -- the list's node leads to the one behind its first block
+  pub drop-next : n < length (t .next) → nextOf (dropFirst n z t) n ≡ nextOf t (nextOf t n)
+  unfolding dropFirst
+  drop-next h =
+      let b = nextOf t n in
+      getD-set-same (set (set (t .next) z b) b 255) n (nextOf t b) 0 (rw (length-set (set (t .next) z b) b 255, length-set (t .next) z b) h)
+
+  pub drop-fewer : ownerOf t (nextOf t n) ≡ l → 1 ≤ l → times l (t .owner) ≡ suc (times l (dropFirst n z t .owner))
   drop-fewer h g = rw drop-owner (times-set l (nextOf t n) (t .owner) h g)
 
-  pub upTo-stop : (k : ℕ) → ownerOf t (nextOf t n) ≢ l → dropUpTo k n l t ≡ t
+  pub upTo-stop : (k : ℕ) → ownerOf t (nextOf t n) ≢ l → dropUpTo k n l z t ≡ t
   unfolding dropUpTo
   upTo-stop zero h = refl
   upTo-stop (suc k) h = rw (eqb-false (ownerOf t (nextOf t n)) l h, dropUpTo)
 
-  pub upTo-more : (k : ℕ) → ownerOf t (nextOf t n) ≡ l → dropUpTo (suc k) n l t ≡ dropUpTo k n l (dropFirst n t)
+  pub upTo-more : (k : ℕ) → ownerOf t (nextOf t n) ≡ l → dropUpTo (suc k) n l z t ≡ dropUpTo k n l (nextOf t n) (dropFirst n z t)
   unfolding dropUpTo
   upTo-more k h = rw (eq-true (ownerOf t (nextOf t n)) l h, dropUpTo)
 
   -- one turn, and the end
-  pub drop-turn : ownerOf t (nextOf t n) ≡ l → 1 ≤ l → dropAll n l (dropFirst n t) ≡ dropAll n l t
+  pub drop-turn : ownerOf t (nextOf t n) ≡ l → 1 ≤ l → dropAll n l (nextOf t n) (dropFirst n z t) ≡ dropAll n l z t
   unfolding dropAll
-  drop-turn h g = rw (drop-fewer h g) (sym (upTo-more (times l (dropFirst n t .owner)) h))
+  drop-turn h g = rw (drop-fewer h g) (sym (upTo-more (times l (dropFirst n z t .owner)) h))
 
-  pub drop-stop : ownerOf t (nextOf t n) ≢ l → dropAll n l t ≡ t
+  pub drop-stop : ownerOf t (nextOf t n) ≢ l → dropAll n l z t ≡ t
   unfolding dropAll
   drop-stop h = upTo-stop (times l (t .owner)) h
 
   -- the list's own node stays, or nothing of the list follows it
-  pub drop-taken : n < length (t .next) → ownerOf t n ≡ l → 1 ≤ l → ownerOf (dropFirst n t) (nextOf (dropFirst n t) n) ≡ l → ownerOf (dropFirst n t) n ≡ l
-  unfolding dropFirst cutNodes
+  pub drop-taken : n < length (t .next) → ownerOf t n ≡ l → 1 ≤ l → ownerOf (dropFirst n z t) (nextOf (dropFirst n z t) n) ≡ l → ownerOf (dropFirst n z t) n ≡ l
   drop-taken m h g k = go (ℕ-discrete n (nextOf t n))
     where
-      go : Dec (n ≡ nextOf t n) → ownerOf (dropFirst n t) n ≡ l
+      go : Dec (n ≡ nextOf t n) → ownerOf (dropFirst n z t) n ≡ l
       go (yes e) =
-          let x : nextOf (dropFirst n t) n ≡ n = getD-set-same (t .next) n (nextOf t (nextOf t n)) 0 m ∙ sym (e ∙ ap (nextOf t) e) in
-          let z : ownerOf (dropFirst n t) n ≡ 0 = ap (λ (j : ℕ). getD (set (t .owner) j 0) n 0) (sym e) ∙ getD-set-default (t .owner) n 0 in
-          absurd (omega (arith, sym z ∙ ap (ownerOf (dropFirst n t)) (sym x) ∙ k))
-      go (no e) = getD-set-other (t .owner) (nextOf t n) n 0 0 e ∙ h
+          let x : nextOf (dropFirst n z t) n ≡ n = drop-next m ∙ sym (e ∙ ap (nextOf t) e) in
+          let y : ownerOf (dropFirst n z t) n ≡ 0 = ap (λ (o : List ℕ). getD o n 0) drop-owner ∙ ap (λ (j : ℕ). getD (set (t .owner) j 0) n 0) (sym e) ∙ getD-set-default (t .owner) n 0 in
+          absurd (omega (arith, sym y ∙ ap (ownerOf (dropFirst n z t)) (sym x) ∙ k))
+      go (no e) = ap (λ (o : List ℕ). getD o n 0) drop-owner ∙ getD-set-other (t .owner) (nextOf t n) n 0 0 e ∙ h

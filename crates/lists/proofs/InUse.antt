@@ -11,16 +11,13 @@ use Rattle.lists.specs.Basic.{any}
 use Rattle.lists.specs.Change.{Change, takeList, putFirst, putAfter, write, delBlock, delList}
 use Rattle.lists.specs.State.{Row, State, taken, placed, changed, apply, applyAll}
 use Rattle.lists.specs.InUse.{listNumber, inUse, brings}
+pub use Rattle.lists.specs.Numbers.{brought}
 use Rattle.lists.proofs.Basic.{or-both, bind-some, eqb-true, eqb-false, eq-true}
 use Rattle.lists.proofs.Apply.{apply-some}
 use Rattle.lists.proofs.Count.{one, takes, puts, taken-none, none-taken, rows-changed, rowsOf}
 use Rattle.lists.proofs.Placed.{placed-changed}
 
 module _ {D : Type 0} where
-  -- does the change bring number n into use?
-  abbrev pub brought : Change D → ℕ → Bool
-  brought c n = any (λ m. eqb m n) (brings c)
-
   puts-brought : (c : Change D) (n : ℕ) → brought c n ≡ false → puts c n ≡ false
   puts-brought (takeList l) n h = refl
   puts-brought (putFirst b l) n h = or-both (eqb b n) false h .0

@@ -9,20 +9,40 @@ use Prim.Native.Nat.{ℕ, zero, suc, _+_, _-_, _≤_, _<_}
 use native.Mathlib.Omega.{arith}
 use lib.Dec.{eqb}
 use lib.ListN.{length, getD}
-use Rattle.lists.specs.State.{Block, Row, onBlocksOf, onRow, taken, placed, onList}
+use Rattle.lists.specs.State.{Block, Row, State, onBlocksOf, onRow, taken, placed, onList}
 use Rattle.lists.specs.Lookup.{contentIn, contentOf, blocksOf, nextIn, nextAfter, listNums, takenAfter}
-use Rattle.lists.specs.promises.Tables.{Tables, Shows, Apart, Linked, HasBlocks, HasLists, IsBlock, IsList, blockNodes, nodes, chain, ownerOf, nextOf, listNode, blockOr0, listWithin, behindNode, behindList, SaysTaken, SaysPlaced, SaysOn, SaysLocation, SaysBlockAfter, SaysListAfter, OfShown, locatedAt}
+use Rattle.lists.specs.promises.Tables.{Tables, Shows, ShowsWith, ShowsAll, Apart, Linked, HasBlocks, HasLists, IsBlock, IsList, blockNodes, nodes, ends, chain, ownerOf, nextOf, listNode, blockOr0, listWithin, behindNode, behindList, SaysTaken, SaysPlaced, SaysOn, SaysLocation, SaysBlockAfter, SaysListAfter, OfShown, locatedAt, isNode, times}
 use Rattle.lists.proofs.Basic.{not-not, either, or-both, or-cases, eqb-true, eqb-false, eqb-neq, eq-true, le-true, lt-true, gt-false, ge-false}
 use Rattle.lists.proofs.Chain.{away-right, apart-left, apart-right, last, linked-tail}
 use Rattle.lists.proofs.Nodes.{away-taken, onList-taken}
 use Rattle.lists.proofs.Owners.{taken-owner, taken-range, untaken-away, unplaced-away, onList-owner, placed-owner}
+use Rattle.lists.proofs.Times.{none-away, once-apart}
 use Rattle.lists.proofs.Dropping.{all-times, blocks-all, times-most}
 
 pub node-of : (l : ℕ) → l ≤ 16 → listNode l ≡ 64 + l
 node-of l h = omega arith
 
+-- tables that show a state show its lists
+pub lists-shown : (t : Tables) (s : State ℕ) → ShowsAll t s → Shows t (s .lists)
+lists-shown t s h = record { order = s .free; shown = h }
+
+-- No node stands twice in the chain.
+module _ (t : Tables) (rs : List (Row ℕ)) {fs : List ℕ} (s : ShowsWith t rs fs) where
+  chain-once : (n : ℕ) → times n (chain rs fs) ≤ 1
+  chain-once n = rw (s .whole n) (go (isNode n))
+    where
+      go : (b : Bool) → cond b 1 0 ≤ 1
+      go true = omega arith
+      go false = omega arith
+
+  pub chain-apart : Apart (0 ∷ chain rs fs)
+  chain-apart = (none-away 0 (chain rs fs) (s .whole 0), once-apart (chain rs fs) chain-once)
+
+  pub nodes-apart : Apart (nodes rs)
+  nodes-apart = apart-left (nodes rs) (ends fs) (chain-apart .1)
+
 -- The questions.
-module _ (t : Tables) (rs : List (Row ℕ)) (s : Shows t rs) where
+module _ (t : Tables) (rs : List (Row ℕ)) {fs : List ℕ} (s : ShowsWith t rs fs) where
   pub taken-free : (l : ℕ) → IsList l → eqb (ownerOf t (listNode l)) 0 ≡ not (taken l rs)
   taken-free l g = rw (node-of l (g .1)) (⊎-elim
       (λ e. rw e (eqb-false (ownerOf t (64 + l)) 0 (λ z. omega (arith, taken-owner (t .owner) (t .location) l rs (s .has) e))))
@@ -90,15 +110,15 @@ module _ (o p : List ℕ) where
 abbrev firstNum : List (Block ℕ) → ℕ
 firstNum xs = getD (map (λ x. x .num) xs) 0 0
 
-module _ (nx pv o p : List ℕ) where
+module _ (nx pv o p fs : List ℕ) where
   -- behind node a stand some blocks of a list, and then other lists
-  first-block : (l a : ℕ) (xs : List (Block ℕ)) (rs : List (Row ℕ)) → HasBlocks o p l xs → HasLists o p rs → Linked nx pv a (blockNodes xs ++ chain rs)
+  first-block : (l a : ℕ) (xs : List (Block ℕ)) (rs : List (Row ℕ)) → HasBlocks o p l xs → HasLists o p rs → Linked nx pv a (blockNodes xs ++ chain rs fs)
       → blockOr0 (getD nx a 0) ≡ firstNum xs
   first-block l a [] [] h k w = rw (w .0)
   first-block l a [] (r ∷ rs) h k w = rw (w .0, gt-false (64 + r .num) 64 (omega (arith, k .0 .range .0)))
   first-block l a (x ∷ xs) rs h k w = rw (w .0, le-true (x .num) 64 (h .0 .range .1))
 
-  after-block : (l a b : ℕ) (xs : List (Block ℕ)) (rs : List (Row ℕ)) → HasBlocks o p l xs → HasLists o p rs → Linked nx pv a (blockNodes xs ++ chain rs)
+  after-block : (l a b : ℕ) (xs : List (Block ℕ)) (rs : List (Row ℕ)) → HasBlocks o p l xs → HasLists o p rs → Linked nx pv a (blockNodes xs ++ chain rs fs)
       → onBlocksOf b xs ≡ true → blockOr0 (getD nx b 0) ≡ nextIn b (map (λ x. x .num) xs)
   unfolding nextIn
   after-block l a b [] rs h k w q = absurd (false≢true q)
@@ -108,13 +128,13 @@ module _ (nx pv o p : List ℕ) where
       (either (eqb (x .num) b))
 
   -- a list's blocks, and the lists behind it
-  linked-blocks : (a : ℕ) (r : Row ℕ) (rs : List (Row ℕ)) → Linked nx pv a (chain (r ∷ rs)) → Linked nx pv (64 + r .num) (blockNodes (r .blocks) ++ chain rs)
-  linked-blocks a r rs w = subst (λ (ns : List ℕ). Linked nx pv (64 + r .num) ns) (append-assoc (blockNodes (r .blocks)) (nodes rs) (255 ∷ [])) (w .2)
+  linked-blocks : (a : ℕ) (r : Row ℕ) (rs : List (Row ℕ)) → Linked nx pv a (chain (r ∷ rs) fs) → Linked nx pv (64 + r .num) (blockNodes (r .blocks) ++ chain rs fs)
+  linked-blocks a r rs w = subst (λ (ns : List ℕ). Linked nx pv (64 + r .num) ns) (append-assoc (blockNodes (r .blocks)) (nodes rs) (ends fs)) (w .2)
 
-  linked-lists : (a : ℕ) (r : Row ℕ) (rs : List (Row ℕ)) → Linked nx pv a (chain (r ∷ rs)) → Linked nx pv (last (64 + r .num) (blockNodes (r .blocks))) (chain rs)
-  linked-lists a r rs w = linked-tail nx pv (64 + r .num) (blockNodes (r .blocks)) (chain rs) (linked-blocks a r rs w)
+  linked-lists : (a : ℕ) (r : Row ℕ) (rs : List (Row ℕ)) → Linked nx pv a (chain (r ∷ rs) fs) → Linked nx pv (last (64 + r .num) (blockNodes (r .blocks))) (chain rs fs)
+  linked-lists a r rs w = linked-tail nx pv (64 + r .num) (blockNodes (r .blocks)) (chain rs fs) (linked-blocks a r rs w)
 
-  first-of : (l a : ℕ) (rs : List (Row ℕ)) → HasLists o p rs → Linked nx pv a (chain rs) → taken l rs ≡ true → blockOr0 (getD nx (64 + l) 0) ≡ getD (blocksOf rs l) 0 0
+  first-of : (l a : ℕ) (rs : List (Row ℕ)) → HasLists o p rs → Linked nx pv a (chain rs fs) → taken l rs ≡ true → blockOr0 (getD nx (64 + l) 0) ≡ getD (blocksOf rs l) 0 0
   unfolding taken blocksOf
   first-of l a [] k w h = absurd (false≢true h)
   first-of l a (r ∷ rs) k w h = ⊎-elim
@@ -123,7 +143,7 @@ module _ (nx pv o p : List ℕ) where
       (λ (e : eqb (r .num) l ≡ false). rw (e, blocksOf) (first-of l _ rs (k .2) (linked-lists a r rs w) (rw e at h)))
       (either (eqb (r .num) l))
 
-  after-of : (l b a : ℕ) (rs : List (Row ℕ)) → HasLists o p rs → Linked nx pv a (chain rs) → Apart (nodes rs) → onList l b rs ≡ true
+  after-of : (l b a : ℕ) (rs : List (Row ℕ)) → HasLists o p rs → Linked nx pv a (chain rs fs) → Apart (nodes rs) → onList l b rs ≡ true
       → blockOr0 (getD nx b 0) ≡ nextIn b (blocksOf rs l)
   unfolding onList blocksOf
   after-of l b a [] k w d h = absurd (false≢true h)
@@ -136,15 +156,15 @@ module _ (nx pv o p : List ℕ) where
       (λ (e : eqb (r .num) l ≡ false). rw (e, blocksOf) (after-of l b _ rs (k .2) (linked-lists a r rs w) (apart-right (blockNodes (r .blocks)) (nodes rs) (d .1)) (rw e at h)))
       (either (eqb (r .num) l))
 
-pub block-after : (t : Tables) (rs : List (Row ℕ)) → Shows t rs → (l b : ℕ) → taken l rs ≡ true → eqb b 0 || onList l b rs ≡ true
+pub block-after : (t : Tables) (rs : List (Row ℕ)) {fs : List ℕ} → ShowsWith t rs fs → (l b : ℕ) → taken l rs ≡ true → eqb b 0 || onList l b rs ≡ true
     → blockOr0 (nextOf t (behindNode l b)) ≡ nextAfter rs l b
 unfolding nextAfter nextIn
-block-after t rs s l b h k = ⊎-elim
+block-after t rs {fs} s l b h k = ⊎-elim
     (λ (e : eqb b 0 ≡ true).
     let q : b ≡ 0 = eqb-true b 0 e in
-    rw (e, node-of l (taken-range (t .owner) (t .location) l rs (s .has) h .1), q, nextIn) (first-of (t .next) (t .prev) (t .owner) (t .location) l 0 rs (s .has) (s .linked) h))
+    rw (e, node-of l (taken-range (t .owner) (t .location) l rs (s .has) h .1), q, nextIn) (first-of (t .next) (t .prev) (t .owner) (t .location) fs l 0 rs (s .has) (s .linked) h))
     (λ (e : eqb b 0 ≡ false).
-    rw (e, eqb-false 0 b (λ z. eqb-neq b 0 e (sym z)), nextIn) (after-of (t .next) (t .prev) (t .owner) (t .location) l b 0 rs (s .has) (s .linked) (apart-left (nodes rs) (255 ∷ []) (s .apart .1)) (rw e at k)))
+    rw (e, eqb-false 0 b (λ z. eqb-neq b 0 e (sym z)), nextIn) (after-of (t .next) (t .prev) (t .owner) (t .location) fs l b 0 rs (s .has) (s .linked) (nodes-apart t rs s) (rw e at k)))
     (either (eqb b 0))
 
 -- The list after another: the first node behind its own that is no block's, at most k nodes on.
@@ -153,20 +173,20 @@ unfolding listWithin
 within-none nx n = refl
 
 module _ (nx : List ℕ) (k n : ℕ) where
-  pub within-end : getD nx n 0 ≡ 255 → listWithin (suc k) nx n ≡ 0
+  pub within-end : getD nx n 0 ≡ 254 → listWithin (suc k) nx n ≡ 0
   unfolding listWithin
   within-end h = rw (h, listWithin)
 
-  pub within-list : getD nx n 0 ≢ 255 → 64 < getD nx n 0 → listWithin (suc k) nx n ≡ getD nx n 0 - 64
+  pub within-list : getD nx n 0 ≢ 254 → 64 < getD nx n 0 → listWithin (suc k) nx n ≡ getD nx n 0 - 64
   unfolding listWithin
-  within-list h g = rw (eqb-false (getD nx n 0) 255 h, lt-true 64 (getD nx n 0) g, listWithin)
+  within-list h g = rw (eqb-false (getD nx n 0) 254 h, lt-true 64 (getD nx n 0) g, listWithin)
 
   pub within-block : getD nx n 0 ≤ 64 → listWithin (suc k) nx n ≡ listWithin k nx (getD nx n 0)
   unfolding listWithin
-  within-block g = rw (eqb-false (getD nx n 0) 255 (λ z. omega arith), ge-false 64 (getD nx n 0) g, listWithin)
+  within-block g = rw (eqb-false (getD nx n 0) 254 (λ z. omega arith), ge-false 64 (getD nx n 0) g, listWithin)
 
-module _ (nx pv o p : List ℕ) where
-  first-list : (k l a : ℕ) (xs : List (Block ℕ)) (rs : List (Row ℕ)) → HasBlocks o p l xs → HasLists o p rs → Linked nx pv a (blockNodes xs ++ chain rs)
+module _ (nx pv o p fs : List ℕ) where
+  first-list : (k l a : ℕ) (xs : List (Block ℕ)) (rs : List (Row ℕ)) → HasBlocks o p l xs → HasLists o p rs → Linked nx pv a (blockNodes xs ++ chain rs fs)
       → length (blockNodes xs) < k → listWithin k nx a ≡ getD (listNums rs) 0 0
   unfolding listNums
   first-list zero l a xs rs h g w b = absurd (omega arith)
@@ -178,7 +198,7 @@ module _ (nx pv o p : List ℕ) where
   first-list (suc k) l a (x ∷ xs) rs h g w b =
       within-block nx k a (rw (w .0) (h .0 .range .1)) ∙ ap (listWithin k nx) (w .0) ∙ first-list k l (x .num) xs rs (h .1) g (w .2) (omega arith)
 
-  list-of : length o ≡ 256 → (l a : ℕ) (rs : List (Row ℕ)) → HasLists o p rs → Linked nx pv a (chain rs) → Apart (nodes rs) → taken l rs ≡ true
+  list-of : length o ≡ 256 → (l a : ℕ) (rs : List (Row ℕ)) → HasLists o p rs → Linked nx pv a (chain rs fs) → Apart (nodes rs) → taken l rs ≡ true
       → listWithin 256 nx (64 + l) ≡ nextIn l (listNums rs)
   unfolding taken listNums nextIn
   list-of c l a [] k w d h = absurd (false≢true h)
@@ -186,38 +206,38 @@ module _ (nx pv o p : List ℕ) where
       (λ (e : eqb (r .num) l ≡ true).
       let q = all-times (r .num) o ((64 + r .num) ∷ blockNodes (r .blocks)) (k .0 .range .0) (apart-left ((64 + r .num) ∷ blockNodes (r .blocks)) (nodes rs) d) (k .0 .owned, blocks-all o p (r .num) (r .blocks) (k .1)) in
       rw (e, nextIn) (ap (λ (n : ℕ). listWithin 256 nx (64 + n)) (sym (eqb-true (r .num) l e))
-      ∙ first-list 256 (r .num) (64 + r .num) (r .blocks) rs (k .1) (k .2) (linked-blocks nx pv o p a r rs w) (omega (arith, times-most (r .num) o))))
-      (λ (e : eqb (r .num) l ≡ false). rw (e, nextIn) (list-of c l _ rs (k .2) (linked-lists nx pv o p a r rs w) (apart-right (blockNodes (r .blocks)) (nodes rs) (d .1)) (rw e at h)))
+      ∙ first-list 256 (r .num) (64 + r .num) (r .blocks) rs (k .1) (k .2) (linked-blocks nx pv o p fs a r rs w) (omega (arith, times-most (r .num) o))))
+      (λ (e : eqb (r .num) l ≡ false). rw (e, nextIn) (list-of c l _ rs (k .2) (linked-lists nx pv o p fs a r rs w) (apart-right (blockNodes (r .blocks)) (nodes rs) (d .1)) (rw e at h)))
       (either (eqb (r .num) l))
 
-pub list-after : (t : Tables) (rs : List (Row ℕ)) → Shows t rs → (l : ℕ) → eqb l 0 || taken l rs ≡ true → listWithin 256 (t .next) (behindList l) ≡ takenAfter rs l
+pub list-after : (t : Tables) (rs : List (Row ℕ)) {fs : List ℕ} → ShowsWith t rs fs → (l : ℕ) → eqb l 0 || taken l rs ≡ true → listWithin 256 (t .next) (behindList l) ≡ takenAfter rs l
 unfolding takenAfter nextIn
-list-after t rs s l h = ⊎-elim
+list-after t rs {fs} s l h = ⊎-elim
     (λ (e : eqb l 0 ≡ true).
     let q : l ≡ 0 = eqb-true l 0 e in
-    rw (e, q, nextIn) (first-list (t .next) (t .prev) (t .owner) (t .location) 256 0 0 [] rs tt (s .has) (s .linked) (omega arith)))
+    rw (e, q, nextIn) (first-list (t .next) (t .prev) (t .owner) (t .location) fs 256 0 0 [] rs tt (s .has) (s .linked) (omega arith)))
     (λ (e : eqb l 0 ≡ false).
     let g : taken l rs ≡ true = rw e at h in
     rw (e, node-of l (taken-range (t .owner) (t .location) l rs (s .has) g .1), eqb-false 0 l (λ z. eqb-neq l 0 e (sym z)), nextIn)
-    (list-of (t .next) (t .prev) (t .owner) (t .location) (s .sized .owner) l 0 rs (s .has) (s .linked) (apart-left (nodes rs) (255 ∷ []) (s .apart .1)) g))
+    (list-of (t .next) (t .prev) (t .owner) (t .location) fs (s .sized .owner) l 0 rs (s .has) (s .linked) (nodes-apart t rs s) g))
     (either (eqb l 0))
 
 -- The look-ups' answers, of the lists that tables show.
 module _ {t : Tables} where
   pub taken-said : {l : ℕ} {r : Bool} → SaysTaken t l r → OfShown t (λ rs. IsList l → r ≡ taken l rs)
-  taken-said {l} {r} w rs s g = w .answer ∙ ap not (taken-free t rs s l g) ∙ not-not (taken l rs)
+  taken-said {l} {r} w rs s g = w .answer ∙ ap not (taken-free t rs (s .shown) l g) ∙ not-not (taken l rs)
 
   pub placed-said : {b : ℕ} {r : Bool} → SaysPlaced t b r → OfShown t (λ rs. IsBlock b → r ≡ placed b rs)
-  placed-said {b} {r} w rs s g = w .answer ∙ ap not (placed-free t rs s b g) ∙ not-not (placed b rs)
+  placed-said {b} {r} w rs s g = w .answer ∙ ap not (placed-free t rs (s .shown) b g) ∙ not-not (placed b rs)
 
   pub on-said : {l b : ℕ} {r : Bool} → SaysOn t l b r → OfShown t (λ rs. IsList l → IsBlock b → r ≡ onList l b rs)
-  on-said {l} {b} {r} w rs s g h = w .answer ∙ on-own t rs s l b g h
+  on-said {l} {b} {r} w rs s g h = w .answer ∙ on-own t rs (s .shown) l b g h
 
   pub location-said : {b r : ℕ} → SaysLocation t b r → OfShown t (λ rs. placed b rs ≡ true → contentOf rs b ≡ locatedAt r)
-  location-said {b} {r} w rs s h = content-place (t .owner) (t .location) b rs (s .has) h ∙ ap locatedAt (sym (w .answer))
+  location-said {b} {r} w rs s h = content-place (t .owner) (t .location) b rs (s .shown .has) h ∙ ap locatedAt (sym (w .answer))
 
   pub block-said : {l p r : ℕ} → SaysBlockAfter t l p r → OfShown t (λ rs. taken l rs ≡ true → eqb p 0 || onList l p rs ≡ true → r ≡ nextAfter rs l p)
-  block-said {l} {p} {r} w rs s h k = w .answer ∙ block-after t rs s l p h k
+  block-said {l} {p} {r} w rs s h k = w .answer ∙ block-after t rs (s .shown) l p h k
 
   pub list-said : {l r : ℕ} → SaysListAfter t l r → OfShown t (λ rs. eqb l 0 || taken l rs ≡ true → r ≡ takenAfter rs l)
-  list-said {l} {r} w rs s h = w .answer ∙ list-after t rs s l h
+  list-said {l} {r} w rs s h = w .answer ∙ list-after t rs (s .shown) l h

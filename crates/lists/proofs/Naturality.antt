@@ -9,7 +9,7 @@ use Prim.Native.Nat.{ℕ}
 use lib.Dec.{eqb}
 use Rattle.lists.specs.Basic.{guard, bind, orElse, keep}
 use Rattle.lists.specs.Change.{Change, takeList, putFirst, putAfter, write, delBlock, delList, mapChange, carriedBy}
-use Rattle.lists.specs.State.{Block, Row, State, block, row, state, isBlockNum, isRow, onRow, isRowWith, taken, placed, onList, applies, insertAfter, onBlocks, at, put, otherBlock, otherRow, changed, apply, applyAll, overlay, mapBlock, mapRow, mapState}
+use Rattle.lists.specs.State.{Block, Row, State, block, row, state, isBlockNum, isRow, onRow, isRowWith, taken, placed, onList, applies, insertAfter, onBlocks, at, put, otherBlock, otherRow, changed, frees, freeAfter, apply, applyAll, overlay, mapBlock, mapRow, mapState}
 use Rattle.lists.specs.Lookup.{contentIn, contentOf, blocksOf, nextAfter, listNums}
 use Rattle.lists.proofs.Basic.{either, cond-map, any-map, keep-map}
 
@@ -89,9 +89,33 @@ module _ {D E : Type 0} (h : D → E) where
   applies-map (delBlock b) rs = placed-map b rs
   applies-map (delList l) rs = taken-map l rs
 
+  -- numbers are no contents
+  nums-map : (xs : List (Block D)) → map (λ x. x .num) (map (mapBlock h) xs) ≡ map (λ x. x .num) xs
+  nums-map [] = refl
+  nums-map (x ∷ xs) = ap {B = List ℕ} (λ ns. x .num ∷ ns) (nums-map xs)
+
+  pub blocksOf-map : (rs : List (Row D)) (l : ℕ) → blocksOf (map (mapRow h) rs) l ≡ blocksOf rs l
+  unfolding blocksOf
+  blocksOf-map [] l = refl
+  blocksOf-map (r ∷ rs) l = ⊎-elim
+      (λ (e : eqb (r .num) l ≡ true). rw (e, blocksOf) (nums-map (r .blocks)))
+      (λ (e : eqb (r .num) l ≡ false). rw (e, blocksOf) (blocksOf-map rs l))
+      (either (eqb (r .num) l))
+
+  pub freeAfter-map : (c : Change D) (rs : List (Row D)) (fs : List ℕ) → freeAfter (mapChange h c) (map (mapRow h) rs) fs ≡ freeAfter c rs fs
+  unfolding freeAfter frees mapChange
+  freeAfter-map (takeList l) rs fs = refl
+  freeAfter-map (putFirst b l) rs fs = refl
+  freeAfter-map (putAfter b l p) rs fs = refl
+  freeAfter-map (write b d) rs fs = refl
+  freeAfter-map (delBlock b) rs fs = refl
+  freeAfter-map (delList l) rs fs = rw (blocksOf-map rs l)
+
   pub apply-map : (c : Change D) (s : State D) → apply (mapChange h c) (mapState h s) ≡ Option·map (mapState h) (apply c s)
   unfolding apply
-  apply-map c s = rw (applies-map c (s .lists), changed-map c (s .lists)) (guard-map (mapState h) (applies c (s .lists)) (some (state (changed c (s .lists)))))
+  apply-map c s =
+      rw (applies-map c (s .lists), changed-map c (s .lists), freeAfter-map c (s .lists) (s .free))
+      (guard-map (mapState h) (applies c (s .lists)) (some (state (changed c (s .lists)) (freeAfter c (s .lists) (s .free)))))
 
   pub applyAll-map : (cs : List (Change D)) (s : State D) → applyAll (map (mapChange h) cs) (mapState h s) ≡ Option·map (mapState h) (applyAll cs s)
   unfolding applyAll
@@ -114,18 +138,6 @@ module _ {D E : Type 0} (h : D → E) where
   overlay-map (c ∷ cs) s = rw (overlay, apply-map c s, orElse-map s (apply c s)) (overlay-map cs (orElse s (apply c s)))
 
   -- what is looked up
-  nums-map : (xs : List (Block D)) → map (λ x. x .num) (map (mapBlock h) xs) ≡ map (λ x. x .num) xs
-  nums-map [] = refl
-  nums-map (x ∷ xs) = ap {B = List ℕ} (λ ns. x .num ∷ ns) (nums-map xs)
-
-  pub blocksOf-map : (rs : List (Row D)) (l : ℕ) → blocksOf (map (mapRow h) rs) l ≡ blocksOf rs l
-  unfolding blocksOf
-  blocksOf-map [] l = refl
-  blocksOf-map (r ∷ rs) l = ⊎-elim
-      (λ (e : eqb (r .num) l ≡ true). rw (e, blocksOf) (nums-map (r .blocks)))
-      (λ (e : eqb (r .num) l ≡ false). rw (e, blocksOf) (blocksOf-map rs l))
-      (either (eqb (r .num) l))
-
   pub nextAfter-map : (rs : List (Row D)) (l p : ℕ) → nextAfter (map (mapRow h) rs) l p ≡ nextAfter rs l p
   unfolding nextAfter
   nextAfter-map rs l p = rw (blocksOf-map rs l)

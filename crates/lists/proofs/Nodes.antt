@@ -119,7 +119,7 @@ away-on : (b : ℕ) (xs : List (Block ℕ)) → Away b (blockNodes xs) → onBlo
 away-on b [] h = refl
 away-on b (x ∷ xs) h = rw (eqb-false (x .num) b (h .0)) (away-on b xs (h .1))
 
-away-placed : (b : ℕ) (rs : List (Row ℕ)) → Away b (nodes rs) → placed b rs ≡ false
+pub away-placed : (b : ℕ) (rs : List (Row ℕ)) → Away b (nodes rs) → placed b rs ≡ false
 unfolding placed
 away-placed b [] h = refl
 away-placed b (r ∷ rs) h =

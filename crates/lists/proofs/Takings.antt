@@ -8,20 +8,16 @@ use Prim.Native.Nat.{ℕ}
 use lib.Dec.{eqb}
 use Rattle.lists.specs.Basic.{orElse, any, keep}
 use Rattle.lists.specs.Change.{Change, takeList, putFirst, putAfter, write, delBlock, delList}
-use Rattle.lists.specs.State.{Row, State, state, block, row, isRow, taken, applies, insertAfter, onBlocks, at, put, otherBlock, otherRow, changed, apply, applyAll, overlay}
+use Rattle.lists.specs.State.{Row, State, state, empty, block, row, isRow, taken, applies, insertAfter, onBlocks, at, put, otherBlock, otherRow, changed, freeAfter, apply, applyAll, overlay}
 use Rattle.lists.specs.Lookup.{listNums}
 use Rattle.lists.specs.Takings.{taking, deletes, undeleted, inForce}
-use Rattle.lists.proofs.Basic.{or-both, bind-some, keep-map, eqb-same}
+use Rattle.lists.proofs.Basic.{or-both, bind-some, keep-map, keep-all, eqb-same}
 use Rattle.lists.proofs.Apply.{apply-some}
 use Rattle.lists.proofs.Count.{at-num, takes}
 use Rattle.lists.proofs.InUse.{taken-changed}
 
 -- Elements that pass.
 module _ {A : Type 0} (p : A → Bool) where
-  keep-all : ((x : A) → p x ≡ true) → (xs : List A) → keep p xs ≡ xs
-  keep-all e [] = refl
-  keep-all e (x ∷ xs) = rw (e x, keep-all e xs)
-
   keep-append : (xs ys : List A) → keep p (xs ++ ys) ≡ keep p xs ++ keep p ys
   keep-append [] ys = refl
   keep-append (x ∷ xs) ys = rw (keep-append xs ys) (go (p x))
@@ -104,9 +100,9 @@ module _ {D : Type 0} where
       let (u, f, g) = bind-some (apply c s) (λ x. applyAll cs x) t e in
       lists-in-force cs u t g ∙ in-force-step c cs (listNums (s .lists)) (listNums (u .lists)) (apply-nums c s u f)
 
-  pub lists-by-takings : (cs : List (Change D)) (s : State D) → applyAll cs (state []) ≡ some s → listNums (s .lists) ≡ inForce cs
+  pub lists-by-takings : (cs : List (Change D)) (s : State D) → applyAll cs empty ≡ some s → listNums (s .lists) ≡ inForce cs
   unfolding undeleted listNums
-  lists-by-takings cs s e = lists-in-force cs (state []) s e
+  lists-by-takings cs s e = lists-in-force cs empty s e
 
   -- The history goes on: what it deletes then goes, and what it takes then stands behind. So a list deleted and taken again stands last.
   undeleted-both : (cs ds : List (Change D)) (ls : List ℕ) → undeleted (cs ++ ds) ls ≡ undeleted ds (undeleted cs ls)
@@ -150,7 +146,7 @@ module _ {D : Type 0} where
   none-applies c s h = go (applies c (s .lists)) refl
     where
       go : (t : Bool) → applies c (s .lists) ≡ t → applies c (s .lists) ≡ false
-      go true e = let z : some (state (changed c (s .lists))) ≡ none = rw e at h in absurd (Option·none-ne-some _ (sym z))
+      go true e = let z : some (state (changed c (s .lists)) (freeAfter c (s .lists) (s .free))) ≡ none = rw e at h in absurd (Option·none-ne-some _ (sym z))
       go false e = e
 
   -- no list is taken twice by these changes

@@ -3,6 +3,7 @@ use mathlib.Core.Bool.{Bool, true, false, _&&_, _||_, cond}
 use mathlib.Core.Option.{Option, none, some}
 use mathlib.Core.List.{List, [], _∷_, _++_}
 use Prim.Native.Nat.{ℕ, zero, suc}
+use lib.Dec.{eqb}
 
 -- the option where the test holds
 abbrev pub guard {ℓ} : {A : Type ℓ} → Bool → Option A → Option A
@@ -39,6 +40,11 @@ each (b ∷ bs) = b && each bs
 abbrev pub keep : {A : Type 0} → (A → Bool) → List A → List A
 keep p [] = []
 keep p (x ∷ xs) = cond (p x) (x ∷ keep p xs) (keep p xs)
+
+-- how often n stands in a list
+unfoldable pub times : ℕ → List ℕ → ℕ
+times n [] = 0
+times n (x ∷ xs) = cond (eqb x n) (suc (times n xs)) (times n xs)
 
 -- f k, f (k + 1), …: n elements
 unfoldable pub from : {A : Type 0} → (ℕ → A) → ℕ → ℕ → List A

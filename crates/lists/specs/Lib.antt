@@ -3,6 +3,7 @@ pub mod Change
 pub mod Clearing
 pub mod InUse
 pub mod Lookup
+pub mod Numbers
 pub mod State
 pub mod Takings
 pub mod promises

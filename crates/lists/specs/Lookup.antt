@@ -7,6 +7,7 @@ use lib.Dec.{eqb}
 use lib.ListN.{getD}
 use Rattle.lists.specs.Basic.{isSome}
 use Rattle.lists.specs.State.{Block, Row}
+unfoldable pub use Rattle.lists.specs.State.{blocksOf}
 
 -- the content of block b; none where it is on no list, or "was not written since its present put"
 unfoldable pub contentIn : {D : Type 0} → List (Block D) → ℕ → Option D
@@ -20,11 +21,6 @@ contentOf (r ∷ rs) b = elim (contentIn (r .blocks) b) [ none ↦ contentOf rs 
 -- is it written?
 unfoldable pub written : {D : Type 0} → ℕ → List (Row D) → Bool
 written b rs = isSome (contentOf rs b)
-
--- the numbers of list l's blocks, in order
-unfoldable pub blocksOf : {D : Type 0} → List (Row D) → ℕ → List ℕ
-blocksOf [] l = []
-blocksOf (r ∷ rs) l = elim (eqb (r .num) l) [ true ↦ map (λ x. x .num) (r .blocks) | false ↦ blocksOf rs l ]
 
 -- the number after p, 0 at the end
 unfoldable pub nextIn : ℕ → List ℕ → ℕ

@@ -6,6 +6,7 @@ use Prim.Native.Nat.{ℕ}
 use lib.Dec.{eqb}
 use Rattle.lists.specs.Basic.{guard, bind, orElse, any, keep}
 use Rattle.lists.specs.Change.{Change, takeList, putFirst, putAfter, write, delBlock, delList}
+use Rattle.lists.specs.Numbers.{listNumber, allNumbers, brought}
 
 -- "A state is the lists taken, the blocks on each in order, and 256 bytes for each such block" that was "written since its present put".
 pub record Block (D : Type 0) : Type 0 where
@@ -17,9 +18,11 @@ pub record Row (D : Type 0) : Type 0 where
   pub num : ℕ
   pub blocks : List (Block D)
 
--- the lists stand in the order of their taking
+-- The lists stand in the order of their taking, and the free numbers, of blocks and of lists, in the order of their freeing: "the number that has been
+-- free longest" is the first of its kind.
 pub record State (D : Type 0) : Type 0 where
   pub lists : List (Row D)
+  pub free : List ℕ
 
 abbrev pub block : {D : Type 0} → ℕ → Option D → Block D
 block b d = record { num = b; content = d }
@@ -27,8 +30,12 @@ block b d = record { num = b; content = d }
 abbrev pub row : {D : Type 0} → ℕ → List (Block D) → Row D
 row l bs = record { num = l; blocks = bs }
 
-abbrev pub state : {D : Type 0} → List (Row D) → State D
-state rs = record { lists = rs }
+abbrev pub state : {D : Type 0} → List (Row D) → List ℕ → State D
+state rs fs = record { lists = rs; free = fs }
+
+-- no list is taken: "numbers never used come first, ascending"
+abbrev pub empty : {D : Type 0} → State D
+empty = state [] allNumbers
 
 abbrev pub isBlockNum : {D : Type 0} → ℕ → Block D → Bool
 isBlockNum b x = eqb (x .num) b
@@ -94,8 +101,26 @@ changed (write b d) rs = map (onBlocks (map (put b d))) rs
 changed (delBlock b) rs = map (onBlocks (keep (otherBlock b))) rs
 changed (delList l) rs = keep (otherRow l) rs
 
+-- the numbers of list l's blocks, in order
+unfoldable pub blocksOf : {D : Type 0} → List (Row D) → ℕ → List ℕ
+blocksOf [] l = []
+blocksOf (r ∷ rs) l = elim (eqb (r .num) l) [ true ↦ map (λ x. x .num) (r .blocks) | false ↦ blocksOf rs l ]
+
+-- The numbers that a change frees. "Blocks freed by one list deletion count in list order", and then the list's own number.
+unfoldable pub frees : {D : Type 0} → Change D → List (Row D) → List ℕ
+frees (takeList l) rs = []
+frees (putFirst b l) rs = []
+frees (putAfter b l p) rs = []
+frees (write b d) rs = []
+frees (delBlock b) rs = b ∷ []
+frees (delList l) rs = blocksOf rs l ++ listNumber l ∷ []
+
+-- The free numbers after a change that applies: a put or a take takes its number out, wherever it stands; a deletion adds at the end.
+unfoldable pub freeAfter : {D : Type 0} → Change D → List (Row D) → List ℕ → List ℕ
+freeAfter c rs fs = keep (λ n. not (brought c n)) fs ++ frees c rs
+
 unfoldable pub apply : {D : Type 0} → Change D → State D → Option (State D)
-apply c s = guard (applies c (s .lists)) (some (state (changed c (s .lists))))
+apply c s = guard (applies c (s .lists)) (some (state (changed c (s .lists)) (freeAfter c (s .lists) (s .free))))
 
 -- changes in order, all of which must apply
 unfoldable pub applyAll : {D : Type 0} → List (Change D) → State D → Option (State D)
@@ -115,4 +140,4 @@ abbrev pub mapRow : {D E : Type 0} → (D → E) → Row D → Row E
 mapRow h r = row (r .num) (map (mapBlock h) (r .blocks))
 
 abbrev pub mapState : {D E : Type 0} → (D → E) → State D → State E
-mapState h s = state (map (mapRow h) (s .lists))
+mapState h s = state (map (mapRow h) (s .lists)) (s .free)

@@ -1,20 +1,24 @@
-// A state's lists as one doubly linked chain in a lent array, and the location of each block's content. No content is copied.
+// A state as one doubly linked chain in a lent array, and the location of each block's content. No content is copied.
 //
 // Nodes: block b is node b, list l is node 64 + l; START stands before all nodes and END behind all. The chain holds each list taken, in the order
-// of their taking, followed by its blocks in order. So a put is an insertion behind a node, first or not, a removal needs no search, and no end is
-// a special case. A node's owner is the list that it is of, 0 for a free one.
+// of their taking, followed by its blocks in order; then FREE; then the free blocks and lists in the order of their freeing. So every node is always in
+// the chain: a put and a deletion move one, a removal needs no search, and no end is a special case. A node's owner is the list that it is of, 0 for a
+// free one.
 //
 // The array holds node by node four bytes, next, prev, owner and the low byte of its content's location, and behind all nodes the high bytes of
 // those. Every byte is the number of a node, so no function asks anything of its numbers. What is promised of a state asks that they are in range.
+use crate::first::FIRST;
 use crate::kind;
 use crate::limits::BLOCKS;
 ghost use mathlib.Core.Path.{_≡_};
 ghost use Prim.Native.Nat.{_+_, _*_, _≤_};
 ghost use lib.ListN.{length};
 ghost use Rattle.lists.specs.Change.{takeList, putAfter, write, delBlock, delList};
-ghost use Rattle.lists.specs.promises.Tables.{tablesIn, nextOf, prevOf, ownerOf, listNode, withNext, withPrev, withOwner, withLocation, linkNodes, insertNode, cutNode, IsFirst, Drops, Clears, blockOr0, listWithin, cleared, Did, DidSome, ofKind, SaysTaken, SaysPlaced, SaysOn, SaysLocation, SaysBlockAfter, SaysListAfter};
+ghost use Rattle.lists.specs.promises.Tables.{tablesIn, nextOf, prevOf, ownerOf, listNode, withNext, withPrev, withOwner, withLocation, linkNodes, placeNode, insertNode, insertBefore, cutNode, freeNode, IsFirst, Drops, Clears, blockOr0, listWithin, cleared, Did, DidSome, ofKind, SaysTaken, SaysPlaced, SaysOn, SaysLocation, SaysBlockAfter, SaysListAfter};
 
 const START: u8 = 0;
+
+const FREE: u8 = 254;
 
 const END: u8 = 255;
 
@@ -109,25 +113,55 @@ fn link(nodes: &mut [u8; 1280], x: u8, y: u8)
     set_prev(nodes, y, x);
 }
 
-// The tables of the state with no list: every node is free, and the end follows the start. What they held does not matter.
+// The tables of the empty state, in one copy. What they held does not matter.
 pub fn clear(nodes: &mut [u8; 1280])
     ensures { λ r. ⌜ tablesIn (now (nodes .exit)) ≡ cleared ⌝ }
 {
-    *nodes = [0u8; 1280];
-    link(nodes, START, END);
+    *nodes = FIRST;
 }
 
-// Node n of a list goes in behind node x.
-fn insert(nodes: &mut [u8; 1280], x: u8, n: u8, list: u8)
-    ensures { λ r. ⌜ tablesIn (now (nodes .exit)) ≡ insertNode x n list (tablesIn (now (nodes .entry))) ⌝ }
+// Node n leaves the chain: the one before it leads to the one behind it.
+fn cut(nodes: &mut [u8; 1280], n: u8)
+    ensures { λ r. ⌜ tablesIn (now (nodes .exit)) ≡ cutNode n (tablesIn (now (nodes .entry))) ⌝ }
 {
-    let y = next_of(nodes, x);
+    let x = prev_of(nodes, n);
+    let y = next_of(nodes, n);
+    link(nodes, x, y);
+}
+
+// Node n stands between nodes x and y, and is of a list, or free.
+fn place(nodes: &mut [u8; 1280], x: u8, n: u8, y: u8, list: u8)
+    ensures { λ r. ⌜ tablesIn (now (nodes .exit)) ≡ placeNode x n y list (tablesIn (now (nodes .entry))) ⌝ }
+{
     link(nodes, x, n);
     link(nodes, n, y);
     set_owner(nodes, n, list);
 }
 
-// The list's node goes behind the last one.
+// It goes in behind node x, or before node y.
+fn insert(nodes: &mut [u8; 1280], x: u8, n: u8, list: u8)
+    ensures { λ r. ⌜ tablesIn (now (nodes .exit)) ≡ insertNode x n list (tablesIn (now (nodes .entry))) ⌝ }
+{
+    let behind = next_of(nodes, x);
+    place(nodes, x, n, behind, list);
+}
+
+fn insert_before(nodes: &mut [u8; 1280], y: u8, n: u8, list: u8)
+    ensures { λ r. ⌜ tablesIn (now (nodes .exit)) ≡ insertBefore y n list (tablesIn (now (nodes .entry))) ⌝ }
+{
+    let before = prev_of(nodes, y);
+    place(nodes, before, n, y, list);
+}
+
+// Node x goes behind the last free one.
+fn free(nodes: &mut [u8; 1280], x: u8)
+    ensures { λ r. ⌜ tablesIn (now (nodes .exit)) ≡ freeNode x (tablesIn (now (nodes .entry))) ⌝ }
+{
+    cut(nodes, x);
+    insert_before(nodes, END, x, 0);
+}
+
+// The list's node leaves the free ones and goes behind the last list.
 fn take(nodes: &mut [u8; 1280], list: u8) -> bool
     ensures { λ r. ⌜ Did (takeList list) (tablesIn (now (nodes .entry))) r (tablesIn (now (nodes .exit))) ⌝ }
 {
@@ -135,12 +169,12 @@ fn take(nodes: &mut [u8; 1280], list: u8) -> bool
     if owner_of(nodes, n) != 0 {
         return false;
     }
-    let last = prev_of(nodes, END);
-    insert(nodes, last, n, list);
+    cut(nodes, n);
+    insert_before(nodes, FREE, n, list);
     true
 }
 
-// The block goes behind node x, which is to be a node of the list: its own, or a block's.
+// The block leaves the free ones and goes behind node x, which is to be a node of the list: its own, or a block's.
 fn put(nodes: &mut [u8; 1280], block: u8, list: u8, x: u8) -> bool
     ensures { λ r. ⌜ Did (putAfter block list x) (tablesIn (now (nodes .entry))) r (tablesIn (now (nodes .exit))) ⌝ }
 {
@@ -150,6 +184,7 @@ fn put(nodes: &mut [u8; 1280], block: u8, list: u8, x: u8) -> bool
     if owner_of(nodes, x) != list {
         return false;
     }
+    cut(nodes, block);
     insert(nodes, x, block, list);
     set_location(nodes, block, UNWRITTEN);
     true
@@ -165,47 +200,43 @@ fn write_block(nodes: &mut [u8; 1280], block: u8, location: u16) -> bool
     true
 }
 
-// Node n goes: the one before it leads to the one behind it.
-fn cut(nodes: &mut [u8; 1280], n: u8)
-    ensures { λ r. ⌜ tablesIn (now (nodes .exit)) ≡ cutNode n (tablesIn (now (nodes .entry))) ⌝ }
-{
-    let x = prev_of(nodes, n);
-    let y = next_of(nodes, n);
-    link(nodes, x, y);
-    set_owner(nodes, n, 0);
-}
-
 fn delete_block(nodes: &mut [u8; 1280], block: u8) -> bool
     ensures { λ r. ⌜ Did (delBlock block) (tablesIn (now (nodes .entry))) r (tablesIn (now (nodes .exit))) ⌝ }
 {
     if owner_of(nodes, block) == 0 {
         return false;
     }
-    cut(nodes, block);
+    free(nodes, block);
     true
 }
 
-// One step of a list deletion: the list's first block goes. The node before it is the list's own, n, so none is searched for. The node that follows n
-// then is returned.
-fn drop_first(nodes: &mut [u8; 1280], n: u8, first: u8) -> u8
+// One step of a list deletion: the list's first block goes behind the last free node. The node before it is the list's own, n, so none is searched for.
+// The node that follows n then is returned.
+fn drop_first(nodes: &mut [u8; 1280], n: u8, first: u8, last: u8) -> u8
     requires { ⌜ IsFirst n first (tablesIn (now nodes)) ⌝ }
-    ensures { λ r. ⌜ Drops n (tablesIn (now (nodes .entry))) r (tablesIn (now (nodes .exit))) ⌝ }
+    ensures { λ r. ⌜ Drops n last (tablesIn (now (nodes .entry))) r (tablesIn (now (nodes .exit))) ⌝ }
 {
     let second = next_of(nodes, first);
+    link(nodes, last, first);
+    link(nodes, first, END);
     link(nodes, n, second);
     set_owner(nodes, first, 0);
     second
 }
 
-// The blocks of the list whose node is n go, a step for each.
+// The blocks of the list whose node is n go, a step for each. The block of a step is the last free node in the next one: to read that anew would wait for
+// the store before it.
 fn drop_all(nodes: &mut [u8; 1280], n: u8, list: u8)
     requires { ⌜ (1 ≤ list) × (ownerOf (tablesIn (now nodes)) n ≡ list) ⌝ }
     ensures { λ r. ⌜ Clears n list (tablesIn (now (nodes .entry))) (tablesIn (now (nodes .exit))) ⌝ }
 {
     let mut first = next_of(nodes, n);
+    let mut last = prev_of(nodes, END);
     let mut of = owner_of(nodes, first);
     while of == list {
-        first = drop_first(nodes, n, first);
+        let second = drop_first(nodes, n, first, last);
+        last = first;
+        first = second;
         of = owner_of(nodes, first);
     }
 }
@@ -220,7 +251,7 @@ fn delete_list(nodes: &mut [u8; 1280], list: u8) -> bool
         return false;
     }
     drop_all(nodes, n, l);
-    cut(nodes, n);
+    free(nodes, n);
     true
 }
 
@@ -296,7 +327,7 @@ pub fn block_after(nodes: &[u8; 1280], list: u8, predecessor: u8) -> u8
     }
 }
 
-// The list that follows node x, 0 if none does. Its blocks are passed over.
+// The list that follows node x, 0 if none does. Blocks are passed over, and FREE stands behind the last list.
 fn list_behind(nodes: &[u8; 1280], x: u8) -> u8
     ensures { λ r. ⌜ r ≡ listWithin 256 (tablesIn (now (nodes .entry)) .next) x ⌝ }
 {
@@ -304,7 +335,7 @@ fn list_behind(nodes: &[u8; 1280], x: u8) -> u8
     let mut i = 0usize;
     while i < 256 {
         n = next_of(nodes, n);
-        if n == END {
+        if n == FREE {
             return 0;
         }
         if BLOCKS < n {

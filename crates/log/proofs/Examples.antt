@@ -1,13 +1,16 @@
 -- Small logs and places, computed. Each comes out otherwise under a wrong definition that lies near at hand; tests/wrong-definitions tries those.
 use mathlib.Core.Path.{_≡_, refl, sym, ap}
-use mathlib.Core.Bool.{true≢false}
+use mathlib.Core.Bool.{not, true≢false}
 use mathlib.Core.Option.{none, some, Option·some-injective}
 use mathlib.Core.List.{List, [], _∷_, _++_}
 use Prim.Native.Nat.{ℕ}
 use native.Mathlib.Omega.{arith}
+use lib.Dec.{eqb}
 use lib.ListN.{replicate}
+use Rattle.lists.specs.Basic.{any, keep, from}
+use Rattle.lists.specs.Numbers.{allNumbers}
 use Rattle.lists.specs.Change.{takeList, putFirst, write, delBlock, mapChange, carriedBy}
-use Rattle.lists.specs.State.{state, row, block, taken, placed, applies, changed, apply, applyAll}
+use Rattle.lists.specs.State.{state, row, block, taken, placed, applies, changed, frees, freeAfter, apply, applyAll}
 use Rattle.log.specs.Raced.{raced}
 use Rattle.log.specs.Entry.{plain, member, commit, mapEntry, carried, raceBit, raceByte, changeBytes, encode, raw, entryLength, legalChange, legal, changeOf, checked, entryOf, decode}
 use Rattle.log.specs.Reader.{reader, start, settled, lastOf, read, replay}
@@ -65,11 +68,15 @@ pub take-17-refused : decode (130 ∷ 17 ∷ []) ≡ none
 unfolding legalChange legal changeOf checked entryOf decode
 take-17-refused = refl
 
+-- the numbers but these, ascending: what is free where none was freed
+abbrev pub allBut : List ℕ → List ℕ
+allBut ns = keep (λ n. not (any (λ m. eqb m n) ns)) allNumbers
+
 -- it acts at its commit alone, and is dead without one
 pub take-dead :
     replay {D = ℕ} start (member (takeList 1) ∷ plain (takeList 2) ∷ member (takeList 3) ∷ member (putFirst 1 3) ∷ commit 2 ∷ member (takeList 4) ∷ [])
-    ≡ some (reader (takeList 4 ∷ []) (state (row 2 [] ∷ row 3 (block 1 none ∷ []) ∷ [])))
-unfolding taken placed applies changed apply applyAll lastOf read replay
+    ≡ some (reader (takeList 4 ∷ []) (state (row 2 [] ∷ row 3 (block 1 none ∷ []) ∷ []) (allBut (1 ∷ 66 ∷ 67 ∷ []))))
+unfolding allNumbers from taken placed applies changed frees freeAfter apply applyAll lastOf read replay
 take-dead = refl
 
 -- On an empty card the count of the first entry is not in turn, nor is a second entry; and with an entry in segment 1 the count of segment 0 is not
@@ -88,21 +95,21 @@ front-not-first t = let q : _≡_ {A = ℕ} 1 0 = t .behind 1 (omega arith) (ome
 
 -- "a commit, which takes the last so many members standing directly before it, [..]; earlier members of that run are dead"
 pub dead-members-stay-dead :
-    replay {D = ℕ} start (plain (takeList 1) ∷ member (putFirst 1 1) ∷ member (putFirst 2 1) ∷ commit 1 ∷ []) ≡ some (settled (state (row 1 (block 2 none ∷ []) ∷ [])))
-unfolding taken placed applies changed apply applyAll lastOf read replay
+    replay {D = ℕ} start (plain (takeList 1) ∷ member (putFirst 1 1) ∷ member (putFirst 2 1) ∷ commit 1 ∷ []) ≡ some (settled (state (row 1 (block 2 none ∷ []) ∷ []) (allBut (2 ∷ 65 ∷ []))))
+unfolding allNumbers from taken placed applies changed frees freeAfter apply applyAll lastOf read replay
 dead-members-stay-dead = refl
 
 -- a run goes on into the next segment
 pub run-crosses-segments :
-    walk {D = ℕ} start (good 0 0 (plain (takeList 1)) ∷ good 0 1 (member (putFirst 1 1)) ∷ good 1 0 (commit 1) ∷ []) ≡ sound (settled (state (row 1 (block 1 none ∷ []) ∷ [])))
-unfolding taken placed applies changed apply applyAll lastOf read walk
+    walk {D = ℕ} start (good 0 0 (plain (takeList 1)) ∷ good 0 1 (member (putFirst 1 1)) ∷ good 1 0 (commit 1) ∷ []) ≡ sound (settled (state (row 1 (block 1 none ∷ []) ∷ []) (allBut (1 ∷ 65 ∷ []))))
+unfolding allNumbers from taken placed applies changed frees freeAfter apply applyAll lastOf read walk
 run-crosses-segments = refl
 
 -- a block is "written since its present put", or not
 pub put-again-unwritten :
     replay {D = ℕ} start (plain (takeList 1) ∷ plain (putFirst 1 1) ∷ plain (write 1 9) ∷ plain (delBlock 1) ∷ plain (putFirst 1 1) ∷ plain (putFirst 2 1) ∷ plain (write 2 9) ∷ [])
-    ≡ some (settled (state (row 1 (block 2 (some 9) ∷ block 1 none ∷ []) ∷ [])))
-unfolding taken placed applies changed apply read replay
+    ≡ some (settled (state (row 1 (block 2 (some 9) ∷ block 1 none ∷ []) ∷ []) (allBut (1 ∷ 2 ∷ 65 ∷ []))))
+unfolding allNumbers from taken placed applies changed frees freeAfter apply read replay
 put-again-unwritten = refl
 
 -- "the log never uses a slot again": a dead member's is not the next one

@@ -15,7 +15,7 @@ use borrow.Author.Tests.{le-leb, lt-leb, leb-true}
 use Rattle.lists.specs.Basic.{bind}
 use Rattle.lists.specs.Change.{Change, takeList, putFirst, putAfter, write, delBlock, delList, mapChange}
 use Rattle.lists.specs.State.{State, apply, applyAll}
-use Rattle.lists.specs.promises.Tables.{Tables, Shows, Ranged, Represents, Did, DidSome, ofKind}
+use Rattle.lists.specs.promises.Tables.{Tables, ShowsAll, Ranged, Represents, Did, DidSome, ofKind}
 use Rattle.lists.proofs.Basic.{and-true}
 use Rattle.lists.proofs.Naturality.{change-comp}
 use Rattle.lists.proofs.Represents.{did-apply}
@@ -136,7 +136,7 @@ abbrev pub ended : Memory → Tables → Memory
 ended m u = record { tables = u; members = m .members }
 
 module _ (m : Memory) (run : ℕ) (r : Reader ℕ) (k : Keeps m run r) where
-  kept-settled : (u : Tables) (s : State ℕ) → Shows u (s .lists) → Keeps (ended m u) 0 (settled s)
+  kept-settled : (u : Tables) (s : State ℕ) → ShowsAll u s → Keeps (ended m u) 0 (settled s)
   kept-settled u s h = record {
     shows = h;
     recalls = record { bytes = k .recalls .bytes; size = refl; each = λ j lo hi. absurd (omega arith) };
@@ -173,11 +173,11 @@ module _ (m : Memory) (run : ℕ) (r : Reader ℕ) (k : Keeps m run r) where
 -- A commit's members act, one by one: those from number j on are to come.
 module _ (cs : List (Change ℕ)) (j : ℕ) (s : State ℕ) (t : Tables) where
   pub turn-made : j < length cs → Represents (apply (getD cs j (takeList 0)) s) true t
-      → (q : State ℕ) × Shows t (q .lists) × (applyAll (drop (j + 1) cs) q ≡ applyAll (drop j cs) s)
+      → (q : State ℕ) × ShowsAll t q × (applyAll (drop (j + 1) cs) q ≡ applyAll (drop j cs) s)
   unfolding applyAll
   turn-made h = rw (add-one j, drop-cons cs j (takeList 0) h) (go (apply (getD cs j (takeList 0)) s))
     where
-      go : (o : Option (State ℕ)) → Represents o true t → (q : State ℕ) × Shows t (q .lists) × (applyAll (drop (suc j) cs) q ≡ bind o (λ u. applyAll (drop (suc j) cs) u))
+      go : (o : Option (State ℕ)) → Represents o true t → (q : State ℕ) × ShowsAll t q × (applyAll (drop (suc j) cs) q ≡ bind o (λ u. applyAll (drop (suc j) cs) u))
       go none a = absurd (true≢false a)
       go (some q) a = (q, a .1, refl)
 
@@ -189,7 +189,7 @@ module _ (cs : List (Change ℕ)) (j : ℕ) (s : State ℕ) (t : Tables) where
       go none a = refl
       go (some q) a = absurd (false≢true (a .0))
 
-  pub all-made : (o : Option (State ℕ)) → length cs ≤ j → Shows t (s .lists) → applyAll (drop j cs) s ≡ o → Represents o true t
+  pub all-made : (o : Option (State ℕ)) → length cs ≤ j → ShowsAll t s → applyAll (drop j cs) s ≡ o → Represents o true t
   unfolding applyAll
   all-made o h w e = subst (λ (x : Option (State ℕ)). Represents x true t) (rw (drop-of-length-le cs h) at e) (refl, w)
 

@@ -10,7 +10,8 @@ use native.Mathlib.Numerals.{add-one}
 use lib.Dec.{leb, eqb}
 use lib.ListN.{length, getD}
 use borrow.Author.Tests.{leb-true, lt-ltb, le-ltb, ne-eqb}
-use Rattle.lists.specs.promises.Tables.{Shows}
+use Rattle.lists.specs.State.{empty}
+use Rattle.lists.specs.promises.Tables.{ShowsAll}
 use Rattle.lists.proofs.Basic.{eqb-same, and-true}
 use Rattle.log.specs.Raced.{Raced, raced}
 use Rattle.log.specs.Entry.{Entry, mapEntry, entryLength}
@@ -121,7 +122,7 @@ pub card-small : (c : List ℕ) → cardLength c ≡ true → (length c ≡ 4096
 unfolding cardLength
 card-small c h = (card-size c h .0, leb-true (segmentsIn c) 64 (and-true (eqb (length c % 4096) 0 && leb 1 (segmentsIn c)) (leb (segmentsIn c) 64) h .1))
 
-pub upto-start : (c : List ℕ) (m : Memory) → Shows (m .tables) [] → length (m .members) ≡ 128 → Upto c (segmentsIn c) 0 0 (opened 0) m
+pub upto-start : (c : List ℕ) (m : Memory) → ShowsAll (m .tables) empty → length (m .members) ≡ 128 → Upto c (segmentsIn c) 0 0 (opened 0) m
 unfolding walkCard tail opened cardWritten
 upto-start c m h a = record {
   seated = refl;

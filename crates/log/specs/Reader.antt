@@ -6,7 +6,7 @@ use lib.Dec.{leb}
 use lib.ListN.{length, drop}
 use Rattle.lists.specs.Basic.{guard, bind}
 use Rattle.lists.specs.Change.{Change}
-use Rattle.lists.specs.State.{State, state, apply, applyAll}
+use Rattle.lists.specs.State.{State, empty, apply, applyAll}
 use Rattle.log.specs.Entry.{Entry, plain, member, commit}
 
 -- between two entries: the run of members standing directly before, and the state
@@ -21,7 +21,7 @@ abbrev pub settled : {D : Type 0} → State D → Reader D
 settled s = reader [] s
 
 abbrev pub start : {D : Type 0} → Reader D
-start = settled (state [])
+start = settled empty
 
 unfoldable pub lastOf : {A : Type 0} → ℕ → List A → List A
 lastOf n l = drop (length l - n) l

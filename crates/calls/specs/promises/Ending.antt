@@ -8,7 +8,7 @@ use lib.ListN.{length}
 use Rattle.lists.specs.Basic.{isSome, all, from}
 use Rattle.lists.specs.Change.{mapChange}
 use Rattle.lists.specs.State.{State, applyAll}
-use Rattle.lists.specs.promises.Tables.{Tables, Shows}
+use Rattle.lists.specs.promises.Tables.{Tables, ShowsAll}
 use Rattle.log.specs.declared.entry.LogEntry.{LogEntry}
 use Rattle.log.specs.Raced.{withBody}
 use Rattle.log.specs.Card.{slot}
@@ -61,4 +61,4 @@ EndsAs a q j r u Accepted q′ r′ =
 
 -- the tables show the committed state
 abbrev pub Ends : Tables → List ℕ → List ℕ → Record → ℕ → Reply → List ℕ → Record → Type 0
-Ends t q j r u x q′ r′ = (st : State ℕ) → Shows t (st .lists) → EndsAs (isSome (applyAll (journalHere (unitAt r u) u) st)) q j r u x q′ r′
+Ends t q j r u x q′ r′ = (st : State ℕ) → ShowsAll t st → EndsAs (isSome (applyAll (journalHere (unitAt r u) u) st)) q j r u x q′ r′

@@ -8,7 +8,7 @@ use lib.Dec.{leb, eqb}
 use Rattle.lists.specs.Basic.{isSome, orElse}
 use Rattle.lists.specs.InUse.{listNumber}
 use Rattle.lists.specs.State.{Row, State, taken, placed, onList, overlay}
-use Rattle.lists.specs.promises.Tables.{Tables, Shows}
+use Rattle.lists.specs.promises.Tables.{Tables, Shows, ShowsAll}
 use Rattle.log.specs.declared.entry.LogEntry.{LogEntry}
 use Rattle.log.specs.declared.entry.LogEntry.the-variants.{Take, PutFirst, PutAfter}
 use Rattle.log.specs.Entry.{isList}
@@ -64,7 +64,7 @@ abbrev pub viewHere : Record → ℕ → State ℕ → State ℕ
 viewHere r s st = cond (eqb s 0) st (overlay (journalHere (unitAt r s) s) st)
 
 abbrev pub Lays : Tables → Record → ℕ → Tables → Type 0
-Lays t r s t′ = (st : State ℕ) → Shows t (st .lists) → Shows t′ (viewHere r s st .lists)
+Lays t r s t′ = (st : State ℕ) → ShowsAll t st → ShowsAll t′ (viewHere r s st)
 
 -- the tables show some lists
 pub record Shown (t : Tables) : Type 0 where
@@ -74,5 +74,5 @@ pub record Shown (t : Tables) : Type 0 where
 -- the tables show the committed state
 abbrev pub PutsFree : Tables → ℕ → ℕ → ℕ → Record → NumberReply → Record → Type 0
 PutsFree t s l p r a r′ =
-    (st : State ℕ) → Shows t (st .lists)
+    (st : State ℕ) → ShowsAll t st
     → (let b = orElse 0 (freeBlockIn r (st .lists)) in Gives (rangedPutQuestions l p b (viewHere r s st .lists)) s l p b r a r′)

@@ -10,7 +10,7 @@ use Rattle.lists.specs.Basic.{isSome, all, each, from}
 use Rattle.lists.specs.Change.{Change}
 use Rattle.lists.specs.State.{Row, State, applyAll, overlay}
 use Rattle.lists.specs.InUse.{numberCount, inUse, brings}
-use Rattle.lists.specs.promises.Tables.{Tables, Shows}
+use Rattle.lists.specs.promises.Tables.{Tables, ShowsAll}
 use Rattle.log.specs.Raced.{Raced}
 use Rattle.log.specs.Entry.{Entry, member, raw, legal, isBlock, isList, asChange}
 use Rattle.log.specs.Cell.{entryIn}
@@ -62,7 +62,7 @@ lawful es = all (λ e. legal (raw 0 e)) es
 -- the queue replayed from reader x: whether its entries are lawful and apply, and what the tables show then
 abbrev pub ReplayTo : Record → Reader ℕ → Bool → Tables → Type 0
 ReplayTo r x false t = lawful (queueSaid r) && isSome (replay x (queueHere r)) ≡ false
-ReplayTo r x true t = (lawful (queueSaid r) ≡ true) × (y : Reader ℕ) × (replay x (queueHere r) ≡ some y) × Shows t (y .state .lists)
+ReplayTo r x true t = (lawful (queueSaid r) ≡ true) × (y : Reader ℕ) × (replay x (queueHere r) ≡ some y) × ShowsAll t (y .state)
 
 -- the queue, from whichever reader the lent tables keep
 abbrev pub Replays : Memory → ℕ → Record → Bool → Tables → Type 0
@@ -86,9 +86,9 @@ Settled c q m run r b = (x : Reader ℕ) → Keeps m run x → b ≡ settledRigh
 -- and if it is yes, the tables show the committed state
 pub record Settles (c q : List ℕ) (m : Memory) (run : ℕ) (r : Record) (b : Bool) (t : Tables) : Type 0 where
   pub answer : Settled c q m run r b
-  pub shows : (x y : Reader ℕ) → Keeps m run x → b ≡ true → replay x (queueHere r) ≡ some y → Shows t (y .state .lists)
+  pub shows : (x y : Reader ℕ) → Keeps m run x → b ≡ true → replay x (queueHere r) ≡ some y → ShowsAll t (y .state)
 
 -- and where unit u's journal is laid over a state: whether every change applies, and what the tables show then
 pub record Overlays (t : Tables) (x : Unit) (u : ℕ) (b : Bool) (t′ : Tables) : Type 0 where
-  pub answer : (s : State ℕ) → Shows t (s .lists) → b ≡ isSome (applyAll (journalHere x u) s)
-  pub shows : (s : State ℕ) → Shows t (s .lists) → Shows t′ (overlay (journalHere x u) s .lists)
+  pub answer : (s : State ℕ) → ShowsAll t s → b ≡ isSome (applyAll (journalHere x u) s)
+  pub shows : (s : State ℕ) → ShowsAll t s → ShowsAll t′ (overlay (journalHere x u) s)

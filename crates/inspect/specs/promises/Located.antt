@@ -6,7 +6,7 @@ use lib.ListN.{getD}
 use Rattle.lists.specs.Basic.{from}
 use Rattle.lists.specs.Change.{Change, mapChange}
 use Rattle.lists.specs.State.{State, mapState}
-use Rattle.lists.specs.promises.Tables.{Tables, Shows}
+use Rattle.lists.specs.promises.Tables.{Tables, ShowsAll}
 use Rattle.log.specs.Raced.{Raced}
 use Rattle.log.specs.Entry.{Entry, mapEntry, asEntry, asChange}
 use Rattle.log.specs.Cell.{memberIn, entryIn}
@@ -22,7 +22,7 @@ contents d = contentAt (d .card) (d .queueData) (d .journalData)
 -- the tables show state s of the disk
 pub record Located (d : Disk) (t : Tables) (s : State Written) : Type 0 where
   pub here : State ℕ
-  pub shows : Shows t (here .lists)
+  pub shows : ShowsAll t here
   pub means : s ≡ mapState (contents d) here
 
 -- the queue's entry k as its cell says it, a write's slot as it stands there; and with its number in a table

@@ -1,21 +1,22 @@
--- A state's lists in four tables of 256 numbers, held in one array of bytes: what a change does to them, and which lists they show.
+-- A state in four tables of 256 numbers, held in one array of bytes: what a change does to them, and which state they show.
 --
--- Nodes: block b is node b, list l is node 64 + l; node 0 stands before all others and node 255 behind all.
--- One chain holds everything: each list taken, in the order of their taking, followed by its blocks in order. So a list's node is the predecessor of
--- its first block, and neither end of a list is a special case.
+-- Nodes: number n is node n, so block b is node b and list l is node 64 + l; node 0 stands before all others and node 255 behind all.
+-- One chain holds everything: each list taken, in the order of their taking, followed by its blocks in order; then node 254; then the free numbers, in
+-- the order of their freeing. So a list's node is the predecessor of its first block, no end is a special case, and each change moves nodes.
 use mathlib.Core.Path.{_≡_}
 use mathlib.Core.Logic.{_≢_}
-use mathlib.Core.Bool.{Bool, true, false, _&&_, not, cond}
+use mathlib.Core.Bool.{Bool, true, false, _&&_, _||_, not, cond}
 use mathlib.Core.Option.{Option, none, some}
 use mathlib.Core.List.{List, [], _∷_, _++_}
 use Prim.Native.Nat.{ℕ, zero, suc, _+_, _-_, _*_, _%_, _≤_}
 use lib.Dec.{eqb, leb, ltb}
 use lib.ListN.{length, getD, set, replicate}
 use Rattle.lists.specs.Basic.{from}
+unfoldable pub use Rattle.lists.specs.Basic.{times}
 use Rattle.lists.specs.Change.{Change, takeList, putFirst, putAfter, write, delBlock, delList}
-use Rattle.lists.specs.State.{Block, Row, State}
-use Rattle.lists.specs.Lookup.{blocksOf}
-use Rattle.lists.specs.Clearing.{firstOff, stepsOff}
+use Rattle.lists.specs.Numbers.{numberCount}
+use Rattle.lists.specs.State.{Block, Row, State, blocksOf}
+use Rattle.lists.specs.Clearing.{firstOff, stepsOff, stepsFree}
 
 -- The next node and the one before; the list that a block is on, or that a list's node stands for, 0 for a node that is free; the location of a
 -- block's content, 0 where it was not written.
@@ -73,46 +74,47 @@ withLocation n d t = tables (t .next) (t .prev) (t .owner) (set (t .location) n 
 abbrev pub linkNodes : ℕ → ℕ → Tables → Tables
 linkNodes x y t = withPrev y x (withNext x y t)
 
--- node n of list l goes in behind node x
-unfoldable pub insertNode : ℕ → ℕ → ℕ → Tables → Tables
-insertNode x n l t = withOwner n l (linkNodes n (nextOf t x) (linkNodes x n t))
-
--- what stands between nodes x and y goes, o being the owners then
-unfoldable pub cutNodes : ℕ → ℕ → List ℕ → Tables → Tables
-cutNodes x y o t = tables (set (t .next) x y) (set (t .prev) y x) o (t .location)
-
--- node n goes
+-- node n leaves the chain
 unfoldable pub cutNode : ℕ → Tables → Tables
-cutNode n t = cutNodes (prevOf t n) (nextOf t n) (set (t .owner) n 0) t
+cutNode n t = linkNodes (prevOf t n) (nextOf t n) t
 
--- how often l stands in a list
-unfoldable pub times : ℕ → List ℕ → ℕ
-times l [] = 0
-times l (x ∷ xs) = cond (eqb x l) (suc (times l xs)) (times l xs)
+-- node n stands between nodes x and y, and is of list l; it goes in behind x, or before y
+unfoldable pub placeNode : ℕ → ℕ → ℕ → ℕ → Tables → Tables
+placeNode x n y l t = withOwner n l (linkNodes n y (linkNodes x n t))
 
--- The first block of the list whose node is n goes: "search for no predecessor", which is n.
-unfoldable pub dropFirst : ℕ → Tables → Tables
-dropFirst n t = let b = nextOf t n in cutNodes n (nextOf t b) (set (t .owner) b 0) t
+unfoldable pub insertNode : ℕ → ℕ → ℕ → Tables → Tables
+insertNode x n l t = placeNode x n (nextOf t x) l t
 
--- while a block of list l, whose node is n, follows n, it goes: at most k of them
-unfoldable pub dropUpTo : ℕ → ℕ → ℕ → Tables → Tables
-dropUpTo zero n l t = t
-dropUpTo (suc k) n l t = elim (eqb (ownerOf t (nextOf t n)) l) [ true ↦ dropUpTo k n l (dropFirst n t) | false ↦ t ]
+unfoldable pub insertBefore : ℕ → ℕ → ℕ → Tables → Tables
+insertBefore y n l t = placeNode (prevOf t y) n y l t
+
+-- node n goes behind the last free one
+unfoldable pub freeNode : ℕ → Tables → Tables
+freeNode n t = insertBefore 255 n 0 (cutNode n t)
+
+-- The first block of the list whose node is n goes behind the last free node, which is z: "search for no predecessor", which is n.
+unfoldable pub dropFirst : ℕ → ℕ → Tables → Tables
+dropFirst n z t = let b = nextOf t n in withOwner b 0 (linkNodes n (nextOf t b) (linkNodes b 255 (linkNodes z b t)))
+
+-- while a block of list l, whose node is n, follows n, it goes, and is the last free node then: at most k of them
+unfoldable pub dropUpTo : ℕ → ℕ → ℕ → ℕ → Tables → Tables
+dropUpTo zero n l z t = t
+dropUpTo (suc k) n l z t = elim (eqb (ownerOf t (nextOf t n)) l) [ true ↦ dropUpTo k n l (nextOf t n) (dropFirst n z t) | false ↦ t ]
 
 -- as many as there are nodes of list l, which is more than it has blocks
-unfoldable pub dropAll : ℕ → ℕ → Tables → Tables
-dropAll n l t = dropUpTo (times l (t .owner)) n l t
+unfoldable pub dropAll : ℕ → ℕ → ℕ → Tables → Tables
+dropAll n l z t = dropUpTo (times l (t .owner)) n l z t
 
 -- the tables without the list whose node is n: its blocks go from the first on, then its node
 unfoldable pub cutList : ℕ → Tables → Tables
-cutList n t = cutNode n (dropAll n (ownerOf t n) t)
+cutList n t = freeNode n (dropAll n (ownerOf t n) (prevOf t 255) t)
 
 -- is block b free, and x a node of list l?
 unfoldable pub putFits : ℕ → ℕ → ℕ → Tables → Bool
 putFits b l x t = eqb (ownerOf t b) 0 && eqb (ownerOf t x) l
 
 unfoldable pub putDone : ℕ → ℕ → ℕ → Tables → Tables
-putDone b l x t = withLocation b 0 (insertNode x b l t)
+putDone b l x t = withLocation b 0 (insertNode x b l (cutNode b t))
 
 -- does the change apply?
 unfoldable pub suits : Change ℕ → Tables → Bool
@@ -125,11 +127,11 @@ suits (delList l) t = not (eqb (ownerOf t (listNode l)) 0)
 
 -- the tables after it
 unfoldable pub done : Change ℕ → Tables → Tables
-done (takeList l) t = insertNode (prevOf t 255) (listNode l) l t
+done (takeList l) t = insertBefore 254 (listNode l) l (cutNode (listNode l) t)
 done (putFirst b l) t = putDone b l (listNode l) t
 done (putAfter b l p) t = putDone b l p t
 done (write b d) t = withLocation b d t
-done (delBlock b) t = cutNode b t
+done (delBlock b) t = freeNode b t
 done (delList l) t = cutList (listNode l) t
 
 -- What a function answers and leaves that is to make a change: whether it applies, and the tables after it, or as they were if it does not.
@@ -152,7 +154,7 @@ abbrev pub DidSome : Option (Change ℕ) → Tables → Bool → Tables → Type
 DidSome none t r u = (r ≡ false) × (u ≡ t)
 DidSome (some c) t r u = Did c t r u
 
--- Which lists tables show.
+-- Which state tables show.
 
 -- n is none of these; no two of these are the same
 abbrev pub Away : ℕ → List ℕ → Type 0
@@ -176,8 +178,19 @@ abbrev pub nodes : List (Row ℕ) → List ℕ
 nodes [] = []
 nodes (r ∷ rs) = (64 + r .num) ∷ (blockNodes (r .blocks) ++ nodes rs)
 
-abbrev pub chain : List (Row ℕ) → List ℕ
-chain rs = nodes rs ++ 255 ∷ []
+-- behind the lists: node 254, the free numbers, node 255
+abbrev pub ends : List ℕ → List ℕ
+ends fs = 254 ∷ (fs ++ 255 ∷ [])
+
+abbrev pub chain : List (Row ℕ) → List ℕ → List ℕ
+chain rs fs = nodes rs ++ ends fs
+
+-- each number, and the nodes 254 and 255, stand in the chain once, and nothing else does
+abbrev pub isNode : ℕ → Bool
+isNode n = (leb 1 n && leb n numberCount) || (eqb n 254 || eqb n 255)
+
+abbrev pub Whole : List ℕ → Type 0
+Whole ns = (n : ℕ) → times n ns ≡ cond (isNode n) 1 0
 
 abbrev pub IsBlock : ℕ → Type 0
 IsBlock b = (1 ≤ b) × (b ≤ 64)
@@ -214,16 +227,28 @@ pub record Sized (t : Tables) : Type 0 where
   pub owner : length (t .owner) ≡ 256
   pub location : length (t .location) ≡ 256
 
-pub record Shows (t : Tables) (rs : List (Row ℕ)) : Type 0 where
+-- these lists, with the free numbers in this order
+pub record ShowsWith (t : Tables) (rs : List (Row ℕ)) (fs : List ℕ) : Type 0 where
   pub sized : Sized t
-  pub apart : Apart (0 ∷ chain rs)
-  pub linked : Linked (t .next) (t .prev) 0 (chain rs)
+  pub whole : Whole (chain rs fs)
+  pub linked : Linked (t .next) (t .prev) 0 (chain rs fs)
   pub has : HasLists (t .owner) (t .location) rs
   pub free : (n : ℕ) → Away n (nodes rs) → ownerOf t n ≡ 0
 
--- what holds of all lists that tables show
+-- these lists, with the free numbers in some order
+pub record Shows (t : Tables) (rs : List (Row ℕ)) : Type 0 where
+  pub order : List ℕ
+  pub shown : ShowsWith t rs order
+
+abbrev pub ShowsAll : Tables → State ℕ → Type 0
+ShowsAll t s = ShowsWith t (s .lists) (s .free)
+
+-- what holds of all lists that tables show, and of all these with their free numbers
 abbrev pub OfShown : Tables → (List (Row ℕ) → Type 0) → Type 0
 OfShown t P = (rs : List (Row ℕ)) → Shows t rs → P rs
+
+abbrev pub OfShownAll : Tables → (List (Row ℕ) → List ℕ → Type 0) → Type 0
+OfShownAll t P = (rs : List (Row ℕ)) (fs : List ℕ) → ShowsWith t rs fs → P rs fs
 
 -- A step of a list deletion.
 
@@ -233,17 +258,19 @@ pub record IsFirst (n b : ℕ) (t : Tables) : Type 0 where
   pub taken : 1 ≤ ownerOf t n
   pub same : ownerOf t b ≡ ownerOf t n
 
--- A function that makes the step: its answer is the node that follows the list's then, and if the tables showed lists, they show them after the step.
-pub record Drops (n : ℕ) (t : Tables) (r : ℕ) (u : Tables) : Type 0 where
+-- A function that makes the step: its answer is the node that follows the list's then. If the tables showed a state and z was the last free node, they
+-- show the state after the step, and the list's block is the last free node.
+pub record Drops (n z : ℕ) (t : Tables) (r : ℕ) (u : Tables) : Type 0 where
   pub answer : r ≡ nextOf u n
-  pub left : u ≡ dropFirst n t
-  pub shows : (l : ℕ) → IsList l → n ≡ listNode l → OfShown t (λ rs. Shows u (firstOff l rs))
+  pub left : u ≡ dropFirst n z t
+  pub shows : (l : ℕ) → IsList l → n ≡ listNode l → z ≡ prevOf t 255
+      → OfShownAll t (λ rs fs. ShowsWith u (firstOff l rs) (stepsFree 1 l rs fs) × (nextOf t n ≡ prevOf u 255))
 
--- A function that makes all steps of list l, whose node is n: as many as the list has blocks, and the tables show the lists after them.
+-- A function that makes all steps of list l, whose node is n: as many as the list has blocks, and the tables show the state after them.
 pub record Clears (n l : ℕ) (t u : Tables) : Type 0 where
-  pub left : u ≡ dropAll n l t
+  pub left : u ≡ dropAll n l (prevOf t 255) t
   pub steps : ℕ
-  pub shows : IsList l → n ≡ listNode l → OfShown t (λ rs. (steps ≡ length (blocksOf rs l)) × Shows u (stepsOff steps l rs))
+  pub shows : IsList l → n ≡ listNode l → OfShownAll t (λ rs fs. (steps ≡ length (blocksOf rs l)) × ShowsWith u (stepsOff steps l rs) (stepsFree steps l rs fs))
 
 -- numbers in range, and a write that says where: only of such changes the tables speak as the state does
 abbrev pub Ranged : Change ℕ → Type 0
@@ -257,11 +284,17 @@ Ranged (delList l) = IsList l
 -- what an answer and the tables left say of changes made in a state: refused, or the tables show the state after them
 abbrev pub Represents : Option (State ℕ) → Bool → Tables → Type 0
 Represents none r u = r ≡ false
-Represents (some s) r u = (r ≡ true) × Shows u (s .lists)
+Represents (some s) r u = (r ≡ true) × ShowsAll u s
 
--- the tables of the state with no list: every node is free, and the end follows the start
+-- the tables of the empty state: no list, and behind node 254 all numbers, ascending
+unfoldable pub firstNext : ℕ → ℕ
+firstNext n = cond (eqb n 0) 254 (cond (eqb n 254) 1 (cond (ltb n numberCount) (suc n) (cond (eqb n numberCount) 255 0)))
+
+unfoldable pub firstPrev : ℕ → ℕ
+firstPrev n = cond (eqb n 1) 254 (cond (leb n numberCount) (n - 1) (cond (eqb n 255) numberCount 0))
+
 unfoldable pub cleared : Tables
-cleared = linkNodes 0 255 (tables (replicate 256 0) (replicate 256 0) (replicate 256 0) (replicate 256 0))
+cleared = tables (from firstNext 0 256) (from firstPrev 0 256) (replicate 256 0) (replicate 256 0)
 
 -- Looking up.
 
@@ -269,12 +302,12 @@ cleared = linkNodes 0 255 (tables (replicate 256 0) (replicate 256 0) (replicate
 abbrev pub blockOr0 : ℕ → ℕ
 blockOr0 n = cond (leb n 64) n 0
 
--- the list whose node is the first behind node n that is no block's, at most k nodes on; 0 if there is none
+-- the list whose node is the first behind node n that is no block's, at most k nodes on; 0 if node 254 comes first, or none
 unfoldable pub listWithin : ℕ → List ℕ → ℕ → ℕ
 listWithin zero nx n = 0
 listWithin (suc k) nx n =
     let m = getD nx n 0 in
-    elim (eqb m 255) [ true ↦ 0 | false ↦ elim (ltb 64 m) [ true ↦ m - 64 | false ↦ listWithin k nx m ] ]
+    elim (eqb m 254) [ true ↦ 0 | false ↦ elim (ltb 64 m) [ true ↦ m - 64 | false ↦ listWithin k nx m ] ]
 
 -- the node behind which the block after p on list l stands, and the one behind which the list after l does; 0 is before the first
 abbrev pub behindNode : ℕ → ℕ → ℕ

@@ -8,7 +8,7 @@ use Prim.Native.Nat.{ℕ, _+_, _*_, _/_, _%_, _≤_, _<_}
 use lib.ListN.{length, getD, set}
 use Rattle.lists.specs.Change.{Change, takeList}
 use Rattle.lists.specs.State.{State, apply}
-use Rattle.lists.specs.promises.Tables.{Tables, tablesIn, Shows, Ranged, Represents, ofKind}
+use Rattle.lists.specs.promises.Tables.{Tables, tablesIn, ShowsAll, Ranged, Represents, ofKind}
 use Rattle.log.specs.Entry.{commit, mapEntry, raw, legal, asEntry}
 use Rattle.log.specs.promises.Location.{numberAt}
 use Rattle.log.specs.Reader.{Reader, read}
@@ -50,7 +50,7 @@ pub record Recalls (ms : List ℕ) (run : ℕ) (cs : List (Change ℕ)) : Type 0
 
 -- the tables show the reader's state and recall its run, which has so many members
 pub record Keeps (m : Memory) (run : ℕ) (r : Reader ℕ) : Type 0 where
-  pub shows : Shows (m .tables) (r .state .lists)
+  pub shows : ShowsAll (m .tables) (r .state)
   pub recalls : Recalls (m .members) run (r .run)
 
 -- an entry read: refused, or the tables keep the reader after it
@@ -62,7 +62,7 @@ ReadTo o true m run = (q : Reader ℕ) × (o ≡ some q) × Keeps m run q
 
 -- member j of the run acts
 abbrev pub ActsMember : Memory → ℕ → Bool → Tables → Type 0
-ActsMember m j b u = (c : Change ℕ) (s : State ℕ) → Recalled (m .members) j c → Shows (m .tables) (s .lists) → Represents (apply c s) b u
+ActsMember m j b u = (c : Change ℕ) (s : State ℕ) → Recalled (m .members) j c → ShowsAll (m .tables) s → Represents (apply c s) b u
 
 abbrev pub Commits : Memory → ℕ → ℕ → Bool → Memory → Type 0
 Commits m run n b m′ = (r : Reader ℕ) → Keeps m run r → n ≤ 15 → ReadTo (read r (commit n)) b m′ 0

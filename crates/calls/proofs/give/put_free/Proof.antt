@@ -1,4 +1,5 @@
 -- The number is of the committed state that the tables show; the journal laid over it shows the view. Assumes nothing.
+use Rattle.lists.proofs.Lookup.{lists-shown}
 use Rattle.calls.proofs.Giving.{free-block-limit}
 use Rattle.calls.specs.promises.Giving.{viewHere}
 use Rattle.calls.proofs.Putting.{puts-number}
@@ -24,7 +25,7 @@ returns c st sh =
     let f = c .before .before .before .before .before .before .free-block in
     let r = recordIn (a .rec .now) in
     puts-number (viewHere r (a .s) st .lists) (a .s) (a .l) (a .p) (f .result) _ r (c .put-ranged .result) (recordIn (c .put-ranged .last .1 .0))
-    (f .ensures (st .lists) sh) (c .put-ranged .ensures (viewHere r (a .s) st .lists) (c .before .before .before .lay-stream .ensures st sh))
+    (f .ensures (st .lists) (lists-shown _ st sh)) (c .put-ranged .ensures (viewHere r (a .s) st .lists) (lists-shown _ (viewHere r (a .s) st) (c .before .before .before .lay-stream .ensures st sh)))
 
 pub put-free-spec : {M : Type 1} → statement M
 put-free-spec =

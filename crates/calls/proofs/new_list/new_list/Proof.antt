@@ -1,4 +1,5 @@
 -- Questions 1, 3 and 4 are those of `enter`; behind them the tables show the committed state. Assumes nothing.
+use Rattle.lists.proofs.Lookup.{lists-shown}
 use Rattle.disk.specs.Record.{recordIn}
 use Rattle.disk.specs.Disk.{diskIn}
 use Rattle.disk.specs.Call.{newList}
@@ -37,7 +38,7 @@ returns-2 c =
     let a = c .before .before .before .before .before .before .before .before .before .before .before .args in
     let d = diskIn (a .card .now) (a .queue-data .now) (a .journal-data .now) (a .rec .now) in
     let k = rw (c .before .before .before .enum-told .given .1) at (c .before .before .before .before .before .enter .ensures) in
-    takes-performs (a .stream) d _ k (c .take-list .result) (recordIn (c .take-list .last .1 .0)) (c .take-list .ensures (k .located .here .lists) (k .located .shows))
+    takes-performs (a .stream) d _ k (c .take-list .result) (recordIn (c .take-list .last .1 .0)) (c .take-list .ensures (k .located .here .lists) (lists-shown _ (k .located .here) (k .located .shows)))
 
 pub new-list-spec : {M : Type 1} → statement M
 new-list-spec =

@@ -6,7 +6,7 @@ use Prim.Native.Nat.{ℕ, _+_, _-_, _*_, _≤_}
 use native.Mathlib.Omega.{arith}
 use borrow.Author.Tests.{not-true, not-false}
 use Rattle.lists.specs.State.{State}
-use Rattle.lists.specs.promises.Tables.{Shows, tablesIn}
+use Rattle.lists.specs.promises.Tables.{ShowsAll, tablesIn}
 use Rattle.disk.specs.Record.{recordIn, unitAt}
 use Rattle.inspect.proofs.Overlaying.{Laid, journal-race, laid-none, laid-turn, laid-all}
 use borrow.Author.Needs.{needs}
@@ -16,7 +16,7 @@ use Rattle.inspect.proofs.journal.enter_journal.Tie as tie
 abbrev Inv-loop : tie.InvT-loop
 Inv-loop nodes₀ rec u first every₀ n k₀ nodes every k =
     let x = unitAt (recordIn rec) u in
-    (k ≤ n) × (n ≡ x .len) × ((s : State ℕ) → Shows (tablesIn nodes₀) (s .lists) → Laid x u s every k (tablesIn nodes))
+    (k ≤ n) × (n ≡ x .len) × ((s : State ℕ) → ShowsAll (tablesIn nodes₀) s → Laid x u s every k (tablesIn nodes))
 
 abbrev μ-loop : tie.MeasureT-loop
 μ-loop nodes₀ rec u first every₀ n k₀ nodes every k = n - k

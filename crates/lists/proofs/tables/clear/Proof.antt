@@ -1,17 +1,13 @@
--- All bytes 0, and the two ends linked. Assumes nothing.
-use mathlib.Core.Path.{_∙_, ap}
-use Rattle.lists.specs.promises.Tables.{Tables, linkNodes, cleared}
-use Rattle.lists.proofs.Bytes.{tables-zeros}
-use borrow.Author.Needs.{needs}
+-- The bytes stored are those of the empty state. Assumes nothing.
+use mathlib.Core.Path.{refl}
+use Rattle.lists.specs.Basic.{from}
+use Rattle.lists.specs.promises.Tables.{tablesIn, column, locationsIn, firstNext, firstPrev, cleared}
 use Rattle.lists.proofs.tables.clear.Statement.{statement}
 use Rattle.lists.proofs.tables.clear.Tie as tie
 
-link-requires : tie.Need-link-requires
-link-requires c κs = search needs
-
 returns : tie.Need-returns
-unfolding cleared
-returns c = c .link .ensures ∙ ap (λ (t : Tables). linkNodes 0 255 t) tables-zeros
+unfolding tablesIn column locationsIn from cleared firstNext firstPrev
+returns c = refl
 
 pub clear-spec : {M : Type 1} → statement M
-clear-spec = tie.close (tie.spec link-requires returns)
+clear-spec = tie.close (tie.spec returns)

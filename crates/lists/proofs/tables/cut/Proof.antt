@@ -1,5 +1,5 @@
 -- The node before it and the one behind it, each leading to the other. Assumes nothing.
-use Rattle.lists.specs.promises.Tables.{cutNodes, cutNode}
+use Rattle.lists.specs.promises.Tables.{cutNode}
 use borrow.Author.Needs.{needs}
 use Rattle.lists.proofs.tables.cut.Statement.{statement}
 use Rattle.lists.proofs.tables.cut.Tie as tie
@@ -13,13 +13,10 @@ next-of-requires c κs = search needs
 link-requires : tie.Need-link-requires
 link-requires c κs = search needs
 
-set-owner-requires : tie.Need-set-owner-requires
-set-owner-requires c κs = search needs
-
 returns : tie.Need-returns
-unfolding cutNode cutNodes
-returns c = rw (c .set-owner .ensures, c .before .before .link .ensures, c .before .before .before .before .before .before .prev-of .ensures, c .before .before .before .before .next-of .ensures)
+unfolding cutNode
+returns c = rw (c .link .ensures, c .before .before .before .before .prev-of .ensures, c .before .before .next-of .ensures)
 
 pub cut-spec : {M : Type 1} → statement M
 cut-spec =
-    tie.close (tie.spec prev-of-requires next-of-requires link-requires set-owner-requires returns)
+    tie.close (tie.spec prev-of-requires next-of-requires link-requires returns)

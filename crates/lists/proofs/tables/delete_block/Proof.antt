@@ -13,15 +13,15 @@ returns : tie.Need-returns
 unfolding suits
 returns c = did-not _ _ (rw (eq-true _ _ (rw (c .before .owner-of .ensures) at (c .if1 .taken))))
 
-cut-requires : tie.Need-cut-requires
-cut-requires c κs = search needs
+free-requires : tie.Need-free-requires
+free-requires c κs = search needs
 
 returns-2 : tie.Need-returns-2
 unfolding suits done
 returns-2 c =
     did-so _ _ _
     (rw (eqb-false _ _ (rw (c .before .before .before .owner-of .ensures) at (c .before .before .if1 .left))))
-    (c .cut .ensures)
+    (c .free .ensures)
 
 pub delete-block-spec : {M : Type 1} → statement M
-delete-block-spec = tie.close (tie.spec owner-of-requires returns cut-requires returns-2)
+delete-block-spec = tie.close (tie.spec owner-of-requires returns free-requires returns-2)

@@ -19,8 +19,8 @@ returns c = did-not _ _ (rw (eq-true _ _ (rw (c .before .owner-of .ensures, c .b
 drop-all-requires : tie.Need-drop-all-requires
 drop-all-requires c κs = search needs
 
-cut-requires : tie.Need-cut-requires
-cut-requires c κs = search needs
+free-requires : tie.Need-free-requires
+free-requires c κs = search needs
 
 returns-2 : tie.Need-returns-2
 unfolding suits done cutList
@@ -29,7 +29,7 @@ returns-2 c =
     let o = c .before .before .before .before .before .owner-of .ensures in
     did-so _ _ _
     (rw (eqb-false _ _ (rw (o, n) at (c .before .before .before .before .if1 .left))))
-    (rw (c .cut .ensures, c .before .before .drop-all .ensures .left, o, n))
+    (rw (c .free .ensures, c .before .before .drop-all .ensures .left, o, n))
 
 pub delete-list-spec : {M : Type 1} → statement M
 delete-list-spec =
@@ -39,5 +39,5 @@ delete-list-spec =
     owner-of-requires
     returns
     drop-all-requires
-    cut-requires
+    free-requires
     returns-2)

@@ -1,4 +1,4 @@
--- The list's node is free, and goes in behind the last one. Assumes nothing.
+-- The list's node is free, and goes in before node 254, behind the last list. Assumes nothing.
 use Rattle.lists.specs.promises.Tables.{suits, done}
 use Rattle.lists.proofs.Basic.{eqb-false, eq-true}
 use Rattle.lists.proofs.Acting.{did-not, did-so}
@@ -16,17 +16,17 @@ returns : tie.Need-returns
 unfolding suits
 returns c = did-not _ _ (eqb-false _ _ (rw (c .before .owner-of .ensures, c .before .before .before .list-node .ensures) at (c .if1 .taken)))
 
-prev-of-requires : tie.Need-prev-of-requires
-prev-of-requires c κs = search needs
+cut-requires : tie.Need-cut-requires
+cut-requires c κs = search needs
 
-insert-requires : tie.Need-insert-requires
-insert-requires c κs = search needs
+insert-before-requires : tie.Need-insert-before-requires
+insert-before-requires c κs = search needs
 
 returns-2 : tie.Need-returns-2
 unfolding suits done
 returns-2 c =
     let n = c .before .before .before .before .before .before .before .list-node .ensures in
-    did-so _ _ _ (eq-true _ _ (rw (c .before .before .before .before .before .owner-of .ensures, n) at (c .before .before .before .before .if1 .left))) (rw (c .before .before .prev-of .ensures, n) at (c .insert .ensures))
+    did-so _ _ _ (eq-true _ _ (rw (c .before .before .before .before .before .owner-of .ensures, n) at (c .before .before .before .before .if1 .left))) (rw (c .before .before .cut .ensures, n) at (c .insert-before .ensures))
 
 pub take-spec : {M : Type 1} → statement M
 take-spec =
@@ -35,6 +35,6 @@ take-spec =
     list-node-requires
     owner-of-requires
     returns
-    prev-of-requires
-    insert-requires
+    cut-requires
+    insert-before-requires
     returns-2)

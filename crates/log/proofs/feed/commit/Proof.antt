@@ -9,7 +9,7 @@ use lib.ListN.{drop, getD}
 use borrow.Author.Tests.{not-true, not-false}
 use Rattle.lists.specs.Change.{Change, takeList}
 use Rattle.lists.specs.State.{State, apply, applyAll}
-use Rattle.lists.specs.promises.Tables.{tablesIn, Shows, Represents}
+use Rattle.lists.specs.promises.Tables.{tablesIn, ShowsAll, Represents}
 use Rattle.log.specs.Reader.{Reader, lastOf}
 use Rattle.log.specs.promises.Feed.{memory, Keeps}
 use Rattle.log.proofs.Feeding.{read-short, read-commit, last-from, turn-made, turn-refused, all-made, none-refused}
@@ -21,7 +21,7 @@ abbrev Inv-loop : tie.InvT-loop
 Inv-loop nodes₀ members run n j₀ nodes j =
     (n ≤ run) × (run - n ≤ j) × (j ≤ run)
     × ((r : Reader ℕ) → Keeps (memory nodes₀ members) run r → n ≤ 15
-    → (s : State ℕ) × Shows (tablesIn nodes) (s .lists) × (applyAll (drop j (r .run)) s ≡ applyAll (lastOf n (r .run)) (r .state)))
+    → (s : State ℕ) × ShowsAll (tablesIn nodes) s × (applyAll (drop j (r .run)) s ≡ applyAll (lastOf n (r .run)) (r .state)))
 
 abbrev μ-loop : tie.MeasureT-loop
 μ-loop nodes₀ members run n j₀ nodes j = run - j

@@ -5,8 +5,9 @@ use mathlib.Core.List.{[]}
 use Prim.Native.Nat.{_-_, _*_, _≤_}
 use native.Mathlib.Omega.{arith}
 use lib.ListN.{length}
-use Rattle.lists.specs.promises.Tables.{Tables, Shows}
-use Rattle.lists.proofs.Represents.{shows-emptied}
+use Rattle.lists.specs.State.{empty}
+use Rattle.lists.specs.promises.Tables.{Tables, ShowsAll}
+use Rattle.lists.proofs.Emptied.{shows-emptied}
 use Rattle.log.specs.Card.{segmentsIn, count}
 use Rattle.log.specs.promises.Feed.{memory}
 use Rattle.log.proofs.Walking.{Upto, card-small, upto-start, upto-end, upto-empty, upto-used, upto-broken, upto-more}
@@ -31,7 +32,7 @@ loop-holds : tie.Need-loop-holds Inv-loop μ-loop
 loop-holds c =
     let s = c .before .before .before .before .before .args in
     let (a, b) = card-small (s .card .now) (c .before .before .before .before .before .pre) in
-    (omega arith, b, a, omega arith, rw (c .opened .ensures) (upto-start (s .card .now) _ (subst (λ (t : Tables). Shows t []) (sym (c .before .before .clear .ensures)) shows-emptied) refl))
+    (omega arith, b, a, omega arith, rw (c .opened .ensures) (upto-start (s .card .now) _ (subst (λ (t : Tables). ShowsAll t empty) (sym (c .before .before .clear .ensures)) shows-emptied) refl))
 
 mul-if1 : tie.Need-mul-if1 Inv-loop μ-loop
 mul-if1 c = omega arith
