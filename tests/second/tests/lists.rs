@@ -12,30 +12,12 @@ use second::limits::{LISTER_SEGMENTS, LISTS, SEGMENTS, UNITS};
 use second::log::{entry_bytes, Log};
 use second::shell::Shell;
 
+mod reached;
+
+use reached::Reached;
+
 const SEEDS: u64 = 340;
 const CARDS: u64 = 2_000;
-
-/// What was reached.
-#[derive(Default)]
-struct Reached(BTreeSet<String>);
-
-impl Reached {
-    fn add(&mut self, what: impl Into<String>) {
-        self.0.insert(what.into());
-    }
-
-    fn add_if(&mut self, is_reached: bool, what: &str) {
-        if is_reached {
-            self.add(what);
-        }
-    }
-
-    fn demand(&self, demanded: &[&str]) {
-        for &what in demanded {
-            assert!(self.0.contains(what), "not reached: {what}");
-        }
-    }
-}
 
 /// What a unit does to lists.
 #[derive(Clone, Copy, PartialEq)]
@@ -435,7 +417,7 @@ fn lists_of_units_are_held_and_shown() {
     for what in &reached.0 {
         println!("{what}");
     }
-    reached.demand(&[
+    reached.demand_each(&[
         "a list taken on stream 0",
         "a list taken on a unit",
         "1 following 16, on stream 0",
@@ -472,12 +454,12 @@ fn lists_of_units_are_held_and_shown() {
         "lists held by four units",
     ]);
     for look in ["inventory", "show", "page"] {
-        reached.demand(&[&format!("{look} of its unit")]);
+        reached.demand(&format!("{look} of its unit"));
         for place in ["view 0", "view 5", "another unit"] {
-            reached.demand(&[&format!("{look} in {place}, lists held")]);
+            reached.demand(&format!("{look} in {place}, lists held"));
         }
     }
-    reached.demand(TAKES);
+    reached.demand_each(TAKES);
 }
 
 #[test]
@@ -495,6 +477,6 @@ fn cards_reach_members_that_take_lists() {
         for what in &reached.0 {
             println!("{what}");
         }
-        reached.demand(TAKES);
+        reached.demand_each(TAKES);
     }
 }

@@ -1,8 +1,6 @@
 //! Document 02, E10, over whole scripts and cards: which situations with races they reach. That the races are right is the
 //! book's matter (`book.rs`); here each line is held to what races may do to it.
 
-use std::collections::BTreeSet;
-
 use second::entry::{Cause, Change, Entry};
 use second::generator::{card, generate};
 use second::limits::{BLOCKS, BLOCK_BYTES, ENTRY_BYTES, LISTER_SEGMENTS, RACES, SEGMENTS, SEGMENT_BYTES, SLOTS};
@@ -11,28 +9,12 @@ use second::record::Record;
 use second::shell::Shell;
 use second::state::State;
 
+mod reached;
+
+use reached::Reached;
+
 const SEEDS: u64 = 340;
 const CARDS: u64 = 2_000;
-
-/// What was reached.
-#[derive(Default)]
-struct Reached(BTreeSet<String>);
-
-impl Reached {
-    fn add(&mut self, what: impl Into<String>) {
-        self.0.insert(what.into());
-    }
-
-    fn add_if(&mut self, is_reached: bool, what: &str) {
-        if is_reached {
-            self.add(what);
-        }
-    }
-
-    fn demand(&self, what: &str) {
-        assert!(self.0.contains(what), "not reached: {what}");
-    }
-}
 
 /// The views of a record that is sound: 0, those of open units, and 5.
 struct Views {
