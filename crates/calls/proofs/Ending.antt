@@ -1,19 +1,21 @@
 -- End: the journal queued as members and a commit, the unit closed, and what the call performs.
 use mathlib.Core.Path.{_≡_, refl, sym, ap, _∙_, subst}
 use mathlib.Core.Logic.{inl, inr, _≢_}
-use mathlib.Core.Bool.{Bool, true, false, false≢true}
+use mathlib.Core.Bool.{Bool, true, false, cond, false≢true}
+use mathlib.Core.Option.{some}
 use mathlib.Core.List.{List, [], _∷_, _++_, map}
 use Prim.Native.Nat.{ℕ, _+_, _-_, _*_, _≤_, _<_}
 use native.Mathlib.Omega.{arith}
 use denote.Enum.Declared.{tagOf}
 use types.Run.{OneOf}
-use lib.Dec.{leb}
+use lib.Dec.{leb, eqb}
 use lib.ListN.{length, take, drop, getD}
-use Rattle.lists.specs.Basic.{isSome, from}
+use Rattle.lists.specs.Basic.{isSome, all, from}
 use Rattle.lists.specs.Change.{Change, mapChange, carriedBy}
-use Rattle.lists.specs.State.{State, applyAll}
-use Rattle.lists.specs.promises.Tables.{Tables}
-use Rattle.lists.proofs.Basic.{from-step, from-none, all-from, le-true, gt-false}
+use Rattle.lists.specs.State.{State, applyAll, overlay}
+use Rattle.lists.specs.promises.Tables.{Tables, ShowsAll, OfShown}
+use Rattle.lists.proofs.Basic.{some-of, from-step, from-none, all-from, le-true, gt-false}
+use Rattle.lists.proofs.Lookup.{lists-shown}
 use Rattle.log.proofs.entry.LogEntry.{the-type}
 use Rattle.log.specs.declared.entry.LogEntry.{LogEntry}
 use Rattle.log.specs.declared.entry.LogEntry.the-variants.{Take, PutFirst, PutAfter, Write, DeleteBlock, DeleteList, Commit}
@@ -25,25 +27,32 @@ use Rattle.disk.specs.declared.answer.Refusal.{Refusal}
 use Rattle.disk.specs.declared.answer.Refusal.the-variants.{Conflict, QueueFull}
 use Rattle.disk.specs.declared.answer.Reply.{Reply}
 use Rattle.disk.specs.declared.answer.Reply.the-variants.{Accepted, Refused}
-use Rattle.disk.specs.Disk.{Disk, disk, unitOf, journalPlace, journalAt, journalOf}
+use Rattle.disk.specs.Disk.{Disk, disk, unitOf, journalPlace, journalAt, journalOf, listing}
 use Rattle.disk.specs.Call.{end, ends}
 use Rattle.disk.specs.Sound.{lengthsRight, recordSound, isOpenUnit}
 use Rattle.disk.specs.Questions.{endApplies, queueRoom, questions, ask, firstNo, refusal}
-use Rattle.disk.specs.Perform.{spliceSome, enqueue, enqueueAll, unitEntries, closing, conflicted, reply, accepted, refused}
+use Rattle.disk.specs.Perform.{spliceSome, enqueue, enqueueAll, unitEntries, relisted, closing, conflicted, reply, accepted, refused}
 use Rattle.disk.specs.Answers.{number, refusedAnswer, replyAnswer}
+use Rattle.disk.specs.promises.Listing.{Padded, relistedAll}
+use Rattle.disk.proofs.Queue.{Beside, beside-all}
 use Rattle.disk.proofs.Journal.{journal-size}
 use Rattle.disk.proofs.Questions.{unit-range}
-use Rattle.disk.proofs.Clauses.{right, open-window}
+use Rattle.disk.proofs.Clauses.{OrderRight, right, open-window}
+use Rattle.disk.proofs.AcceptedOrder.{reader-order}
 use Rattle.disk.proofs.Soundness.{refused-same}
 use Rattle.calls.specs.Performs.{Performs}
-use Rattle.inspect.specs.promises.Located.{journalHere}
+use Rattle.inspect.specs.promises.Located.{contents, journalHere}
+use Rattle.inspect.specs.promises.Relisting.{RelistsJournal}
 use Rattle.calls.specs.promises.Entering.{Admitted}
 use Rattle.inspect.specs.promises.Clauses.{changeIn}
-use Rattle.calls.specs.promises.Ending.{closed, QueuesMember, Ready, QueuesUnit, endQuestions, EndsAs, Ends}
+use Rattle.calls.specs.promises.Ending.{closedOver, QueuesMember, Ready, QueuesUnit, endQuestions, EndsAs, Ends}
 use Rattle.calls.proofs.Refusing.{ask-yes, ask-no, last-yes, refused-more, end-performs-refused, performs-accepted}
-use Rattle.inspect.proofs.Locating.{applies-here}
+use Rattle.inspect.proofs.Locating.{journal-here, applies-here}
 use Rattle.inspect.proofs.Looking.{unit-lawful}
 use Rattle.calls.proofs.Entering.{entering, entered}
+use Rattle.calls.proofs.Giving.{padded-same}
+use Rattle.calls.proofs.Adding.{sound-padded}
+use Rattle.calls.proofs.Closing.{dropped-closed, ended-closed}
 
 -- A member joins the queue.
 module _ (q j : List ℕ) (r : Record) (k : ℕ) where
@@ -150,21 +159,60 @@ module _ (q₀ j : List ℕ) (u : ℕ) (r₀ : Record) (q : List ℕ) (r : Recor
       ∙ ap (λ (cs : List (Change Written)). enqueueAll (map member cs ++ commit n ∷ []) (disk c q j r)) (from-none (journalAt d u) k n l)
       ∙ ap (disk c q j) (sym e)
 
+-- What queueing leaves alone.
+module _ (q j : List ℕ) (r : Record) (u : ℕ) (q′ : List ℕ) (r₁ : Record) (g : QueuesUnit q j r u q′ r₁) where
+  abbrev before : Disk
+  before = disk [] q j r
+
+  beside-unit : Beside before (disk [] q′ j r₁)
+  beside-unit = subst (Beside before) (g []) (beside-all (unitEntries (journalOf before u)) before)
+
+  pub queued-units : r₁ .held .units ≡ r .held .units
+  queued-units = beside-unit .units
+
+  pub queued-holder : r₁ .held .holder ≡ r .held .holder
+  queued-holder = beside-unit .holder
+
+  pub queued-tally : r₁ .tally ≡ r .tally
+  queued-tally i = record { order = beside-unit .order i; listed = beside-unit .listed i; conflicts = beside-unit .conflicts i }
+
+  pub queued-ready : Ready q j r u → Padded r₁ × (unitAt r₁ u .len ≤ 15) × (1 ≤ u) × (u ≤ 4)
+      × (all (λ c. legal (raw 0 (member c))) (from (changeIn (unitAt r₁ u)) 0 (unitAt r₁ u .len)) ≡ true)
+  queued-ready w =
+      let e : unitAt r₁ u ≡ unitAt r u = ap (λ (us : List Unit). getD us (u - 1) noUnit) queued-units in
+      (padded-same r r₁ queued-tally (w .order), rw e (w .room), w .first, w .last, rw e (w .lawful))
+
 -- The answers of End.
-module _ (q j : List ℕ) (r : Record) (u : ℕ) (a : Bool) where
-  pub ends-conflict : (r′ : Record) → a ≡ false → r′ ≡ conflictCounted (unitAt r u .window) (closed u r) → EndsAs a q j r u (Refused Conflict) q r′
-  unfolding number refused ends conflicted closing unitOf
-  ends-conflict r′ h e = (ask-no 12 a _ h, λ c. rw e)
+module _ (st : State ℕ) (q j : List ℕ) (r : Record) (u : ℕ) where
+  abbrev all-apply : Bool
+  all-apply = isSome (applyAll (journalHere (unitAt r u) u) st)
 
-  module _ (h : a ≡ true) where
-    pub ends-full : 32 ≤ r .ring .len + unitAt r u .len → EndsAs a q j r u (Refused QueueFull) q r
-    unfolding number refused ends
-    ends-full l = (ask-yes 12 a _ h ∙ ask-no 13 _ [] (gt-false (r .ring .len + (unitAt r u .len + 1)) 32 (omega arith)), λ c. refl)
+  pub ends-conflict : (r′ : Record) → all-apply ≡ false → r′ ≡ conflictCounted (unitAt r u .window) (closedOver u (st .lists) r) → EndsAs st q j r u (Refused Conflict) q r′
+  unfolding number
+  ends-conflict r′ h e = (ask-no 12 all-apply _ h, refl, e)
 
-    pub ends-accepted : (q′ : List ℕ) (r₁ r′ : Record) → r .ring .len + unitAt r u .len < 32 → QueuesUnit q j r u q′ r₁ → r′ ≡ closed u r₁ → EndsAs a q j r u Accepted q′ r′
-    unfolding closing unitOf
-    ends-accepted q′ r₁ r′ l g e =
-        (ask-yes 12 a _ h ∙ last-yes 13 _ (le-true (r .ring .len + (unitAt r u .len + 1)) 32 (omega arith)), λ c. ap (closing u) (g c) ∙ ap (disk c q′ j) (sym e))
+  module _ (h : all-apply ≡ true) where
+    pub ends-full : 32 ≤ r .ring .len + unitAt r u .len → EndsAs st q j r u (Refused QueueFull) q r
+    unfolding number
+    ends-full l = (ask-yes 12 all-apply _ h ∙ ask-no 13 _ [] (gt-false (r .ring .len + (unitAt r u .len + 1)) 32 (omega arith)), refl, refl)
+
+    pub ends-accepted : (t t′ : Tables) (q′ : List ℕ) (r₁ r₂ r′ : Record) → ShowsAll t st → r .ring .len + unitAt r u .len < 32 → QueuesUnit q j r u q′ r₁
+        → RelistsJournal t (unitAt r₁ u) u r₁ r₂ t′ → OfShown t′ (λ rs. r′ ≡ closedOver u rs r₂) → EndsAs st q j r u Accepted q′ r′
+    ends-accepted t t′ q′ r₁ r₂ r′ sh l g f c =
+        let e : unitAt r₁ u ≡ unitAt r u = ap (λ (us : List Unit). getD us (u - 1) noUnit) (queued-units q j r u q′ r₁ g) in (
+          ask-yes 12 all-apply _ h ∙ last-yes 13 _ (le-true (r .ring .len + (unitAt r u .len + 1)) 32 (omega arith)),
+          r₁,
+          g,
+          λ v a.
+              let b : applyAll (journalHere (unitAt r₁ u) u) st ≡ some v = rw e a in
+              c (v .lists) (lists-shown t′ v (f .shows st v sh b))
+              ∙ ap (closedOver u (v .lists)) (f .order st v sh b ∙ ap (λ (y : Unit). relistedAll (journalHere y u) (st .lists) r₁) e),
+        )
+
+asks-twelve : (a : Bool) (u : ℕ) (r : Record) → firstNo (endQuestions a r u) ≡ 0 → a ≡ true
+unfolding firstNo ask
+asks-twelve true u r h = refl
+asks-twelve false u r h = absurd (omega arith)
 
 -- What the code needs of a disk whose unit u is open.
 module _ (u : ℕ) (d : Disk) (t : Tables) (k : Admitted false d u t) where
@@ -184,6 +232,7 @@ module _ (u : ℕ) (d : Disk) (t : Tables) (k : Admitted false d u t) where
         room = w .room;
         opened = open-window (unitOf d u .window) o;
         window = g .units .units u p q .window;
+        order = sound-padded d (k .sound);
         lawful = w .lawful;
       }
 
@@ -199,14 +248,48 @@ module _ (u : ℕ) (d : Disk) (t : Tables) (k : Admitted false d u t) where
       entered false d u t ((12, endApplies d u) ∷ (13, leb (d .rec .ring .len + (unitAt (d .rec) u .len + 1)) 32) ∷ []) k
       ∙ rw (k .located .means, applies-here d u (k .located .here) (stands-ready .last) (stands-ready .room))
 
+  state-order : OrderRight d (right d (k .lengths) (k .sound) .reader .state)
+  state-order = reader-order d (right d (k .lengths) (k .sound)) (k .sound)
+
+  -- refused: 12 closes the unit as the definition does, 13 changes nothing
+  refused-as : (n : ℕ) (r′ : Record) → r′ ≡ cond (eqb n 12) (conflictCounted (unitAt (d .rec) u .window) (closedOver u (here .lists) (d .rec))) (d .rec)
+      → refused (end u) n d ≡ disk (d .card) (d .queueData) (d .journalData) r′
+  unfolding refused ends conflicted unitOf here closing relisted
+  refused-as n r′ e = go (eqb n 12) refl e
+    where
+      go : (b : Bool) → eqb n 12 ≡ b → r′ ≡ cond b (conflictCounted (unitAt (d .rec) u .window) (closedOver u (here .lists) (d .rec))) (d .rec)
+          → refused (end u) n d ≡ disk (d .card) (d .queueData) (d .journalData) r′
+      go true f e =
+          rw (f, refused)
+          (ap (λ (x : Record). disk (d .card) (d .queueData) (d .journalData) x)
+          (sym (e ∙ ap (conflictCounted (unitAt (d .rec) u .window)) (dropped-closed u d (right d (k .lengths) (k .sound)) state-order (contents d) here (k .located .means)))))
+      go false f e = rw (f, refused) (ap (disk (d .card) (d .queueData) (d .journalData)) (sym e))
+
+  -- accepted
+  accepted-as : (q′ : List ℕ) (r₁ r′ : Record) → QueuesUnit (d .queueData) (d .journalData) (d .rec) u q′ r₁ → applied ≡ true
+      → ((v : State ℕ) → applyAll (journalHere (unitAt (d .rec) u) u) here ≡ some v → r′ ≡ closedOver u (v .lists) (relistedAll (journalHere (unitAt (d .rec) u) u) (here .lists) r₁))
+      → closing u (overlay (journalOf d u) (listing d)) (enqueueAll (unitEntries (journalOf d u)) d) ≡ disk (d .card) q′ (d .journalData) r′
+  unfolding applied here unitOf closing relisted
+  accepted-as q′ r₁ r′ g a f =
+      let w = stands-ready in
+      let (v, b) = some-of (applyAll (journalHere (unitAt (d .rec) u) u) here) a in
+      let x = disk (d .card) q′ (d .journalData) r₁ in
+      let s = overlay (journalOf d u) (listing d) in
+      ap (closing u s) (g (d .card))
+      ∙ ap (disk (d .card) q′ (d .journalData))
+      (sym (f v b
+      ∙ ended-closed u d (right d (k .lengths) (k .sound)) state-order (contents d) here (k .located .means) (w .first) (w .last) (journalHere (unitAt (d .rec) u) u) (journal-here d u (w .last) (w .room)) v b x
+      (queued-holder (d .queueData) (d .journalData) (d .rec) u q′ r₁ g) (queued-tally (d .queueData) (d .journalData) (d .rec) u q′ r₁ g)))
+
   pub ends-performs : (x : Reply) (q′ : List ℕ) (r′ : Record) → Ends t (d .queueData) (d .journalData) (d .rec) u x q′ r′
       → Performs (end u) d (disk (d .card) q′ (d .journalData) r′) (replyAnswer x) []
-  unfolding replyAnswer accepted applied here
+  unfolding replyAnswer accepted here applied
   ends-performs x q′ r′ f = go x (f here (k .located .shows))
     where
-      go : (x : Reply) → EndsAs applied (d .queueData) (d .journalData) (d .rec) u x q′ r′ → Performs (end u) d (disk (d .card) q′ (d .journalData) r′) (replyAnswer x) []
-      go (Refused x) h = end-performs-refused u d (disk (d .card) q′ (d .journalData) r′) x (h .1 (d .card)) (asked ∙ h .0)
-      go Accepted h = performs-accepted (end u) d _ (asked ∙ h .0) (ap (λ (y : Disk). reply y 0 0 []) (h .1 (d .card)))
+      go : (x : Reply) → EndsAs here (d .queueData) (d .journalData) (d .rec) u x q′ r′ → Performs (end u) d (disk (d .card) q′ (d .journalData) r′) (replyAnswer x) []
+      go (Refused x) (n, e, h) = end-performs-refused u d (disk (d .card) q′ (d .journalData) r′) x (refused-as (number x) r′ h ∙ ap (λ (y : List ℕ). disk (d .card) y (d .journalData) r′) (sym e)) (asked ∙ n)
+      go Accepted (n, r₁, g, h) =
+          performs-accepted (end u) d _ (asked ∙ n) (ap (λ (y : Disk). reply y 0 0 []) (accepted-as q′ r₁ r′ g (asks-twelve applied u (d .rec) n) h))
 
 -- refused by question 1, 3 or 4
 no-twelve : (a b c : Bool) → firstNo ((1, a) ∷ (3, b) ∷ (4, c) ∷ []) ≢ 12

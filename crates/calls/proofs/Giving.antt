@@ -1,103 +1,103 @@
 -- The numbers given: from what the tables say of free numbers, and of the questions of a take and a put, to what NewList and NewBlock perform.
-use mathlib.Core.Path.{_≡_, refl, sym, ap, _∙_}
+use mathlib.Core.Path.{_≡_, refl, sym, ap, _∙_, subst}
 use mathlib.Core.Logic.{_≢_}
-use mathlib.Core.Bool.{Bool, true, false, _&&_, _||_, not}
+use mathlib.Core.Bool.{Bool, true, false, _&&_, _||_, not, cond}
 use mathlib.Core.Option.{Option, none, some}
 use mathlib.Core.List.{List, [], _∷_}
-use Prim.Native.Nat.{ℕ, zero, suc, _%_, _≤_, _<_}
+use Prim.Native.Nat.{ℕ, zero, suc, _≤_}
 use native.Mathlib.Omega.{arith}
 use lib.Dec.{leb, eqb, eqb·suc-zero}
+use lib.ListN.{take}
 use Rattle.lists.specs.Basic.{isSome, orElse}
 use Rattle.lists.specs.Change.{takeList, mapChange, carriedBy}
-use Rattle.lists.specs.State.{Row, taken, placed, onList}
+use Rattle.lists.specs.State.{Row, taken, onList}
 use Rattle.lists.specs.InUse.{listNumber}
 use Rattle.lists.specs.promises.Tables.{Tables}
 use Rattle.lists.proofs.Basic.{eqb-false}
+use Rattle.log.specs.declared.entry.LogEntry.{LogEntry}
 use Rattle.log.specs.declared.entry.LogEntry.the-variants.{Take}
 use Rattle.log.specs.Entry.{mapEntry, raw, isList, asEntry}
 use Rattle.log.specs.Cell.{cellOf}
-use Rattle.disk.specs.Record.{Record, holderOf, withLastBlock, withLastList}
+use Rattle.disk.specs.Record.{Record, Tally, listedIn, padded, holding}
 use Rattle.disk.specs.declared.answer.Refusal.{Refusal}
 use Rattle.disk.specs.declared.answer.Refusal.the-variants.{OutOfRange, ListNotTaken, PredecessorElsewhere, NoNumberFree}
 use Rattle.disk.specs.declared.answer.NumberReply.{NumberReply}
 use Rattle.disk.specs.declared.answer.NumberReply.the-variants.{Number, Refused}
 use Rattle.disk.specs.declared.answer.Reply.the-variants as A
-use Rattle.disk.specs.Disk.{Disk, withRecord, committed}
+use Rattle.disk.specs.Disk.{Disk, withRecord}
 use Rattle.disk.specs.Call.{newList, onStream, destination}
-use Rattle.disk.specs.Questions.{freeFrom, freeList, editQuestions, questions, firstNo, refusal}
-use Rattle.disk.specs.Perform.{accepted, hold, gaveList, noted, made, numberGiven, changeFor}
+use Rattle.disk.specs.Questions.{firstFree, freeList, editQuestions, questions, firstNo, refusal}
+use Rattle.disk.specs.Perform.{accepted, hold, relisted, given as givenOut, noted, made, numberGiven, changeFor}
 use Rattle.disk.specs.Answers.{number, numberAnswer}
-use Rattle.disk.proofs.Questions.{free-from}
+use Rattle.disk.specs.promises.Listing.{Padded, unlisted}
+use Rattle.disk.proofs.Questions.{first-free}
 use Rattle.calls.specs.Performs.{Performs}
 use Rattle.calls.specs.promises.Entering.{Admitted}
 use Rattle.calls.specs.promises.Adds.{added, rooms, Adds}
-use Rattle.calls.specs.promises.Giving.{freeListIn, freeBlockIn, takenList, Takes, putEntry, heldBy, putBlock, Gives, putQuestions, rangedPutQuestions}
+use Rattle.calls.specs.promises.Giving.{freeListIn, takenList, Takes, putEntry, heldBy, putBlock, Gives, putQuestions, rangedPutQuestions}
 use Rattle.calls.proofs.Refusing.{ask-yes, ask-no, usual-performs-refused, performs-accepted}
-use Rattle.inspect.proofs.Locating.{taken-here}
-use Rattle.calls.proofs.Adding.{rooms-yes, change-added}
+use Rattle.calls.proofs.Adding.{rooms-yes, change-added, added-padded}
 use Rattle.calls.proofs.Entering.{entered}
 
--- A free number, 0 for none.
-step : Bool → Option ℕ → ℕ → Option ℕ
-step b o n = elim b [ true ↦ o | false ↦ some n ]
-
-pub free-ext : (used used′ : ℕ → Bool) (limit k last : ℕ) → ((n : ℕ) → used n ≡ used′ n) → freeFrom used limit k last ≡ freeFrom used′ limit k last
-unfolding freeFrom step
-free-ext used used′ limit zero last e = refl
-free-ext used used′ limit (suc k) last e =
-    let n = suc (last % limit) in
-    ap (λ (b : Bool). step b (freeFrom used limit k n) n) (e n) ∙ ap (λ (o : Option ℕ). step (used′ n) o n) (free-ext used used′ limit k n e)
-
-module _ (used : ℕ → Bool) (limit k last : ℕ) (l : 0 < limit) where
-  pub free-number : isSome (freeFrom used limit k last) ≡ not (eqb (orElse 0 (freeFrom used limit k last)) 0)
+-- The first free number, 0 for none.
+module _ (m k : ℕ) (ns : List ℕ) where
+  pub free-number : isSome (firstFree m k ns) ≡ not (eqb (orElse 0 (firstFree m k ns)) 0)
   unfolding isSome orElse
-  free-number = go (freeFrom used limit k last) refl
+  free-number = go (firstFree m k ns) refl
     where
-      go : (o : Option ℕ) → freeFrom used limit k last ≡ o → isSome o ≡ not (eqb (orElse 0 o) 0)
+      go : (o : Option ℕ) → firstFree m k ns ≡ o → isSome o ≡ not (eqb (orElse 0 o) 0)
       go none e = refl
-      go (some n) e = let f = free-from used limit k last n l e in rw (eqb-false n 0 (λ z. omega arith))
+      go (some n) e = let f = first-free m k n ns e in rw (eqb-false n 0 (λ z. omega arith))
 
-  pub free-limit : orElse 0 (freeFrom used limit k last) ≤ limit
+  pub free-limit : (n : ℕ) → n ≡ orElse 0 (firstFree m k ns) → n ≤ k
   unfolding orElse
-  free-limit = go (freeFrom used limit k last) refl
+  free-limit n h = go (firstFree m k ns) refl h
     where
-      go : (o : Option ℕ) → freeFrom used limit k last ≡ o → orElse 0 o ≤ limit
-      go none e = omega arith
-      go (some n) e = free-from used limit k last n l e .2
+      go : (o : Option ℕ) → firstFree m k ns ≡ o → n ≡ orElse 0 o → n ≤ k
+      go none e h = omega arith
+      go (some x) e h = omega (arith, first-free m k x ns e .1)
 
-  pub free-some : (n : ℕ) → n ≡ orElse 0 (freeFrom used limit k last) → n ≢ 0 → freeFrom used limit k last ≡ some n
+  free-some : (n : ℕ) → n ≡ orElse 0 (firstFree m k ns) → n ≢ 0 → firstFree m k ns ≡ some n
   unfolding orElse
-  free-some n h z = go (freeFrom used limit k last) h
+  free-some n h z = go (firstFree m k ns) h
     where
       go : (o : Option ℕ) → n ≡ orElse 0 o → o ≡ some n
       go none e = absurd (z e)
-      go (some m) e = ap some (sym e)
-
-pub free-block-limit : (r : Record) (rs : List (Row ℕ)) (n : ℕ) → n ≡ orElse 0 (freeBlockIn r rs) → n ≤ 64
-free-block-limit r rs n h = let l = free-limit (λ b. placed b rs || not (eqb (holderOf r b) 0)) 64 64 (r .tally .lastBlock) (omega arith) in omega arith
+      go (some x) e = ap some (sym e)
 
 -- A take.
-module _ (s : ℕ) (r : Record) (rs : List (Row ℕ)) (n : ℕ) (h : n ≡ orElse 0 (freeListIn r rs)) where
-  abbrev used : ℕ → Bool
-  used l = taken l rs || not (eqb (holderOf r (listNumber l)) 0)
-
-  pub free-list-limit : n ≤ 16
-  free-list-limit = let l = free-limit used 16 16 (r .tally .lastList) (omega arith) in omega arith
-
-  pub takes-none : n ≡ 0 → Takes s r rs (Refused NoNumberFree) r
+module _ (s : ℕ) (r : Record) (n : ℕ) (h : n ≡ orElse 0 (freeListIn r)) where
+  pub takes-none : n ≡ 0 → Takes s r (Refused NoNumberFree) r
   unfolding number
-  takes-none z = (refl, λ d e. ask-no 10 _ _ (free-number used 16 16 (r .tally .lastList) (omega arith) ∙ rw (← h, z)))
+  takes-none z = (refl, λ d e. ask-no 10 _ _ (free-number 64 16 (listedIn r) ∙ rw (← h, z)))
 
   module _ (z : n ≢ 0) where
-    given : freeListIn r rs ≡ some n
-    given = free-some used 16 16 (r .tally .lastList) (omega arith) n h z
+    given : freeListIn r ≡ some n
+    given = free-some 64 16 (listedIn r) n h z
 
-    pub takes-full : (x : Refusal) (r′ : Record) → Adds s (Take n) r (A.Refused x) r′ → Takes s r rs (Refused x) r′
+    pub takes-full : (x : Refusal) (r′ : Record) → Adds s (Take n) r (A.Refused x) r′ → Takes s r (Refused x) r′
     unfolding isSome
     takes-full x r′ a = (a .0, λ d e. ask-yes 10 _ _ (rw given) ∙ a .1 d e)
 
-    pub takes : (r′ r″ : Record) → Adds s (Take n) r A.Accepted r′ → r″ ≡ withLastList (heldBy s (listNumber n) r′) n → Takes s r rs (Number n) r″
-    takes r′ r″ a e = (e ∙ ap (λ (x : Record). withLastList (heldBy s (listNumber n) x) n) (a .0), given, λ d k. rooms-yes d s (a .1 d k))
+    pub takes : (r′ r″ : Record) → Adds s (Take n) r A.Accepted r′ → r″ ≡ unlisted (listNumber n) (heldBy s (listNumber n) r′) → Takes s r (Number n) r″
+    takes r′ r″ a e = (e ∙ ap (λ (x : Record). unlisted (listNumber n) (heldBy s (listNumber n) x)) (a .0), given, λ d k. rooms-yes d s (a .1 d k))
+
+-- What is held leaves the order alone, as what is added does.
+pub padded-same : (r r′ : Record) → r′ .tally ≡ r .tally → Padded r → Padded r′
+unfolding listedIn
+padded-same r r′ e p =
+    let (a, b) = subst (λ (t : Tally). (t .listed ≤ 80) × (t .order ≡ padded (take (t .listed) (t .order)))) (sym e) (p .many, p .behind) in
+    record { many = a; behind = b }
+
+padded-held : (s n : ℕ) (r : Record) → Padded r → Padded (heldBy s n r)
+padded-held s n r p = padded-same r (heldBy s n r) (go (eqb s 0)) p
+  where
+    go : (b : Bool) → cond b r (holding n s r) .tally ≡ r .tally
+    go true = refl
+    go false = refl
+
+pub padded-given : (s n : ℕ) (e : LogEntry) (r r′ r″ : Record) → Adds s e r A.Accepted r′ → r″ ≡ heldBy s n r′ → Padded r → Padded r″
+padded-given s n e r r′ r″ a h p = subst Padded (sym (h ∙ ap (heldBy s n) (a .0))) (padded-held s n (added s e r) (added-padded s e r p))
 
 pub hold-record : (s n : ℕ) (d : Disk) (r : Record) → hold s n (withRecord d r) ≡ withRecord d (heldBy s n r)
 unfolding hold
@@ -105,27 +105,22 @@ hold-record zero n d r = refl
 hold-record (suc u) n d r = rw (eqb·suc-zero u)
 
 take-disk : (s l : ℕ) (d : Disk) → made s (takeList l) d ≡ withRecord d (takenList s l (d .rec))
-unfolding made noted gaveList carriedBy cellOf raw mapEntry mapChange asEntry
+unfolding made noted givenOut relisted carriedBy cellOf raw mapEntry mapChange asEntry
 take-disk s l d =
-    ap (λ (x : Disk). gaveList l (hold s (listNumber l) x)) (change-added s (takeList l) (Take l) d refl refl)
-    ∙ ap (gaveList l) (hold-record s (listNumber l) d (added s (Take l) (d .rec)))
+    ap (λ (x : Disk). givenOut (listNumber l) (hold s (listNumber l) x)) (change-added s (takeList l) (Take l) d refl refl)
+    ∙ ap (givenOut (listNumber l)) (hold-record s (listNumber l) d (added s (Take l) (d .rec)))
 
 pub takes-performs : (s : ℕ) (d : Disk) (t : Tables) (k : Admitted true d s t) (a : NumberReply) (r′ : Record)
-    → Takes s (d .rec) (k .located .here .lists) a r′ → Performs (onStream s newList) d (withRecord d r′) (numberAnswer a) []
+    → Takes s (d .rec) a r′ → Performs (onStream s newList) d (withRecord d r′) (numberAnswer a) []
 unfolding numberAnswer refusal questions editQuestions freeList destination accepted numberGiven changeFor orElse isSome
 takes-performs s d t k a r′ = go a
   where
-    free : freeList d ≡ freeListIn (d .rec) (k .located .here .lists)
-    free =
-        free-ext _ _ 16 16 (d .rec .tally .lastList)
-        (λ l. ap (λ (x : Bool). x || not (eqb (holderOf (d .rec) (listNumber l)) 0)) (taken-here d t (committed d) (k .located) l))
+    rest : refusal (onStream s newList) d ≡ firstNo ((10, isSome (freeListIn (d .rec))) ∷ rooms d s)
+    rest = entered true d s t _ k
 
-    rest : refusal (onStream s newList) d ≡ firstNo ((10, isSome (freeListIn (d .rec) (k .located .here .lists))) ∷ rooms d s)
-    rest = entered true d s t _ k ∙ ap (λ (o : Option ℕ). firstNo ((10, isSome o) ∷ rooms d s)) free
-
-    go : (a : NumberReply) → Takes s (d .rec) (k .located .here .lists) a r′ → Performs (onStream s newList) d (withRecord d r′) (numberAnswer a) []
+    go : (a : NumberReply) → Takes s (d .rec) a r′ → Performs (onStream s newList) d (withRecord d r′) (numberAnswer a) []
     go (Refused x) h = rw (h .0) (usual-performs-refused (onStream s newList) d x tt (rest ∙ h .1 d refl))
-    go (Number l) h = performs-accepted (onStream s newList) d _ (rest ∙ rw (h .1) (ask-yes 10 _ _ refl ∙ h .2 d refl)) (rw (free, h .1, take-disk s l d, h .0))
+    go (Number l) h = performs-accepted (onStream s newList) d _ (rest ∙ rw (h .1) (ask-yes 10 _ _ refl ∙ h .2 d refl)) (rw (h .1, take-disk s l d, h .0))
 
 -- A put: a question more before the others.
 module _ (qs : List (ℕ × Bool)) (s l p b : ℕ) (r : Record) (n : ℕ) (q : Bool) where
@@ -175,6 +170,6 @@ module _ (s l p b : ℕ) (r : Record) where
   pub puts-full : (x : Refusal) (r′ : Record) → Adds s (putEntry b l p) r (A.Refused x) r′ → Gives [] s l p b r (Refused x) r′
   puts-full x r′ h = h
 
-  pub puts-block : (r′ r″ : Record) → Adds s (putEntry b l p) r A.Accepted r′ → r″ ≡ withLastBlock (heldBy s b r′) b → Gives [] s l p b r (Number b) r″
+  pub puts-block : (r′ r″ : Record) → Adds s (putEntry b l p) r A.Accepted r′ → r″ ≡ unlisted b (heldBy s b r′) → Gives [] s l p b r (Number b) r″
   unfolding putBlock
-  puts-block r′ r″ h e = (refl, e ∙ ap (λ (x : Record). withLastBlock (heldBy s b x) b) (h .0), λ d k. rooms-yes d s (h .1 d k))
+  puts-block r′ r″ h e = (refl, e ∙ ap (λ (x : Record). unlisted b (heldBy s b x)) (h .0), λ d k. rooms-yes d s (h .1 d k))

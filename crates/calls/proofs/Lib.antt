@@ -11,4 +11,5 @@ pub mod Putting
 pub mod Storing
 pub mod Turns
 pub mod Draining
+pub mod Closing
 pub mod Ending

@@ -53,16 +53,16 @@ write-ranges d s t z = (seen-ranges z .0, right d (z .lengths) (z .sound) .log .
 
 module _ (d : Disk) (s b n : ℕ) (x : Content) (a : Reply) (r : Record) where
   pub write-decides : (t : Tables) → Sees false d s t → OfShown t (λ rs. AddsAfter ((5, isBlock b && isRace n && eqb (length x) slotBytes) ∷ (8, placed b rs) ∷ []) s (Write b 0 n) (d .rec) a r)
-      → Decides (onStream s (writeBlock b n x)) d s (Write b 0 n) a r
+      → Decides (onStream s (writeBlock b n x)) d (added s (Write b 0 n) (d .rec)) a r
   unfolding refusal questions editQuestions
   write-decides t z f =
-      seen-decides (onStream s (writeBlock b n x)) d s (Write b 0 n) 8 (isBlock b && isRace n && eqb (length x) slotBytes) (placed b (view d s .lists)) (placed b) t a r refl z (placed-here d t (view d s) (z .located) b) f
+      seen-decides (onStream s (writeBlock b n x)) d s 8 (isBlock b && isRace n && eqb (length x) slotBytes) (placed b (view d s .lists)) (placed b) (λ rs. added s (Write b 0 n) (d .rec)) t a r refl z (placed-here d t (view d s) (z .located) b) f
 
-  pub write-refused : (y : Refusal) → a ≡ Refused y → Decides (onStream s (writeBlock b n x)) d s (Write b 0 n) a r → Performs (onStream s (writeBlock b n x)) d (withRecord d r) (replyAnswer a) []
+  pub write-refused : (y : Refusal) → a ≡ Refused y → Decides (onStream s (writeBlock b n x)) d (added s (Write b 0 n) (d .rec)) a r → Performs (onStream s (writeBlock b n x)) d (withRecord d r) (replyAnswer a) []
   unfolding replyAnswer destination
   write-refused y e h = let k = rw e at h in rw (e, k .0) (usual-performs-refused (onStream s (writeBlock b n x)) d y tt (k .1))
 
-  pub write-accepted : a ≡ Accepted → Decides (onStream s (writeBlock b n x)) d s (Write b 0 n) a r → (q j : List ℕ) → Copies s (placeNext s (d .rec)) x (d .queueData) (d .journalData) q j
+  pub write-accepted : a ≡ Accepted → Decides (onStream s (writeBlock b n x)) d (added s (Write b 0 n) (d .rec)) a r → (q j : List ℕ) → Copies s (placeNext s (d .rec)) x (d .queueData) (d .journalData) q j
       → Performs (onStream s (writeBlock b n x)) d (disk (d .card) q j r) (replyAnswer a) []
   unfolding replyAnswer accepted made noted numberGiven changeFor
   write-accepted e h q j k =
@@ -70,7 +70,7 @@ module _ (d : Disk) (s b n : ℕ) (x : Content) (a : Reply) (r : Record) where
       rw (e, w .0) (performs-accepted (onStream s (writeBlock b n x)) d _ (w .1) (rw (change-written s d b n x q j k)))
 
   -- what copying needs then
-  pub write-fits : (t : Tables) → Sees false d s t → a ≡ Accepted → Decides (onStream s (writeBlock b n x)) d s (Write b 0 n) a r
+  pub write-fits : (t : Tables) → Sees false d s t → a ≡ Accepted → Decides (onStream s (writeBlock b n x)) d (added s (Write b 0 n) (d .rec)) a r
       → (length (d .queueData) ≡ 8192) × (length (d .journalData) ≡ 15360) × (length x ≡ 256) × HasPlace s (placeNext s (d .rec))
   unfolding questions editQuestions unitOf
   write-fits t z e h =

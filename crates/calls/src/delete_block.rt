@@ -1,5 +1,5 @@
 // DeleteBlock: a block taken off its list.
-use crate::add::add;
+use crate::delete::delete;
 use crate::ranges::is_block;
 use disk::answer::Refusal;
 use disk::answer::Reply;
@@ -10,20 +10,22 @@ use lists::tables::is_placed;
 use log::entry::LogEntry;
 ghost use mathlib.Core.List.{[], _∷_};
 ghost use Prim.Native.Nat.{_≤_, _<_};
+ghost use Rattle.lists.specs.Change.{delBlock};
 ghost use Rattle.lists.specs.State.{placed};
 ghost use Rattle.lists.specs.promises.Tables.{tablesIn, OfShown};
 ghost use Rattle.log.specs.declared.entry.LogEntry.the-variants as E;
 ghost use Rattle.log.specs.Entry.{isBlock};
 ghost use Rattle.disk.specs.Record.{recordIn};
+ghost use Rattle.disk.specs.promises.Listing.{Padded};
 ghost use Rattle.disk.specs.Call.{deleteBlock, onStream};
 ghost use Rattle.disk.specs.Answers.{replyAnswer};
-ghost use Rattle.calls.specs.promises.Adds.{AddsAfter};
+ghost use Rattle.calls.specs.promises.Adds.{DeletesAfter};
 ghost use Rattle.calls.specs.Performs.{ChangesRecord};
 
 // Questions 5, 8, 11 and 13, over the stream's view.
-fn delete_placed(rec: &mut [u8; RECORD], nodes: &[u8; 1280], s: usize, b: usize) -> Reply
-    requires { ⌜ (s ≤ 4) × (recordIn (now rec) .ring .head < 32) ⌝ }
-    ensures { λ r. ⌜ OfShown (tablesIn (now (nodes .entry))) (λ rs. AddsAfter ((5, isBlock b) ∷ (8, placed b rs) ∷ []) s (E.DeleteBlock b) (recordIn (now (rec .entry))) r (recordIn (now (rec .exit)))) ⌝ }
+fn delete_placed(rec: &mut [u8; RECORD], nodes: &mut [u8; 1280], s: usize, b: usize) -> Reply
+    requires { ⌜ (s ≤ 4) × (recordIn (now rec) .ring .head < 32) × Padded (recordIn (now rec)) ⌝ }
+    ensures { λ r. ⌜ OfShown (tablesIn (now (nodes .entry))) (λ rs. DeletesAfter ((5, isBlock b) ∷ (8, placed b rs) ∷ []) s (E.DeleteBlock b) (delBlock b) rs (recordIn (now (rec .entry))) r (recordIn (now (rec .exit)))) ⌝ }
 {
     if !is_block(b) {
         return Reply::Refused(Refusal::OutOfRange);
@@ -32,7 +34,7 @@ fn delete_placed(rec: &mut [u8; RECORD], nodes: &[u8; 1280], s: usize, b: usize)
     if !is_placed(nodes, block) {
         return Reply::Refused(Refusal::BlockNotPlaced);
     }
-    add(rec, s, LogEntry::DeleteBlock { block })
+    delete(nodes, rec, s, LogEntry::DeleteBlock { block })
 }
 
 // Questions: 1 lengths, 3 record, 4 stream, 5 block, 8 on a list, 11 journal, 13 queue.
@@ -53,5 +55,5 @@ pub fn delete_block(
         }
         Looked::Seen => {}
     }
-    delete_placed(rec, &nodes, stream, block)
+    delete_placed(rec, &mut nodes, stream, block)
 }

@@ -1,5 +1,5 @@
 // DeleteList: a list given up with its blocks.
-use crate::add::add;
+use crate::delete::delete;
 use crate::ranges::is_list;
 use disk::answer::Refusal;
 use disk::answer::Reply;
@@ -10,20 +10,22 @@ use lists::tables::is_taken;
 use log::entry::LogEntry;
 ghost use mathlib.Core.List.{[], _∷_};
 ghost use Prim.Native.Nat.{_≤_, _<_};
+ghost use Rattle.lists.specs.Change.{delList};
 ghost use Rattle.lists.specs.State.{taken};
 ghost use Rattle.lists.specs.promises.Tables.{tablesIn, OfShown};
 ghost use Rattle.log.specs.declared.entry.LogEntry.the-variants as E;
 ghost use Rattle.log.specs.Entry.{isList};
 ghost use Rattle.disk.specs.Record.{recordIn};
+ghost use Rattle.disk.specs.promises.Listing.{Padded};
 ghost use Rattle.disk.specs.Call.{deleteList, onStream};
 ghost use Rattle.disk.specs.Answers.{replyAnswer};
-ghost use Rattle.calls.specs.promises.Adds.{AddsAfter};
+ghost use Rattle.calls.specs.promises.Adds.{DeletesAfter};
 ghost use Rattle.calls.specs.Performs.{ChangesRecord};
 
 // Questions 5, 7, 11 and 13, over the stream's view.
-fn delete_taken(rec: &mut [u8; RECORD], nodes: &[u8; 1280], s: usize, l: usize) -> Reply
-    requires { ⌜ (s ≤ 4) × (recordIn (now rec) .ring .head < 32) ⌝ }
-    ensures { λ r. ⌜ OfShown (tablesIn (now (nodes .entry))) (λ rs. AddsAfter ((5, isList l) ∷ (7, taken l rs) ∷ []) s (E.DeleteList l) (recordIn (now (rec .entry))) r (recordIn (now (rec .exit)))) ⌝ }
+fn delete_taken(rec: &mut [u8; RECORD], nodes: &mut [u8; 1280], s: usize, l: usize) -> Reply
+    requires { ⌜ (s ≤ 4) × (recordIn (now rec) .ring .head < 32) × Padded (recordIn (now rec)) ⌝ }
+    ensures { λ r. ⌜ OfShown (tablesIn (now (nodes .entry))) (λ rs. DeletesAfter ((5, isList l) ∷ (7, taken l rs) ∷ []) s (E.DeleteList l) (delList l) rs (recordIn (now (rec .entry))) r (recordIn (now (rec .exit)))) ⌝ }
 {
     if !is_list(l) {
         return Reply::Refused(Refusal::OutOfRange);
@@ -32,7 +34,7 @@ fn delete_taken(rec: &mut [u8; RECORD], nodes: &[u8; 1280], s: usize, l: usize) 
     if !is_taken(nodes, list) {
         return Reply::Refused(Refusal::ListNotTaken);
     }
-    add(rec, s, LogEntry::DeleteList { list })
+    delete(nodes, rec, s, LogEntry::DeleteList { list })
 }
 
 // Questions: 1 lengths, 3 record, 4 stream, 5 list, 7 taken, 11 journal, 13 queue.
@@ -53,5 +55,5 @@ pub fn delete_list(
         }
         Looked::Seen => {}
     }
-    delete_taken(rec, &nodes, stream, list)
+    delete_taken(rec, &mut nodes, stream, list)
 }

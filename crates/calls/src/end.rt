@@ -14,7 +14,9 @@ use disk::record::journal_entry;
 use disk::record::journal_len;
 use disk::record::len;
 use disk::record::window;
+use inspect::give_up::give_up;
 use inspect::journal::enter_journal;
+use inspect::journal::relist_journal;
 use inspect::look::Looked;
 use log::copy::copy_in;
 use log::entry::LogEntry;
@@ -24,23 +26,25 @@ ghost use mathlib.Core.Bool.{true};
 ghost use mathlib.Core.List.{[]};
 ghost use Prim.Native.Nat.{_+_, _≤_, _<_};
 ghost use lib.ListN.{length};
-ghost use Rattle.lists.specs.promises.Tables.{tablesIn};
+ghost use Rattle.lists.specs.promises.Tables.{tablesIn, OfShown};
 ghost use Rattle.log.specs.Entry.{legal, raw, member, asChange};
 ghost use Rattle.disk.specs.Record.{recordIn, unitAt};
 ghost use Rattle.disk.specs.Disk.{diskIn};
 ghost use Rattle.disk.specs.Call.{end};
 ghost use Rattle.disk.specs.Answers.{replyAnswer};
-ghost use Rattle.calls.specs.promises.Ending.{closed, QueuesMember, Ready, QueuesUnit, Ends};
+ghost use Rattle.disk.specs.promises.Listing.{Padded};
+ghost use Rattle.calls.specs.promises.Ending.{closedOver, QueuesMember, Ready, QueuesUnit, Ends};
 ghost use Rattle.calls.specs.Performs.{Performs};
 
 // The window of a closed unit.
 const CLOSED: u8 = 0;
 
-// Unit u closed, its journal gone, its numbers released.
-fn close(rec: &mut [u8; RECORD], u: usize)
-    requires { ⌜ (1 ≤ u) × (u ≤ 4) ⌝ }
-    ensures { λ r. ⌜ recordIn (now (rec .exit)) ≡ closed u (recordIn (now (rec .entry))) ⌝ }
+// Unit u closed over the lists that the tables show: what it holds and is free joins the order of the free numbers, its journal goes.
+fn close(nodes: &[u8; 1280], rec: &mut [u8; RECORD], u: usize)
+    requires { ⌜ Padded (recordIn (now rec)) × (1 ≤ u) × (u ≤ 4) ⌝ }
+    ensures { λ r. ⌜ OfShown (tablesIn (now (nodes .entry))) (λ rs. recordIn (now (rec .exit)) ≡ closedOver u rs (recordIn (now (rec .entry)))) ⌝ }
 {
+    give_up(nodes, rec, u as u8);
     empty(rec, u, CLOSED);
     release(rec, u as u8);
 }
@@ -99,7 +103,8 @@ fn queue_unit(queue_data: &mut [u8], journal_data: &[u8], rec: &mut [u8; RECORD]
     append(rec, false, LogEntry::Commit { count });
 }
 
-// 12. Does every entry apply to the committed state, which the tables show? 13. Has the queue room? Refused 12 the unit is closed too.
+// 12. Does every entry apply to the committed state, which the tables show? It is asked on a copy, so that an accepted End can follow the entries one by
+// one. 13. Has the queue room? Refused 12 the unit is closed too.
 fn end_unit(
     nodes: &mut [u8; 1280],
     queue_data: &mut [u8],
@@ -110,9 +115,10 @@ fn end_unit(
     requires { ⌜ Ready (now queue_data) (now journal_data) (recordIn (now rec)) u ⌝ }
     ensures { λ r. ⌜ Ends (tablesIn (now (nodes .entry))) (now (queue_data .entry)) (now (journal_data .entry)) (recordIn (now (rec .entry))) u r (now (queue_data .exit)) (recordIn (now (rec .exit))) ⌝ }
 {
-    if !enter_journal(nodes, rec, u) {
+    let mut after = *nodes;
+    if !enter_journal(&mut after, rec, u) {
         let w = window(rec, u);
-        close(rec, u);
+        close(nodes, rec, u);
         count_conflict(rec, w as usize);
         return Reply::Refused(Refusal::Conflict);
     }
@@ -120,7 +126,8 @@ fn end_unit(
         return Reply::Refused(Refusal::QueueFull);
     }
     queue_unit(queue_data, journal_data, rec, u);
-    close(rec, u);
+    relist_journal(nodes, rec, u);
+    close(nodes, rec, u);
     Reply::Accepted
 }
 

@@ -1,9 +1,10 @@
-// Formatting: the card becomes an empty log, the record a fresh one.
+// Formatting: the card becomes an empty log, the record a fresh one, in which every number is free.
+use crate::renew::renew_from;
 use disk::answer::Refusal;
 use disk::answer::Reply;
-use disk::change::renew;
 use disk::record::RECORD;
 use inspect::lengths::lengths_right;
+use lists::tables::clear;
 use log::layout::SEGMENT;
 use log::store::format_stores;
 ghost use mathlib.Core.List.{[]};
@@ -26,6 +27,8 @@ pub fn format(
     }
     let segments = card.len() / SEGMENT;
     format_stores(card, segments);
-    renew(rec);
+    let mut nodes = [0u8; 1280];
+    clear(&mut nodes);
+    renew_from(rec, &nodes);
     Reply::Accepted
 }

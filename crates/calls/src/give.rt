@@ -5,13 +5,11 @@ use crate::ranges::is_position;
 use disk::answer::NumberReply;
 use disk::answer::Refusal;
 use disk::answer::Reply;
-use disk::change::gave_block;
-use disk::change::gave_list;
 use disk::change::hold;
+use disk::free::first_free;
+use disk::free::withdraw;
 use disk::record::RECORD;
 use disk::record::list_number;
-use inspect::free::free_block;
-use inspect::free::free_list;
 use inspect::journal::enter_journal;
 use lists::tables::is_taken;
 use log::entry::LogEntry;
@@ -23,8 +21,9 @@ ghost use Rattle.lists.specs.Basic.{all, from};
 ghost use Rattle.lists.specs.promises.Tables.{tablesIn, OfShown, IsList};
 ghost use Rattle.log.specs.Entry.{legal, raw, member};
 ghost use Rattle.disk.specs.Record.{recordIn, unitAt};
+ghost use Rattle.disk.specs.promises.Listing.{Padded};
 ghost use Rattle.inspect.specs.promises.Clauses.{changeIn};
-ghost use Rattle.calls.specs.promises.Giving.{Takes, heldBy, putEntry, Gives, putQuestions, rangedPutQuestions, Lays, Shown, PutsFree};
+ghost use Rattle.calls.specs.promises.Giving.{Takes, heldBy, putEntry, Gives, putQuestions, rangedPutQuestions, Lays, PutsFree};
 
 // Number n held by unit s, by none on stream 0.
 fn held(rec: &mut [u8; RECORD], s: usize, n: u8)
@@ -37,20 +36,21 @@ fn held(rec: &mut [u8; RECORD], s: usize, n: u8)
     hold(rec, n as usize, s as u8);
 }
 
-// 10. Is a list free? The tables show the committed state. 11 and 13, and the take.
-pub fn take_list(nodes: &[u8; 1280], rec: &mut [u8; RECORD], s: usize) -> NumberReply
-    requires { ⌜ Shown (tablesIn (now nodes)) × (s ≤ 4) × (recordIn (now rec) .ring .head < 32) ⌝ }
-    ensures { λ r. ⌜ OfShown (tablesIn (now (nodes .entry))) (λ rs. Takes s (recordIn (now (rec .entry))) rs r (recordIn (now (rec .exit)))) ⌝ }
+// 10. Is a list free? 11 and 13, and the take: the number is held in a unit, and leaves the order of the free ones.
+pub fn take_list(rec: &mut [u8; RECORD], s: usize) -> NumberReply
+    requires { ⌜ Padded (recordIn (now rec)) × (s ≤ 4) × (recordIn (now rec) .ring .head < 32) ⌝ }
+    ensures { λ r. ⌜ Takes s (recordIn (now (rec .entry))) r (recordIn (now (rec .exit))) ⌝ }
 {
-    let l = free_list(nodes, rec);
+    let l = first_free(rec, LogEntry::BLOCKS, LogEntry::LISTS);
     if l == 0 {
         return NumberReply::Refused(Refusal::NoNumberFree);
     }
     match add(rec, s, LogEntry::Take { list: l }) {
         Reply::Refused(x) => NumberReply::Refused(x),
         Reply::Accepted => {
-            held(rec, s, list_number(l));
-            gave_list(rec, l);
+            let n = list_number(l);
+            held(rec, s, n);
+            withdraw(rec, n);
             NumberReply::Number(l as usize)
         }
     }
@@ -72,14 +72,14 @@ fn entry_of(b: u8, l: u8, p: u8) -> LogEntry
 
 // 11 and 13, and the put.
 fn put_block(rec: &mut [u8; RECORD], s: usize, l: u8, p: u8, b: u8) -> NumberReply
-    requires { ⌜ (s ≤ 4) × (recordIn (now rec) .ring .head < 32) × (1 ≤ b) × (b ≤ 64) ⌝ }
+    requires { ⌜ (s ≤ 4) × (recordIn (now rec) .ring .head < 32) × (1 ≤ b) × (b ≤ 64) × Padded (recordIn (now rec)) ⌝ }
     ensures { λ r. ⌜ Gives [] s l p b (recordIn (now (rec .entry))) r (recordIn (now (rec .exit))) ⌝ }
 {
     match add(rec, s, entry_of(b, l, p)) {
         Reply::Refused(x) => NumberReply::Refused(x),
         Reply::Accepted => {
             held(rec, s, b);
-            gave_block(rec, b);
+            withdraw(rec, b);
             NumberReply::Number(b as usize)
         }
     }
@@ -87,7 +87,7 @@ fn put_block(rec: &mut [u8; RECORD], s: usize, l: u8, p: u8, b: u8) -> NumberRep
 
 // 7, 9 and 10 of a block put on list l behind block p, first if p is 0; block b is 0 if none is free.
 fn put_on(nodes: &[u8; 1280], rec: &mut [u8; RECORD], s: usize, l: u8, p: u8, b: u8) -> NumberReply
-    requires { ⌜ (s ≤ 4) × (recordIn (now rec) .ring .head < 32) × IsList l × (p ≤ 64) × (b ≤ 64) ⌝ }
+    requires { ⌜ (s ≤ 4) × (recordIn (now rec) .ring .head < 32) × IsList l × (p ≤ 64) × (b ≤ 64) × Padded (recordIn (now rec)) ⌝ }
     ensures { λ r. ⌜ OfShown (tablesIn (now (nodes .entry))) (λ rs. Gives (putQuestions l p b rs) s l p b (recordIn (now (rec .entry))) r (recordIn (now (rec .exit)))) ⌝ }
 {
     if !is_taken(nodes, l) {
@@ -111,7 +111,7 @@ fn put_ranged(
     p: usize,
     b: u8,
 ) -> NumberReply
-    requires { ⌜ (s ≤ 4) × (recordIn (now rec) .ring .head < 32) × (b ≤ 64) ⌝ }
+    requires { ⌜ (s ≤ 4) × (recordIn (now rec) .ring .head < 32) × (b ≤ 64) × Padded (recordIn (now rec)) ⌝ }
     ensures { λ r. ⌜ OfShown (tablesIn (now (nodes .entry))) (λ rs. Gives (rangedPutQuestions l p b rs) s l p b (recordIn (now (rec .entry))) r (recordIn (now (rec .exit)))) ⌝ }
 {
     if !is_position(l, p) {
@@ -131,7 +131,7 @@ fn lay_stream(nodes: &mut [u8; 1280], rec: &[u8; RECORD], s: usize)
     enter_journal(nodes, rec, s);
 }
 
-// The tables show the committed state, of which the number is; the list and the predecessor are of the stream's view.
+// The number is the first free one; the list and the predecessor are of the stream's view, laid over the committed state that the tables show.
 pub fn put_free(
     nodes: &mut [u8; 1280],
     rec: &mut [u8; RECORD],
@@ -139,10 +139,10 @@ pub fn put_free(
     l: usize,
     p: usize,
 ) -> NumberReply
-    requires { ⌜ Shown (tablesIn (now nodes)) × (s ≤ 4) × (recordIn (now rec) .ring .head < 32) × (unitAt (recordIn (now rec)) s .len ≤ 15) × (all (λ c. legal (raw 0 (member c))) (from (changeIn (unitAt (recordIn (now rec)) s)) 0 (unitAt (recordIn (now rec)) s .len)) ≡ true) ⌝ }
+    requires { ⌜ Padded (recordIn (now rec)) × (s ≤ 4) × (recordIn (now rec) .ring .head < 32) × (unitAt (recordIn (now rec)) s .len ≤ 15) × (all (λ c. legal (raw 0 (member c))) (from (changeIn (unitAt (recordIn (now rec)) s)) 0 (unitAt (recordIn (now rec)) s .len)) ≡ true) ⌝ }
     ensures { λ r. ⌜ PutsFree (tablesIn (now (nodes .entry))) s l p (recordIn (now (rec .entry))) r (recordIn (now (rec .exit))) ⌝ }
 {
-    let b = free_block(nodes, rec);
+    let b = first_free(rec, 0, LogEntry::BLOCKS);
     lay_stream(nodes, rec, s);
     put_ranged(nodes, rec, s, l, p, b)
 }

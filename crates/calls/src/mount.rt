@@ -1,10 +1,11 @@
-// Mounting: the record becomes a fresh one, if the log is acceptable.
+// Mounting: the record becomes a fresh one, if the log is acceptable, with the log's free numbers in the order of their freeing.
+use crate::renew::renew_from;
 use disk::answer::MountReply;
 use disk::answer::Refusal;
-use disk::change::renew;
 use disk::record::RECORD;
 use inspect::lengths::data_right;
 use log::mount::Mounted;
+use log::mount::mount_on;
 ghost use Rattle.disk.specs.Call.{mount};
 ghost use Rattle.disk.specs.Answers.{mountAnswer};
 ghost use Rattle.calls.specs.Performs.{ChangesRecord};
@@ -21,11 +22,12 @@ pub fn mount(
     if !data_right(queue_data, journal_data) {
         return MountReply::Refused(Refusal::WrongLength);
     }
-    match log::mount::mount(card) {
+    let mut nodes = [0u8; 1280];
+    match mount_on(card, &mut nodes) {
         Mounted::WrongLength => MountReply::Refused(Refusal::WrongLength),
         Mounted::Fault(segment, entry) => MountReply::Fault { segment, entry },
         Mounted::Sound(_) => {
-            renew(rec);
+            renew_from(rec, &nodes);
             MountReply::Accepted
         }
     }

@@ -33,5 +33,5 @@ pub fn new_list(
         }
         Looked::Seen => {}
     }
-    take_list(&nodes, rec, stream)
+    take_list(rec, stream)
 }

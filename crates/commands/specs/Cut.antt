@@ -24,7 +24,7 @@ use Rattle.commands.specs.Shell.{Shell, Printed, printed, withDisk, firs
 
 -- a record whose bytes are all 165: its queue has 32 places, and the head and the length are 165
 unfoldable pub unsoundBytes : List ℕ
-unsoundBytes = replicate 494 165
+unsoundBytes = replicate 573 165
 
 abbrev pub unsoundRecord : Record
 unsoundRecord = recordIn unsoundBytes

@@ -6,8 +6,8 @@ use Prim.Native.Nat.{ℕ, zero, suc, _+_}
 use native.Mathlib.Omega.{arith}
 use lib.Dec.{leb, eqb·suc-zero}
 use Rattle.lists.specs.Basic.{any}
-use Rattle.lists.specs.Change.{Change, takeList, putFirst, putAfter, write, delBlock, delList, carriedBy}
-use Rattle.lists.specs.State.{applies, applyAll}
+use Rattle.lists.specs.Change.{Change, carriedBy}
+use Rattle.lists.specs.State.{Row, applies, applyAll, overlay}
 use Rattle.lists.specs.InUse.{listNumber}
 use Rattle.lists.proofs.Basic.{and-true, not-false, leb-true, some-of}
 use Rattle.lists.proofs.Count.{takes}
@@ -17,16 +17,17 @@ use Rattle.log.specs.Entry.{plain, carried}
 use Rattle.log.specs.Card.{Written}
 use Rattle.log.proofs.Segment.{Sized}
 use Rattle.log.proofs.Places.{Good}
-use Rattle.disk.specs.Record.{isOpen, holderOf}
-use Rattle.disk.specs.Disk.{Disk, unitOf, queued, journalOf, committed}
+use Rattle.disk.specs.Record.{isOpen, holderOf, withListed}
+use Rattle.disk.specs.Disk.{Disk, unitOf, queued, journalOf, committed, listing}
 use Rattle.disk.specs.Sound.{isOpenUnit}
 use Rattle.disk.specs.Call.{Edit, onStream, begin, end}
 use Rattle.disk.specs.Questions.{streamOpen, journalRoom, streamRoom, endApplies, questions, refusal}
-use Rattle.disk.specs.Perform.{change, hold, gaveList, gaveBlock, noted, made, numberGiven, changeFor, opening, accepted}
-use Rattle.disk.proofs.Queue.{queued-hold, queued-gaveBlock, queued-gaveList, queued-opening}
-use Rattle.disk.proofs.Journal.{journal-size, journal-opening, unit-sized, journal-hold, journal-gaveBlock, journal-gaveList}
+use Rattle.disk.specs.Perform.{change, hold, relisted, noted, made, numberGiven, changeFor, opening, accepted}
+use Rattle.disk.proofs.Queue.{queued-hold, queued-relisted, queued-opening}
+use Rattle.disk.proofs.Journal.{journal-size, journal-opening, unit-sized, journal-hold, journal-relisted}
 use Rattle.disk.proofs.Questions.{yes-all, unit-range, open-range, queue-room, stream-room, journal-room}
 use Rattle.disk.proofs.Clauses.{Right, right}
+use Rattle.disk.proofs.Held.{noted-by}
 use Rattle.disk.proofs.Changes.{edit-makes, apply-applies, unit-good}
 use Rattle.disk.proofs.Inventory.{journal-takes-held}
 use Rattle.crash.specs.Book.{Book, batchOf, join, joinUnit}
@@ -39,13 +40,9 @@ same-inv d e b c q n j i =
     live e b (rw c (i .sim)) (i .told)
     (record { queue = q ∙ i .tied refl .queue; done = n ∙ i .tied refl .done; journals = λ u l m. j u ∙ i .tied refl .journals u l m; once = i .tied refl .once }) (i .four) (i .few)
 
-gave-list : (d : Disk) (b : Book) (l : ℕ) → Live d b → Live (gaveList l d) b
-unfolding gaveList
-gave-list d b l i = same-inv d (gaveList l d) b refl (queued-gaveList l d) refl (journal-gaveList l d) i
-
-gave-block : (d : Disk) (b : Book) (n : ℕ) → Live d b → Live (gaveBlock n d) b
-unfolding gaveBlock
-gave-block d b n i = same-inv d (gaveBlock n d) b refl (queued-gaveBlock n d) refl (journal-gaveBlock n d) i
+listed-anew : (d : Disk) (b : Book) (fs : List ℕ) → Live d b → Live (relisted fs d) b
+unfolding relisted withListed
+listed-anew d b fs i = same-inv d (relisted fs d) b refl (queued-relisted fs d) refl (journal-relisted fs d) i
 
 held : (s n : ℕ) (d : Disk) (b : Book) → Live d b → Live (hold s n d) b
 unfolding hold
@@ -87,14 +84,8 @@ change-inv (suc u) c d b i t g a f =
     (i .tied refl .once (suc u) p q))
 
 -- what the record notes of a number given is no part of it
-noted-inv : (s : ℕ) (c : Change Written) (d : Disk) (b : Book) → Live d b → Live (noted s c d) b
-unfolding noted
-noted-inv s (takeList l) d b i = gave-list (hold s (listNumber l) d) b l (held s (listNumber l) d b i)
-noted-inv s (putFirst n l) d b i = gave-block (hold s n d) b n (held s n d b i)
-noted-inv s (putAfter n l p) d b i = gave-block (hold s n d) b n (held s n d b i)
-noted-inv s (write n x) d b i = i
-noted-inv s (delBlock n) d b i = i
-noted-inv s (delList l) d b i = i
+noted-inv : (s : ℕ) (c : Change Written) (rs : List (Row Written)) (d : Disk) (b : Book) → Live d b → Live (noted s c rs d) b
+noted-inv s c rs d b i = noted-by (λ e. Live e b) s (λ n e j. held s n e b j) (λ fs e j. listed-anew e b fs j) c rs d i
 
 -- The calls.
 pub accepted-edit : (s : ℕ) (e : Edit) (d : Disk) (b : Book) → refusal (onStream s e) d ≡ 0 → Live d b
@@ -104,7 +95,7 @@ accepted-edit s e d b h i =
     let y = yes-all (onStream s e) d h in
     let c = changeFor e (numberGiven e d) in
     let m = edit-makes s e d h in
-    noted-inv s c (change s c d) (join s c b)
+    noted-inv s c (committed d .lists) (change s c d) (join s c b)
     (change-inv s c d b i (record { sound = right d (y 0) (y 1); isOpen = y 2; journal = m .journal; queue = m .queue }) (m .good) (m .applying) (λ n z. m .free n z .0))
 
 -- a unit that opens was closed, so its journal is empty already
@@ -126,5 +117,5 @@ accepted-end u d b h i =
     let x = k .units .units u p q in
     let z = unit-sized d u p q (k .journalData) (x .room) in
     let (s, a) = some-of (applyAll (journalOf d u) (committed d)) (y 3) in
-    join-unit d b u s k i p q (omega (arith, journal-size d u, queue-room d (unitOf d u .len + 1) (y 4)))
+    join-unit d b u (overlay (journalOf d u) (listing d)) s k i p q (omega (arith, journal-size d u, queue-room d (unitOf d u .len + 1) (y 4)))
     (unit-good (d .rec) u (journalOf d u) (x .sound) (omega (arith, journal-size d u, x .room)) z) z a

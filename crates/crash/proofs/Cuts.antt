@@ -4,13 +4,14 @@ use mathlib.Core.List.{List, []}
 use Prim.Native.Nat.{ℕ, _-_, _≤_}
 use native.Mathlib.Omega.{arith}
 use lib.ListN.{length, take}
+use Rattle.lists.specs.Numbers.{allNumbers}
 use Rattle.lists.proofs.Basic.{getD-same}
 use Rattle.lists.proofs.Takings.{TakenOnce}
 use Rattle.log.specs.Card.{segmentsIn}
 use Rattle.log.specs.Store.{doStores, formatStores}
 use Rattle.log.proofs.Segment.{Carries}
-use Rattle.disk.specs.Record.{Record, freshRecord}
-use Rattle.disk.specs.Disk.{Disk, withRecord}
+use Rattle.disk.specs.Record.{Record, blankRecord, freshRecord, withListed}
+use Rattle.disk.specs.Disk.{Disk, withRecord, persistent}
 use Rattle.disk.specs.Call.{format, mount}
 use Rattle.disk.specs.Perform.{formatted, accepted}
 use Rattle.disk.proofs.Fresh.{fresh-queue, fresh-journal}
@@ -43,30 +44,31 @@ cut-format w b k x l i =
     (formatted-card k (w .disk .card) b l (i .sim .carries)) (format-shown k b (i .told)) (format-few k b (i .few))
 
 -- A mounting or a formatting, accepted.
-pub fresh-tied : (d : Disk) (b : Book) → d .rec ≡ freshRecord → Tied d (settle b)
-unfolding settle entriesOf batchOf freshRecord
-fresh-tied d b e =
+pub fresh-tied : (d : Disk) (b : Book) (fs : List ℕ) → d .rec ≡ freshRecord fs → Tied d (settle b)
+unfolding settle entriesOf batchOf freshRecord withListed blankRecord
+fresh-tied d b fs e =
     record {
-      queue = fresh-queue d e;
+      queue = fresh-queue d fs e;
       done = ap (λ (r : Record). r .ring .done) e;
-      journals = λ u l m. fresh-journal d e u ∙ sym (getD-same 4 (u - 1) []);
+      journals = λ u l m. fresh-journal d fs e u ∙ sym (getD-same 4 (u - 1) []);
       once = λ u l m. subst TakenOnce (sym (getD-same 4 (u - 1) [])) tt;
     }
 
-settled-live : (d : Disk) (b : Book) → d .rec ≡ freshRecord → Sim (d .card) (settle b) → Told (settle b) → length (b .segs) ≤ 64 → Live d (settle b)
-settled-live d b e s t m = live d (settle b) s t (fresh-tied d b e) (settle-four b) (settle-few b m)
+settled-live : (d : Disk) (b : Book) (fs : List ℕ) → d .rec ≡ freshRecord fs → Sim (d .card) (settle b) → Told (settle b) → length (b .segs) ≤ 64 → Live d (settle b)
+settled-live d b fs e s t m = live d (settle b) s t (fresh-tied d b fs e) (settle-four b) (settle-few b m)
 
 pub accepted-mount : (w : World) (b : Book) → Inv w b → Live (accepted mount (w .disk) .disk) (settle b)
 unfolding accepted
 accepted-mount w b i =
-    settled-live (withRecord (w .disk) freshRecord) b refl (settle-sim (w .disk .card) b (i .sim .carries)) (settle-told b (told-shown b (i .told))) (i .few)
+    let fs = persistent (w .disk) .free in
+    settled-live (withRecord (w .disk) (freshRecord fs)) b fs refl (settle-sim (w .disk .card) b (i .sim .carries)) (settle-told b (told-shown b (i .told))) (i .few)
 
 pub accepted-format : (w : World) (b : Book) → Inv w b → Live (accepted format (w .disk) .disk) (settle (bookFormat (length (b .segs)) b))
 unfolding accepted
 accepted-format w b i =
     let n = length (b .segs) in
     let c = w .disk .card in
-    settled-live (accepted format (w .disk) .disk) (bookFormat n b) refl
+    settled-live (accepted format (w .disk) .disk) (bookFormat n b) allNumbers refl
     (settle-sim (formatted (segmentsIn c) c) (bookFormat n b)
     (subst (λ (m : ℕ). Carries (formatted m c) (placedEntries (bookFormat n b))) (sym (segments-count c b (i .sim .carries)))
     (formatted-card n c b (omega arith) (i .sim .carries))))

@@ -8,6 +8,7 @@ use native.Mathlib.Omega.{arith}
 use lib.Dec.{leb, eqb, eqb·suc-zero}
 use lib.ListN.{length, take, length-replicate}
 use Rattle.lists.proofs.Basic.{and-true, not-false, leb-true}
+use Rattle.lists.specs.Numbers.{allNumbers}
 use Rattle.log.specs.Card.{cardLength, segmentsIn}
 use Rattle.log.specs.Store.{doStores, formatStores}
 use Rattle.log.proofs.CardLength.{card-size}
@@ -125,9 +126,9 @@ start-sim : (n : ℕ) (c : List ℕ) → 0 < n → length c ≡ 4096 * n → Sim
 unfolding emptyBook entriesOf
 start-sim n c p l = record { carries = empty-carries n c p l; good = tt; head = refl }
 
-start-tied : (d : Disk) (n : ℕ) → d .rec ≡ freshRecord → Tied d (emptyBook n)
+start-tied : (d : Disk) (n : ℕ) (fs : List ℕ) → d .rec ≡ freshRecord fs → Tied d (emptyBook n)
 unfolding emptyBook settle batchOf
-start-tied d n e = let t = fresh-tied d (emptyBook n) e in record { queue = t .queue; done = t .done; journals = t .journals; once = t .once }
+start-tied d n fs e = let t = fresh-tied d (emptyBook n) fs e in record { queue = t .queue; done = t .done; journals = t .journals; once = t .once }
 
 start-inv : (d : Disk) → refusal format d ≡ 0 → Live (accepted format d .disk) (emptyBook (segmentsIn (d .card)))
 unfolding questions accepted formatted emptyBook
@@ -135,7 +136,7 @@ start-inv d h =
     let k : cardLength (d .card) ≡ true = card-length d (yes-all format d h 0) in
     let n = segmentsIn (d .card) in
     let (l, p) = card-size (d .card) k in
-    live (accepted format d .disk) (emptyBook n) (start-sim n (d .card) p l) (empty-told n) (start-tied (accepted format d .disk) n refl) refl
+    live (accepted format d .disk) (emptyBook n) (start-sim n (d .card) p l) (empty-told n) (start-tied (accepted format d .disk) n allNumbers refl) refl
     (omega (arith, card-few (d .card) k, length-replicate {A = List Waiting} n []))
 
 pub begun-inv : (d : Disk) → refusal format d ≡ 0 → Inv (begun d .world) (begun d .book)

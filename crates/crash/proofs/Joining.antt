@@ -17,8 +17,9 @@ use Rattle.log.proofs.Replay.{replay-append}
 use Rattle.log.proofs.Segment.{Sized, carries-walk}
 use Rattle.log.proofs.Places.{Good}
 use Rattle.log.proofs.Flows.{AllGood, flows-append}
+use Rattle.disk.specs.Record.{withListed}
 use Rattle.disk.specs.Disk.{Disk, queued, unitOf, journalOf, readerOf, committedReader, committed}
-use Rattle.disk.specs.Perform.{enqueue, enqueueAll, journalAdd, closing as closingUnit, unitEntries}
+use Rattle.disk.specs.Perform.{enqueue, enqueueAll, journalAdd, relisted, closing as closingUnit, unitEntries}
 use Rattle.disk.proofs.Queue.{queued-add, AllSized, queued-all, beside-one, beside-all, queued-journal, queued-closing}
 use Rattle.disk.proofs.Journal.{journal-add, journal-other, journal-enqueue, journal-enqueueAll, journal-closing, journal-closing-other, unit-entries}
 use Rattle.disk.proofs.Clauses.{Right, committed-is}
@@ -143,15 +144,15 @@ unit-tells : (cs run : List (Change Written)) → cs ∷ [] ≡ tell run (unitEn
 unfolding unitEntries
 unit-tells cs run = sym (tell-unit cs run)
 
-pub join-unit : (d : Disk) (b : Book) (u : ℕ) (s : State Written) → Right d → Live d b → 1 ≤ u → u ≤ 4 → d .rec .ring .len + suc (length (journalOf d u)) ≤ 32
+pub join-unit : (d : Disk) (b : Book) (u : ℕ) (f s : State Written) → Right d → Live d b → 1 ≤ u → u ≤ 4 → d .rec .ring .len + suc (length (journalOf d u)) ≤ 32
     → AllGood (unitEntries (journalOf d u)) → AllSized (unitEntries (journalOf d u)) → applyAll (journalOf d u) (committed d) ≡ some s
-    → Live (closingUnit u (enqueueAll (unitEntries (journalOf d u)) d)) (joinUnit u b)
-unfolding joinUnit joinHistory withBatch closingUnit batchOf
-join-unit d b u s r i p q m g z a =
-    join-line d (closingUnit u x) b (joinUnit u b) es (batchOf b u ∷ []) (settled s) i
+    → Live (closingUnit u f (enqueueAll (unitEntries (journalOf d u)) d)) (joinUnit u b)
+unfolding joinUnit joinHistory withBatch closingUnit relisted withListed batchOf
+join-unit d b u f s r i p q m g z a =
+    join-line d (closingUnit u f x) b (joinUnit u b) es (batchOf b u ∷ []) (settled s) i
     (record {
       card = beside-all es d .card;
-      queue = queued-closing u x ∙ queued-all es d (r .log .queueData) (r .log .places) (omega (arith, unit-entries (journalOf d u))) z;
+      queue = queued-closing u f x ∙ queued-all es d (r .log .queueData) (r .log .places) (omega (arith, unit-entries (journalOf d u))) z;
       done = beside-all es d .done;
       segs = refl;
       line = line-unit (b .line) n (batchOf b u) ∙ ap (λ (cs : List (Change Written)). b .line ++ label n (unitEntries cs)) (sym same);
@@ -178,7 +179,7 @@ join-unit d b u s r i p q m g z a =
     run : List (Change Written)
     run = runAfter [] (i .told .entries)
 
-    journals : (v : ℕ) → 1 ≤ v → v ≤ 4 → Dec (u ≡ v) → journalOf (closingUnit u x) v ≡ batchOf (joinUnit u b) v
-    journals v y w (yes e) = rw (← e) (journal-closing u x ∙ sym (batch-dropped b u u refl))
+    journals : (v : ℕ) → 1 ≤ v → v ≤ 4 → Dec (u ≡ v) → journalOf (closingUnit u f x) v ≡ batchOf (joinUnit u b) v
+    journals v y w (yes e) = rw (← e) (journal-closing u f x ∙ sym (batch-dropped b u u refl))
     journals v y w (no e) =
-        journal-closing-other u v x p y e ∙ journal-enqueueAll es d v ∙ i .tied refl .journals v y w ∙ sym (batch-other b u v [] (omega arith))
+        journal-closing-other u v f x p y e ∙ journal-enqueueAll es d v ∙ i .tied refl .journals v y w ∙ sym (batch-other b u v [] (omega arith))

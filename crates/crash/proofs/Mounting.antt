@@ -5,13 +5,14 @@ use mathlib.Core.List.{List, [], map}
 use Prim.Native.Nat.{ℕ, _*_, _/_, _%_, _≤_, _<_}
 use native.Mathlib.Omega.{arith}
 use lib.ListN.{length, length-map}
+use lib.Seq.{take-append-seam}
 use Rattle.lists.specs.Basic.{isSome, joined}
 use Rattle.lists.specs.State.{State, empty, applyAll}
 use Rattle.lists.proofs.Basic.{eq-true, le-true}
 use Rattle.log.specs.Reader.{Reader, start, replay}
 use Rattle.log.specs.Card.{Written, cardLength, sound, mounted}
 use Rattle.log.proofs.Segment.{Carries, carries-walk}
-use Rattle.disk.specs.Record.{freshRecord}
+use Rattle.disk.specs.Record.{freshRecord, listedIn, withListed}
 use Rattle.disk.specs.Disk.{withRecord, readerOf, stateOf, persistent, view}
 use Rattle.disk.specs.Sound.{lengthsRight}
 use Rattle.disk.specs.Call.{mount}
@@ -37,7 +38,12 @@ module _ (c : List ℕ) (x : Rest) (z : Reader Written) (w : mounted c ≡ sound
 
   mount-shows : refusal mount (leaves c x) ≡ 0 → (v : ℕ) → view (perform mount (leaves c x) .disk) v ≡ z .state
   unfolding perform accepted persistent leaves readerOf stateOf
-  mount-shows q v = rw (q, perform) (fresh-view (withRecord (leaves c x) freshRecord) refl v ∙ ap {B = State Written} (λ o. stateOf (readerOf o)) w)
+  mount-shows q v = rw (q, perform) (fresh-view (withRecord (leaves c x) (freshRecord (persistent (leaves c x) .free))) (persistent (leaves c x) .free) refl v ∙ ap {B = State Written} (λ o. stateOf (readerOf o)) w)
+
+  -- the record's own order of the free numbers is the state's
+  mount-lists : refusal mount (leaves c x) ≡ 0 → listedIn (perform mount (leaves c x) .disk .rec) ≡ z .state .free
+  unfolding perform accepted freshRecord withListed listedIn persistent leaves readerOf stateOf
+  mount-lists q = rw (q, perform) (take-append-seam (persistent (leaves c x) .free) _ ∙ ap {B = List ℕ} (λ o. stateOf (readerOf o) .free) w)
 
 pub kept : (c : List ℕ) (b : Book) → Carries c (placedEntries b) → length (b .segs) ≤ 64 → Shown (b .segs) (b .history) → Kept c b
 unfolding placedEntries onCard
@@ -47,6 +53,7 @@ kept c b h m s =
       prefix = ap (λ (l : List Act). applyAll (joined l) empty) (s .prefix) ∙ replay-acts (s .entries) start (s .reader) (s .replays);
       mounts = λ x l. accepts x l;
       shows = λ x l v. mount-shows c x (s .reader) walks (accepts x l) v;
+      order = λ x l. mount-lists c x (s .reader) walks (accepts x l);
     }
   where
     walks : mounted c ≡ sound (s .reader)

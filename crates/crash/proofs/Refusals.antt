@@ -8,11 +8,14 @@ use native.Mathlib.Omega.{arith}
 use native.Mathlib.Decide.{ℕ-discrete}
 use lib.Dec.{eqb}
 use lib.ListN.{length-set}
+use Rattle.lists.specs.State.{State}
+use Rattle.log.specs.Card.{Written}
 use Rattle.lists.proofs.Basic.{eqb-true}
+use Rattle.disk.specs.Record.{withListed}
 use Rattle.disk.specs.Disk.{Disk, unitOf, journalOf}
 use Rattle.disk.specs.Call.{Call, end, ends}
 use Rattle.disk.specs.Questions.{questions, refusal}
-use Rattle.disk.specs.Perform.{closing, conflicted, refused}
+use Rattle.disk.specs.Perform.{relisted, givenUp, closing, conflicted, refused}
 use Rattle.disk.proofs.Queue.{queued-closing, queued-conflicted}
 use Rattle.disk.proofs.Journal.{journal-closing, journal-closing-other, journal-conflicted}
 use Rattle.disk.proofs.Questions.{past, twelve-end, unit-range}
@@ -32,32 +35,32 @@ unfolding lend
 unchanged p w b i = rw (back-record p (w .disk) (w .disk .rec)) i
 
 -- Refusal 12.
-closed-tied : (v : ℕ) (d : Disk) (b : Book) (u : ℕ) → 1 ≤ u → Tied d b → Tied (conflicted v (closing u d)) (withBatch b u [])
-unfolding conflicted closing withBatch
-closed-tied v d b u p t =
+closed-tied : (v : ℕ) (s : State Written) (d : Disk) (b : Book) (u : ℕ) → 1 ≤ u → Tied d b → Tied (conflicted v (closing u s d)) (withBatch b u [])
+unfolding conflicted closing relisted withListed withBatch
+closed-tied v s d b u p t =
     record {
-      queue = queued-conflicted v (closing u d) ∙ queued-closing u d ∙ t .queue;
+      queue = queued-conflicted v (closing u s d) ∙ queued-closing u s d ∙ t .queue;
       done = t .done;
-      journals = λ w x y. journal-conflicted v (closing u d) w ∙ journals w x y (ℕ-discrete u w);
+      journals = λ w x y. journal-conflicted v (closing u s d) w ∙ journals w x y (ℕ-discrete u w);
       once = once-with b u [] p (batch-dropped b u u refl) tt (t .once);
     }
   where
-    journals : (w : ℕ) → 1 ≤ w → w ≤ 4 → Dec (u ≡ w) → journalOf (closing u d) w ≡ batchOf (withBatch b u []) w
-    journals w x y (yes e) = rw (← e) (journal-closing u d ∙ sym (batch-dropped b u u refl))
-    journals w x y (no e) = journal-closing-other u w d p x e ∙ t .journals w x y ∙ sym (batch-other b u w [] (omega arith))
+    journals : (w : ℕ) → 1 ≤ w → w ≤ 4 → Dec (u ≡ w) → journalOf (closing u s d) w ≡ batchOf (withBatch b u []) w
+    journals w x y (yes e) = rw (← e) (journal-closing u s d ∙ sym (batch-dropped b u u refl))
+    journals w x y (no e) = journal-closing-other u w s d p x e ∙ t .journals w x y ∙ sym (batch-other b u w [] (omega arith))
 
-back-closed : (p : Parts) (d : Disk) (v u : ℕ) → giveBack p d (conflicted v (closing u (lend p d))) ≡ conflicted v (closing u d)
-unfolding lend conflicted closing unitOf
-back-closed p d v u = back-record p d (conflicted v (closing u d) .rec)
+back-closed : (p : Parts) (s : State Written) (d : Disk) (v u : ℕ) → giveBack p d (conflicted v (closing u s (lend p d))) ≡ conflicted v (closing u s d)
+unfolding lend conflicted closing givenUp relisted withListed unitOf
+back-closed p s d v u = back-record p d (conflicted v (closing u s d) .rec)
 
-closed-inv : (p : Parts) (w : World) (b : Book) (v u : ℕ) → 1 ≤ u → Inv w b → Inv (after p w (conflicted v (closing u (lend p (w .disk))))) (withBatch b u [])
-unfolding conflicted closing withBatch placedEntries
-closed-inv p w b v u l i =
-    rw (back-closed p (w .disk) v u)
+closed-inv : (p : Parts) (s : State Written) (w : World) (b : Book) (v u : ℕ) → 1 ≤ u → Inv w b → Inv (after p w (conflicted v (closing u s (lend p (w .disk))))) (withBatch b u [])
+unfolding conflicted closing relisted withListed withBatch placedEntries
+closed-inv p s w b v u l i =
+    rw (back-closed p s (w .disk) v u)
     (record {
       sim = i .sim;
       told = withBatch-told b u [] (i .told);
-      tied = λ e. closed-tied v (w .disk) b u l (i .tied e);
+      tied = λ e. closed-tied v s (w .disk) b u l (i .tied e);
       four = length-set (b .batches) (u - 1) [] ∙ i .four;
       few = i .few;
     })
@@ -79,5 +82,5 @@ refused-inv c m p w b h i = go (ends c) refl (eqb (suc m) 12) refl
   where
     go : (o : Option ℕ) → ends c ≡ o → (f : Bool) → eqb (suc m) 12 ≡ f → Inv (after p w (refused c (suc m) (lend p (w .disk)))) (bookRefused c (suc m) b)
     go none o f e = rw (o, refused, bookRefused) (unchanged p w b i)
-    go (some u) o true e = rw (o, refused, bookRefused) (rw (e, refused, bookRefused) (closed-inv p w b _ u (end-range c u (lend p (w .disk)) o (h ∙ eqb-true (suc m) 12 e)) i))
+    go (some u) o true e = rw (o, refused, bookRefused) (rw (e, refused, bookRefused) (closed-inv p _ w b _ u (end-range c u (lend p (w .disk)) o (h ∙ eqb-true (suc m) 12 e)) i))
     go (some u) o false e = rw (o, refused, bookRefused) (rw (e, refused, bookRefused) (unchanged p w b i))

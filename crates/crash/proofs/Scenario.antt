@@ -12,7 +12,7 @@ use Rattle.lists.specs.Change.{takeList, putFirst}
 use Rattle.lists.specs.State.{State, state, row, block}
 use Rattle.lists.specs.Takings.{undeleted, inForce}
 use Rattle.log.specs.Card.{Written}
-use Rattle.disk.specs.Record.{freshRecord, withFlow}
+use Rattle.disk.specs.Record.{blankRecord, listedIn, withFlow}
 use Rattle.disk.specs.Disk.{Disk, view}
 use Rattle.disk.specs.Call.{newList, newBlock, deleteList, inventory, Call, mount, onStream, inView, begin, end, flush}
 use Rattle.disk.specs.Perform.{perform}
@@ -24,7 +24,7 @@ use Rattle.crash.specs.History.{listsIn}
 
 -- two segments and both data buffers full of 170
 pub blank : Disk
-blank = record { card = replicate 8192 170; queueData = replicate 8192 170; journalData = replicate 15360 170; rec = freshRecord }
+blank = record { card = replicate 8192 170; queueData = replicate 8192 170; journalData = replicate 15360 170; rec = blankRecord }
 
 front : ℕ → Part
 front n = record { from = 0; size = n }
@@ -38,7 +38,7 @@ partly c = called c (record { card = front 8191; queueData = front 8192; journal
 
 -- what a cut leaves beside the card: other bytes, and a record that is not sound
 other : Rest
-other = record { queueData = replicate 8192 9; journalData = replicate 15360 9; rec = withFlow freshRecord 170 170 170 }
+other = record { queueData = replicate 8192 9; journalData = replicate 15360 9; rec = withFlow blankRecord 170 170 170 }
 
 pub events : List Event
 events =
@@ -84,9 +84,9 @@ pub comes-to :
 unfolding playing last mountedState
 comes-to = (refl, refl)
 
--- A list taken again: 1 and 2 are taken and 1 deleted; after a mount 1 is given again, and unit 1 deletes list 2.
-pub retaken : List Event
-retaken =
+-- A number that rests: lists 1 and 2 are taken and 1 deleted; after a mount 3 is given, and unit 1 deletes list 2.
+pub resting : List Event
+resting =
     wholly (onStream 0 newList)
     ∷ wholly (onStream 0 newList)
     ∷ wholly (onStream 0 (deleteList 1))
@@ -98,15 +98,16 @@ retaken =
     ∷ []
 
 pub again : Scene
-again = play (begun blank) retaken
+again = play (begun blank) resting
 
--- it stands behind list 2, whose taking is the earlier one; the persistent view has list 2 alone, the unit's list 1 alone
+-- 3 stands behind list 2, whose taking is the earlier one; the persistent view has list 2 alone, the unit's list 3 alone; list 1 is the last free one
 pub again-listed :
-    (valid (begun blank) retaken ≡ true)
-    × (listsIn (again .book) 0 ≡ 2 ∷ 1 ∷ []) × (listsIn (again .book) 5 ≡ 2 ∷ []) × (listsIn (again .book) 1 ≡ 1 ∷ [])
-    × (perform (inView 0 (inventory (replicate 16 9))) (again .world .disk) .lent ≡ 2 ∷ 1 ∷ replicate 14 9)
-unfolding playing retaken again listsIn joined inForce undeleted
-again-listed = (refl, refl, refl, refl, refl)
+    (valid (begun blank) resting ≡ true)
+    × (listsIn (again .book) 0 ≡ 2 ∷ 3 ∷ []) × (listsIn (again .book) 5 ≡ 2 ∷ []) × (listsIn (again .book) 1 ≡ 3 ∷ [])
+    × (perform (inView 0 (inventory (replicate 16 9))) (again .world .disk) .lent ≡ 2 ∷ 3 ∷ replicate 14 9)
+    × (listedIn (again .world .disk .rec) ≡ from (λ n. n) 1 64 ++ from (λ n. n) 68 13 ++ 65 ∷ [])
+unfolding playing resting again listsIn joined inForce undeleted
+again-listed = (refl, refl, refl, refl, refl, refl)
 
 -- Lists that go with their units: unit 1 takes list 2 and puts a block on it, and the power fails one store before its commit. After the mount unit 2 takes
 -- list 2, stream 0 list 3, and unit 2 ends.

@@ -18,7 +18,7 @@ use Rattle.lists.proofs.Distinct.{Distinct, empty-distinct, apply-distinct}
 use Rattle.lists.proofs.Placed.{placed-changed}
 use Rattle.lists.proofs.Written.{writes, written-changed, written-put}
 use Rattle.log.specs.Card.{Written}
-use Rattle.disk.specs.Record.{freshRecord}
+use Rattle.disk.specs.Record.{blankRecord}
 use Rattle.disk.specs.Disk.{Disk, persistent, view}
 use Rattle.disk.specs.Call.{mount}
 use Rattle.disk.specs.Perform.{Result, accepted}
@@ -75,7 +75,7 @@ written-told b cs s e h = changes-say b none cs empty s empty-distinct e (λ p. 
 
 -- some lent data
 rest : Rest
-rest = record { queueData = replicate 8192 0; journalData = replicate 15360 0; rec = freshRecord }
+rest = record { queueData = replicate 8192 0; journalData = replicate 15360 0; rec = blankRecord }
 
 rest-lent : Lent rest
 unfolding rest

@@ -11,6 +11,7 @@ use lib.ListN.{length}
 use Rattle.lists.specs.Basic.{joined}
 use Rattle.lists.specs.State.{State, empty, applyAll}
 use Rattle.log.specs.Card.{Written, segmentsIn}
+use Rattle.disk.specs.Record.{listedIn}
 use Rattle.disk.specs.Disk.{Disk, view}
 use Rattle.disk.specs.Call.{format, mount, flush}
 use Rattle.disk.specs.Questions.{refusal}
@@ -53,12 +54,13 @@ abbrev pub Lent : Rest → Type 0
 Lent x = (length (x .queueData) ≡ 8192) × (length (x .journalData) ≡ 15360)
 
 -- A card keeps what the book says: the history's longest prefix acts ("A prefix acts on the empty state, an End's changes in order."), every mounting is
--- accepted, and what it then shows, in whatever view, is the prefix's state: lists, blocks and contents, and "the log's order of freeing".
+-- accepted, and what it then shows, in whatever view, is the prefix's state: lists, blocks and contents, and "the log's order of freeing", which is the record's own then.
 pub record Kept (c : List ℕ) (b : Book) : Type 0 where
   pub state : State Written
   pub prefix : applyAll (joined (onCard b)) empty ≡ some state
   pub mounts : (x : Rest) → Lent x → refusal mount (leaves c x) ≡ 0
   pub shows : (x : Rest) → Lent x → (v : ℕ) → view (perform mount (leaves c x) .disk) v ≡ state
+  pub order : (x : Rest) → Lent x → listedIn (perform mount (leaves c x) .disk .rec) ≡ state .free
 
 abbrev pub Demand3 : Type 0
 Demand3 = Always (λ s. Kept (s .world .disk .card) (s .book))

@@ -16,7 +16,9 @@ use Rattle.disk.specs.Perform.{flowOf, flushed, afterFlush, endingNumber
 use Rattle.disk.specs.Statements.{FlushSum}
 use Rattle.disk.proofs.Queue.{queue-length}
 use Rattle.disk.proofs.Questions.{yes-all}
-use Rattle.disk.proofs.Clauses.{Right, right, right-lengths, right-sound}
+use Rattle.disk.proofs.KeepsOrder.{order-same}
+use Rattle.disk.proofs.AcceptedOrder.{reader-order}
+use Rattle.disk.proofs.Clauses.{Right, right, right-lengths, right-sound, OrderRight}
 use Rattle.disk.proofs.Performing.{perform-accepted}
 use Rattle.disk.proofs.Draining.{left, left-queue, left-right, turn}
 use Rattle.disk.proofs.Sequence.{left-flow, left-segments}
@@ -91,15 +93,20 @@ module _ (m n : ℕ) (d : Disk) (k : Right d) where
       ap (afterFlush d) (both-same .flow)
       ∙ sym (after-twice d (first .flow) (later .flow) (omega (arith, shorter n (left m d) k′, left-len m d)) (shorter m d k))
 
-pub flush-accepted : (a : ℕ) (d : Disk) → Right d → a ≤ 65535 → refusal (flush a) d ≡ 0
+left-order : (a : ℕ) (d : Disk) (k : Right d) → OrderRight d (k .reader .state) → OrderRight (left a d) (left-right a d k .reader .state)
+unfolding afterFlush left-right
+left-order a d k o = order-same d (left a d) (k .reader .state) (k .reader .state) refl refl refl refl o
+
+pub flush-accepted : (a : ℕ) (d : Disk) (k : Right d) → OrderRight d (k .reader .state) → a ≤ 65535 → refusal (flush a) d ≡ 0
 unfolding refusal questions firstNo ask
-flush-accepted a d k l = rw (right-lengths d k, right-sound d k, le-true a 65535 l)
+flush-accepted a d k o l = rw (right-lengths d k, right-sound d k o, le-true a 65535 l)
 
 pub flush-sum : FlushSum
 unfolding questions accepted
 flush-sum m n d h =
     let q = yes-all (flush (m + n)) d h in
     let k = right d (q 0) (q 1) in
+    let o = reader-order d k (q 1) in
     let l = leb-true (m + n) 65535 (q 2) in
-    rw (perform-accepted (flush (m + n)) d h, perform-accepted (flush m) d (flush-accepted m d k (omega arith)))
-    (rw (perform-accepted (flush n) (left m d) (flush-accepted n (left m d) (left-right m d k) (omega arith))) (left-sum m n d k, stores-sum m n d k, ap endingNumber (both-same m n d k .ending)))
+    rw (perform-accepted (flush (m + n)) d h, perform-accepted (flush m) d (flush-accepted m d k o (omega arith)))
+    (rw (perform-accepted (flush n) (left m d) (flush-accepted n (left m d) (left-right m d k) (left-order m d k o) (omega arith))) (left-sum m n d k, stores-sum m n d k, ap endingNumber (both-same m n d k .ending)))

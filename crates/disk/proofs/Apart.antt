@@ -9,7 +9,7 @@ use native.Mathlib.Omega.{arith}
 use lib.Dec.{leb, eqb}
 use lib.ListN.{length, getD}
 use Rattle.lists.specs.Change.{Change, takeList, putFirst, putAfter, write, delBlock, delList, carriedBy}
-use Rattle.lists.specs.State.{State, overlay}
+use Rattle.lists.specs.State.{Row, State, frees, overlay}
 use Rattle.lists.specs.InUse.{listNumber, inUse}
 use Rattle.lists.proofs.Basic.{and-true, eqb-same, leb-true}
 use Rattle.lists.proofs.InUse.{brought}
@@ -18,31 +18,21 @@ use Rattle.log.specs.Reader.{Reader}
 use Rattle.log.specs.Card.{Written, mounted}
 use Rattle.log.proofs.Segment.{Sized}
 use Rattle.log.proofs.Places.{Good}
-use Rattle.disk.specs.Record.{holderOf}
-use Rattle.disk.specs.Disk.{Disk, unitOf, queued, journalOf, readerOf, stateOf, persistent, committed, view}
+use Rattle.disk.specs.Record.{holderOf, withListed}
+use Rattle.disk.specs.Disk.{Disk, unitOf, queued, journalOf, readerOf, stateOf, persistent, committed, view, listing}
 use Rattle.disk.specs.Sound.{isOpenUnit}
 use Rattle.disk.specs.Call.{Edit, newList, Call, format, mount, conflictCount, onStream, inView, begin, end, flush, ends, resets}
 use Rattle.disk.specs.Questions.{streamOpen, viewOpen, editQuestions, questions, refusal}
-use Rattle.disk.specs.Perform.{Result, enqueue, enqueueAll, journalAdd, change, hold, gaveBlock, gaveList, noted, made, numberGiven, changeFor, opening, closing, conflicted, unitEntries, afterFlush, accepted, refused, perform}
+use Rattle.disk.specs.Perform.{Result, enqueue, enqueueAll, journalAdd, change, hold, relisted, given, freed, noted, made, numberGiven, changeFor, opening, closing, conflicted, unitEntries, afterFlush, accepted, refused, perform}
 use Rattle.disk.specs.Statements.{ListGiven, HeldUntilEnd, UnitApart, ConflictApart}
-use Rattle.disk.proofs.Queue.{beside-all, queued-journal, queued-hold, queued-gaveBlock, queued-gaveList, queued-closing, queued-conflicted, reader-same}
-use Rattle.disk.proofs.Journal.{journal-other, journal-hold, journal-gaveBlock, journal-gaveList, journal-closing-other, journal-conflicted}
-use Rattle.disk.proofs.Questions.{yes-all, past, unit-range, open-range, journal-room, list-number}
+use Rattle.disk.proofs.Queue.{beside-all, queued-journal, queued-hold, queued-relisted, queued-closing, queued-conflicted, reader-same}
+use Rattle.disk.proofs.Journal.{journal-other, journal-hold, journal-relisted, journal-closing-other, journal-conflicted}
+use Rattle.disk.proofs.Questions.{yes-all, past, unit-range, open-range, journal-room}
+use Rattle.disk.proofs.Given.{list-number}
 use Rattle.disk.proofs.Clauses.{Right, right}
-use Rattle.disk.proofs.Held.{closing-holder, hold-holder, hold-other}
+use Rattle.disk.proofs.Held.{closing-holder, hold-holder, hold-other, noted-by}
 use Rattle.disk.proofs.Changes.{Makes, edit-makes}
 use Rattle.disk.proofs.Performing.{perform-accepted, perform-refused}
-
--- What is noted of a number given: it is held, and counts as given last.
-noted-by : (P : Disk → Type 0) (s : ℕ) → ((n : ℕ) (d : Disk) → P d → P (hold s n d)) → ((b : ℕ) (d : Disk) → P d → P (gaveBlock b d))
-    → ((l : ℕ) (d : Disk) → P d → P (gaveList l d)) → (c : Change Written) (d : Disk) → P d → P (noted s c d)
-unfolding noted
-noted-by P s h b l (takeList x) d p = l x (hold s (listNumber x) d) (h (listNumber x) d p)
-noted-by P s h b l (putFirst x y) d p = b x (hold s x d) (h x d p)
-noted-by P s h b l (putAfter x y z) d p = b x (hold s x d) (h x d p)
-noted-by P s h b l (write x y) d p = p
-noted-by P s h b l (delBlock x) d p = p
-noted-by P s h b l (delList x) d p = p
 
 -- Holders.
 change-table : (s : ℕ) (c : Change Written) (d : Disk) → change s c d .rec .held .holder ≡ d .rec .held .holder
@@ -54,15 +44,20 @@ change-holder : (s : ℕ) (c : Change Written) (d : Disk) (n : ℕ) → holderOf
 change-holder s c d n = ap (λ (hs : List ℕ). getD hs (n - 1) 0) (change-table s c d)
 
 -- a number that is held stays so where free ones are given
-noted-holder : (s : ℕ) (c : Change Written) (d : Disk) (n : ℕ) → holderOf (d .rec) n ≢ 0 → ((x : ℕ) → brought c x ≡ true → holderOf (d .rec) x ≡ 0)
-    → holderOf (noted s c d .rec) n ≡ holderOf (d .rec) n
-unfolding noted gaveBlock gaveList
-noted-holder s (takeList l) d n h f = hold-other s (listNumber l) n d (f (listNumber l) (rw (eqb-same (listNumber l)))) h
-noted-holder s (putFirst b l) d n h f = hold-other s b n d (f b (rw (eqb-same b))) h
-noted-holder s (putAfter b l p) d n h f = hold-other s b n d (f b (rw (eqb-same b))) h
-noted-holder s (write b x) d n h f = refl
-noted-holder s (delBlock b) d n h f = refl
-noted-holder s (delList l) d n h f = refl
+freed-holder : (s : ℕ) (ns : List ℕ) (d : Disk) (n : ℕ) → holderOf (freed s ns d .rec) n ≡ holderOf (d .rec) n
+unfolding freed relisted withListed
+freed-holder zero ns d n = refl
+freed-holder (suc u) ns d n = refl
+
+noted-holder : (s : ℕ) (c : Change Written) (rs : List (Row Written)) (d : Disk) (n : ℕ) → holderOf (d .rec) n ≢ 0 → ((x : ℕ) → brought c x ≡ true → holderOf (d .rec) x ≡ 0)
+    → holderOf (noted s c rs d .rec) n ≡ holderOf (d .rec) n
+unfolding noted given relisted withListed
+noted-holder s (takeList l) rs d n h f = hold-other s (listNumber l) n d (f (listNumber l) (rw (eqb-same (listNumber l)))) h
+noted-holder s (putFirst b l) rs d n h f = hold-other s b n d (f b (rw (eqb-same b))) h
+noted-holder s (putAfter b l p) rs d n h f = hold-other s b n d (f b (rw (eqb-same b))) h
+noted-holder s (write b x) rs d n h f = refl
+noted-holder s (delBlock b) rs d n h f = freed-holder s (frees (delBlock b) rs) d n
+noted-holder s (delList l) rs d n h f = freed-holder s (frees (delList l) rs) d n
 
 edit-holder : (s : ℕ) (e : Edit) (d : Disk) (n : ℕ) → refusal (onStream s e) d ≡ 0 → holderOf (d .rec) n ≢ 0 → holderOf (accepted (onStream s e) d .disk .rec) n ≡ holderOf (d .rec) n
 unfolding accepted made
@@ -70,14 +65,14 @@ edit-holder s e d n h z =
     let c = changeFor e (numberGiven e d) in
     let m = edit-makes s e d h in
     let same = change-holder s c d in
-    noted-holder s c (change s c d) n (λ q. z (sym (same n) ∙ q)) (λ x q. same x ∙ m .free x q .0) ∙ same n
+    noted-holder s c (committed d .lists) (change s c d) n (λ q. z (sym (same n) ∙ q)) (λ x q. same x ∙ m .free x q .0) ∙ same n
 
 end-holder : (v : ℕ) (d : Disk) (n : ℕ) → holderOf (d .rec) n ≢ v → holderOf (accepted (end v) d .disk .rec) n ≡ holderOf (d .rec) n
 unfolding accepted
 end-holder v d n h =
     let x = enqueueAll (unitEntries (journalOf d v)) d in
     let e : holderOf (x .rec) n ≡ holderOf (d .rec) n = rw (beside-all (unitEntries (journalOf d v)) d .holder) in
-    closing-holder v x n (λ q. h (sym e ∙ q)) ∙ e
+    closing-holder v (overlay (journalOf d v) (listing d)) x n (λ q. h (sym e ∙ q)) ∙ e
 
 accepted-holder : (c : Call) (d : Disk) (n : ℕ) → refusal c d ≡ 0 → holderOf (d .rec) n ≢ 0 → resets c ≡ false → ends c ≢ some (holderOf (d .rec) n)
     → holderOf (accepted c d .disk .rec) n ≡ holderOf (d .rec) n
@@ -97,7 +92,7 @@ refused-holder c m d n o = go (ends c) refl (eqb m 12) refl
   where
     go : (x : Option ℕ) → ends c ≡ x → (t : Bool) → eqb m 12 ≡ t → holderOf (refused c m d .rec) n ≡ holderOf (d .rec) n
     go none e t q = rw (e, refused)
-    go (some u) e true q = rw (e, refused) (rw (q, refused) (closing-holder u d n (λ h. o (e ∙ ap some (sym h)))))
+    go (some u) e true q = rw (e, refused) (rw (q, refused) (closing-holder u (listing d) d n (λ h. o (e ∙ ap some (sym h)))))
     go (some u) e false q = rw (e, refused) (rw (q, refused))
 
 pub held-until-end : HeldUntilEnd
@@ -109,11 +104,11 @@ held-until-end c d n z r o = go (refusal c d) refl
 
 -- NewList's number.
 pub list-given : ListGiven
-unfolding questions editQuestions accepted made noted changeFor numberGiven gaveList
+unfolding questions editQuestions accepted made noted given relisted withListed changeFor numberGiven
 list-given s d h =
     let y = yes-all (onStream s newList) d h in
     let l = numberGiven newList d in
-    let (n, z, i) = list-number d (y 3) in
+    let (n, z, i) = list-number d (y 1) (y 3) in
     let (a, b) = edit-makes s newList d h .free (listNumber l) (rw (eqb-same (listNumber l))) in
     let t = right d (y 0) (y 1) .units .table in
     let x = change s (takeList l) d in
@@ -139,10 +134,10 @@ record Beside (d e : Disk) : Type 0 where
   queue : queued e ≡ queued d
   journals : (v : ℕ) → journalOf e v ≡ journalOf d v
 
-noted-beside : (s : ℕ) (c : Change Written) (d : Disk) → Beside d (noted s c d)
-unfolding hold gaveBlock gaveList
-noted-beside s c d =
-    noted-by (Beside d) s held gave-block gave-list c d (record { card = refl; queue = refl; journals = λ v. refl })
+noted-beside : (s : ℕ) (c : Change Written) (rs : List (Row Written)) (d : Disk) → Beside d (noted s c rs d)
+unfolding hold relisted
+noted-beside s c rs d =
+    noted-by (Beside d) s held listed c rs d (record { card = refl; queue = refl; journals = λ v. refl })
   where
     held-card : (s n : ℕ) (e : Disk) → hold s n e .card ≡ e .card
     held-card zero n e = refl
@@ -151,11 +146,8 @@ noted-beside s c d =
     held : (n : ℕ) (e : Disk) → Beside d e → Beside d (hold s n e)
     held n e b = record { card = held-card s n e ∙ b .card; queue = queued-hold s n e ∙ b .queue; journals = λ v. journal-hold s n e v ∙ b .journals v }
 
-    gave-block : (n : ℕ) (e : Disk) → Beside d e → Beside d (gaveBlock n e)
-    gave-block n e b = record { card = b .card; queue = queued-gaveBlock n e ∙ b .queue; journals = λ v. journal-gaveBlock n e v ∙ b .journals v }
-
-    gave-list : (n : ℕ) (e : Disk) → Beside d e → Beside d (gaveList n e)
-    gave-list n e b = record { card = b .card; queue = queued-gaveList n e ∙ b .queue; journals = λ v. journal-gaveList n e v ∙ b .journals v }
+    listed : (fs : List ℕ) (e : Disk) → Beside d e → Beside d (relisted fs e)
+    listed fs e b = record { card = b .card; queue = queued-relisted fs e ∙ b .queue; journals = λ v. journal-relisted fs e v ∙ b .journals v }
 
 plain-sized : (c : Change Written) → Good (plain c) → Sized (carriedBy c)
 unfolding carried
@@ -165,9 +157,9 @@ made-apart : (u : ℕ) (c : Change Written) (d : Disk) → streamOpen d (suc u) 
 unfolding made change journalAdd
 made-apart u c d o k m v n h =
     let x = journalAdd (suc u) c d in
-    let b = noted-beside (suc u) c x in
+    let b = noted-beside (suc u) c (committed d .lists) x in
     let (p, q, _) = open-range d u o in
-    views-same d (noted (suc u) c x) (b .card) (b .queue ∙ queued-journal (suc u) c d) v
+    views-same d (noted (suc u) c (committed d .lists) x) (b .card) (b .queue ∙ queued-journal (suc u) c d) v
     (λ w. let (y, z, _) = unit-range d v w in
     b .journals v ∙ journal-other (suc u) c d p q (k .journalData) (journal-room d u (m .journal)) (plain-sized c (m .good)) v y z n (k .units .units v y z .room)) h
 
@@ -184,11 +176,11 @@ unit-apart (suc u) e d z v n o = go (refusal (onStream (suc u) e) d) refl
     go (suc m) q = ap (λ (x : Result). view (x .disk) v) (perform-refused (onStream (suc u) e) d m q)
 
 pub conflict-apart : ConflictApart
-unfolding refusal questions refused ends conflicted closing
+unfolding refusal questions refused ends conflicted closing relisted withListed
 conflict-apart u d h v n o =
     let y = past 3 (questions (end u) d) 12 (omega arith) h in
     let (p, q, _) = unit-range d u (y 2 (omega arith)) in
     let w = unitOf d u .window in
     ap (λ (x : Result). view (x .disk) v) (perform-refused (end u) d 11 h)
-    ∙ views-same d (conflicted w (closing u d)) refl (queued-conflicted w (closing u d) ∙ queued-closing u d) v
-    (λ t. journal-conflicted w (closing u d) v ∙ journal-closing-other u v d p (unit-range d v t .0) n) o
+    ∙ views-same d (conflicted w (closing u (listing d) d)) refl (queued-conflicted w (closing u (listing d) d) ∙ queued-closing u (listing d) d) v
+    (λ t. journal-conflicted w (closing u (listing d) d) v ∙ journal-closing-other u v (listing d) d p (unit-range d v t .0) n) o

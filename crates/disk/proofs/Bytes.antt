@@ -13,7 +13,7 @@ use lib.Seq.{ext-getD, getD-set-same, getD-set-other}
 use Rattle.lists.specs.Basic.{from}
 use Rattle.lists.proofs.Basic.{from-length, from-get, from-ext, getD-same}
 use Rattle.log.specs.Cell.{Cell, cell}
-use Rattle.disk.specs.Record.{Unit, unit, Record, cellsIn, bytesIn, pairIn, pairsIn, unitIn, recordIn, noCell, noUnit, unitAt, holderOf, shaped, freshUnit, freshRecord, Ring, Held, Tally, withRing, withFlow, withHeld, withTally, withLastBlock, withLastList, emptied, journaled, holding, unitTurned, journalGrown, releasing, released}
+use Rattle.disk.specs.Record.{Unit, unit, Record, cellsIn, bytesIn, pairIn, pairsIn, unitIn, recordIn, noCell, noUnit, unitAt, holderOf, shaped, Ring, Held, Tally, withRing, withFlow, withHeld, withTally, emptied, journaled, holding, unitTurned, journalGrown, releasing, released}
 use Rattle.disk.specs.promises.Bytes.{cellSet}
 
 -- A list by its elements' numbers, with one element changed.
@@ -41,6 +41,10 @@ byte-read bs a n k l = from-get (λ j. getD bs (a + j) 0) 0 n k 0 l ∙ ap (λ (
 pub bytes-length : (bs : List ℕ) (a n : ℕ) → length (bytesIn bs a n) ≡ n
 unfolding bytesIn
 bytes-length bs a n = from-length (λ k. getD bs (a + k) 0) 0 n
+
+pub order-length : (bs : List ℕ) → length (recordIn bs .tally .order) ≡ 80
+unfolding recordIn
+order-length bs = bytes-length bs 493 80
 
 pub pair-read : (bs : List ℕ) (a n k : ℕ) → k < n → getD (pairsIn bs a n) k 0 ≡ pairIn bs (a + 2 * k)
 unfolding pairsIn
@@ -105,9 +109,9 @@ module _ (bs cs : List ℕ) where
   unfolding recordIn
   same-held h i = record { units = same-units (λ j p q. h j p (omega arith)) i; holder = same-holder (λ j p q. h j (omega arith) q) i }
 
-  same-tally : Agree bs cs 460 494 → recordIn cs .tally ≡ recordIn bs .tally
+  same-tally : Agree bs cs 460 573 → recordIn cs .tally ≡ recordIn bs .tally
   unfolding recordIn
-  same-tally h i = record { lastBlock = h 460 (omega arith) (omega arith) i; lastList = h 461 (omega arith) (omega arith) i; conflicts = same-pairs 462 16 (λ j p q. h j (omega arith) q) i }
+  same-tally h i = record { order = bytes-agree bs cs 493 80 (λ j p q. h j (omega arith) q) i; listed = h 460 (omega arith) (omega arith) i; conflicts = same-pairs 461 16 (λ j p q. h j (omega arith) (omega arith)) i }
 
   -- a unit more or less than it was
   units-set : (x : Unit) (i : ℕ) → i < 4 → unitIn cs i ≡ x → ((j : ℕ) → j < 4 → j ≢ i → unitIn cs j ≡ unitIn bs j) → from (unitIn cs) 0 4 ≡ set (from (unitIn bs) 0 4) i x
@@ -181,26 +185,26 @@ cells-at : (bs : List ℕ) (a n p i : ℕ) (c : Cell) → i ≡ a + 4 * p → p 
 cells-at bs a n p i c e l m = ap (λ (j : ℕ). cellsIn (cellSet bs j c) a n) e ∙ cells-set bs a n p c l m
 
 -- The parts changed, one by one: bytes cs, which agree with bs elsewhere.
-module _ (bs : List ℕ) (l : length bs ≡ 494) where
+module _ (bs : List ℕ) (l : length bs ≡ 573) where
   -- a byte elsewhere
   away : (i v j : ℕ) → j ≢ i → getD (set bs i v) j 0 ≡ getD bs j 0
   away i v j n = getD-set-other bs i j v 0 n
 
-  pub block-in : (v : ℕ) → recordIn (set bs 460 v) ≡ withLastBlock (recordIn bs) v
+  pub listed-in : (v : ℕ) → recordIn (set bs 460 v) ≡ withTally (recordIn bs) (recordIn bs .tally .order) v (recordIn bs .tally .conflicts)
   unfolding recordIn
-  block-in v =
+  listed-in v =
       let cs = set bs 460 v in
       let other = away 460 v in
       parts cs (same-ring bs cs (λ j p q. other j (λ z. omega arith)) (λ j p q. other j (λ z. omega arith))) (same-held bs cs (λ j p q. other j (λ z. omega arith)))
-      (λ i. record { lastBlock = getD-set-same bs 460 v 0 (omega arith) i; lastList = other 461 (λ z. omega arith) i; conflicts = same-pairs bs cs 462 16 (λ j p q. other j (λ z. omega arith)) i })
+      (λ i. record { order = bytes-agree bs cs 493 80 (λ j p q. other j (λ z. omega arith)) i; listed = getD-set-same bs 460 v 0 (omega arith) i; conflicts = same-pairs bs cs 461 16 (λ j p q. other j (λ z. omega arith)) i })
 
-  pub list-in : (v : ℕ) → recordIn (set bs 461 v) ≡ withLastList (recordIn bs) v
+  pub order-in : (x v : ℕ) → x < 80 → recordIn (set bs (493 + x) v) ≡ withTally (recordIn bs) (set (recordIn bs .tally .order) x v) (recordIn bs .tally .listed) (recordIn bs .tally .conflicts)
   unfolding recordIn
-  list-in v =
-      let cs = set bs 461 v in
-      let other = away 461 v in
+  order-in x v h =
+      let cs = set bs (493 + x) v in
+      let other = away (493 + x) v in
       parts cs (same-ring bs cs (λ j p q. other j (λ z. omega arith)) (λ j p q. other j (λ z. omega arith))) (same-held bs cs (λ j p q. other j (λ z. omega arith)))
-      (λ i. record { lastBlock = other 460 (λ z. omega arith) i; lastList = getD-set-same bs 461 v 0 (omega arith) i; conflicts = same-pairs bs cs 462 16 (λ j p q. other j (λ z. omega arith)) i })
+      (λ i. record { order = bytes-set bs 493 80 x v h (omega arith) i; listed = other 460 (λ z. omega arith) i; conflicts = same-pairs bs cs 461 16 (λ j p q. other j (λ z. omega arith)) i })
 
   pub holder-in : (x v : ℕ) → x < 80 → recordIn (set bs (376 + x) v) ≡ withHeld (recordIn bs) (recordIn bs .held .units) (set (recordIn bs .held .holder) x v)
   unfolding recordIn
@@ -216,10 +220,10 @@ module _ (bs : List ℕ) (l : length bs ≡ 494) where
   twice i v k w j n m = getD-set-other (set bs i v) k j w 0 m ∙ away i v j n
 
   pub count-in : (x a b : ℕ) → x < 16
-      → recordIn (set (set bs (462 + 2 * x) a) (462 + 2 * x + 1) b) ≡ withTally (recordIn bs) (recordIn bs .tally .lastBlock) (recordIn bs .tally .lastList) (set (recordIn bs .tally .conflicts) x (a + 256 * b))
+      → recordIn (set (set bs (461 + 2 * x) a) (461 + 2 * x + 1) b) ≡ withTally (recordIn bs) (recordIn bs .tally .order) (recordIn bs .tally .listed) (set (recordIn bs .tally .conflicts) x (a + 256 * b))
   unfolding recordIn pairsIn
   count-in x a b h =
-      let y = 462 + 2 * x in
+      let y = 461 + 2 * x in
       let cs = set (set bs y a) (y + 1) b in
       let other = twice y a (y + 1) b in
       let low : getD cs y 0 ≡ a = getD-set-other (set bs y a) (y + 1) y b 0 (λ z. omega arith) ∙ getD-set-same bs y a 0 (omega arith) in
@@ -227,11 +231,11 @@ module _ (bs : List ℕ) (l : length bs ≡ 494) where
       parts cs (same-ring bs cs (λ j p q. other j (λ z. omega arith) (λ z. omega arith)) (λ j p q. other j (λ z. omega arith) (λ z. omega arith)))
       (same-held bs cs (λ j p q. other j (λ z. omega arith) (λ z. omega arith)))
       (λ i. record {
-        lastBlock = other 460 (λ z. omega arith) (λ z. omega arith) i;
-        lastList = other 461 (λ z. omega arith) (λ z. omega arith) i;
+        order = bytes-agree bs cs 493 80 (λ j p q. other j (λ z. omega arith) (λ z. omega arith)) i;
+        listed = other 460 (λ z. omega arith) (λ z. omega arith) i;
         conflicts =
-            from-set 0 (λ k. pairIn bs (462 + 2 * k)) (λ k. pairIn cs (462 + 2 * k)) 16 x (a + 256 * b) h (λ j. low j + 256 * high j)
-            (λ k l n. same-pair bs cs (462 + 2 * k) (λ j p q. other j (λ z. n (omega arith)) (λ z. n (omega arith)))) i;
+            from-set 0 (λ k. pairIn bs (461 + 2 * k)) (λ k. pairIn cs (461 + 2 * k)) 16 x (a + 256 * b) h (λ j. low j + 256 * high j)
+            (λ k l n. same-pair bs cs (461 + 2 * k) (λ j p q. other j (λ z. n (omega arith)) (λ z. n (omega arith)))) i;
       })
 
   pub turn-in : (i o : ℕ) → i < 4 → recordIn (set (set bs (368 + i) o) (372 + i) 0) ≡ withHeld (recordIn bs) (set (recordIn bs .held .units) i (emptied o (unitIn bs i))) (recordIn bs .held .holder)
@@ -264,7 +268,7 @@ module _ (bs : List ℕ) (l : length bs ≡ 494) where
   append-in p v c h =
       let ds = cellSet bs (4 * p) c in
       let cs = set ds 457 v in
-      let m : length ds ≡ 494 = cellSet-length bs (4 * p) c (omega arith) ∙ l in
+      let m : length ds ≡ 573 = cellSet-length bs (4 * p) c (omega arith) ∙ l in
       let other : (j : ℕ) → 128 ≤ j → j ≢ 457 → getD cs j 0 ≡ getD bs j 0 = λ j a n. celled (4 * p) 457 v j c (omega arith) (omega arith) (inr (omega arith)) n in
       parts cs
       (λ i. record {
@@ -283,7 +287,7 @@ module _ (bs : List ℕ) (l : length bs ≡ 494) where
       let a = 128 + 4 * (15 * i + n) in
       let ds = cellSet bs a c in
       let cs = set ds (372 + i) v in
-      let m : length ds ≡ 494 = cellSet-length bs a c (omega arith) ∙ l in
+      let m : length ds ≡ 573 = cellSet-length bs a c (omega arith) ∙ l in
       let other : (j : ℕ) → j < a ⊎ a + 4 ≤ j → j ≢ 372 + i → getD cs j 0 ≡ getD bs j 0 = λ j s o. celled a (372 + i) v j c (omega arith) (omega arith) s o in
       let cells : cellsIn cs (128 + 60 * i) 15 ≡ set (cellsIn bs (128 + 60 * i) 15) n c =
       cells-agree ds cs (128 + 60 * i) 15 (λ j x y. getD-set-other ds (372 + i) j v 0 (λ z. omega arith)) ∙ cells-at bs (128 + 60 * i) 15 n a c (omega arith) g (omega arith) in
@@ -318,9 +322,9 @@ module _ (bs : List ℕ) (l : length bs ≡ 494) where
       let w = set y 458 a in
       let cs = set w 459 b in
       let other = flowed h n a b in
-      let lx : length x ≡ 494 = length-set bs 456 h ∙ l in
-      let ly : length y ≡ 494 = length-set x 457 n ∙ lx in
-      let lw : length w ≡ 494 = length-set y 458 a ∙ ly in
+      let lx : length x ≡ 573 = length-set bs 456 h ∙ l in
+      let ly : length y ≡ 573 = length-set x 457 n ∙ lx in
+      let lw : length w ≡ 573 = length-set y 458 a ∙ ly in
       let head : getD cs 456 0 ≡ h = getD-set-other w 459 456 b 0 (λ z. omega arith) ∙ getD-set-other y 458 456 a 0 (λ z. omega arith) ∙ getD-set-other x 457 456 n 0 (λ z. omega arith) ∙ getD-set-same bs 456 h 0 (omega arith) in
       let len : getD cs 457 0 ≡ n = getD-set-other w 459 457 b 0 (λ z. omega arith) ∙ getD-set-other y 458 457 a 0 (λ z. omega arith) ∙ getD-set-same x 457 n 0 (omega arith) in
       let low : getD cs 458 0 ≡ a = getD-set-other w 459 458 b 0 (λ z. omega arith) ∙ getD-set-same y 458 a 0 (omega arith) in
@@ -330,11 +334,11 @@ module _ (bs : List ℕ) (l : length bs ≡ 494) where
 
 -- What unit u holds, given up block by block: bytes cs when those before number i + 1 are done.
 pub record Freed (u : ℕ) (bs cs : List ℕ) (i : ℕ) : Type 0 where
-  pub size : length cs ≡ 494
+  pub size : length cs ≡ 573
   pub done : (k : ℕ) → k < i → getD cs (376 + k) 0 ≡ cond (eqb (getD bs (376 + k) 0) u) 0 (getD bs (376 + k) 0)
   pub others : (j : ℕ) → j < 376 ⊎ 376 + i ≤ j → getD cs j 0 ≡ getD bs j 0
 
-pub freed-none : (u : ℕ) (bs : List ℕ) → length bs ≡ 494 → Freed u bs bs 0
+pub freed-none : (u : ℕ) (bs : List ℕ) → length bs ≡ 573 → Freed u bs bs 0
 freed-none u bs l = record { size = l; done = λ k h. absurd (omega arith); others = λ j h. refl }
 
 pub freed-more : (u : ℕ) (bs cs : List ℕ) (i v : ℕ) → i < 80 → Freed u bs cs i → v ≡ cond (eqb (getD cs (376 + i) 0) u) 0 (getD cs (376 + i) 0)

@@ -29,7 +29,8 @@ use Rattle.disk.specs.Call.{Edit, newList, newBlock, writeBlock, deleteB
 use Rattle.disk.specs.Questions.{predecessorRight, journalRoom, streamRoom, editQuestions, questions, refusal}
 use Rattle.disk.specs.Perform.{putAt, numberGiven, changeFor, unitEntries}
 use Rattle.disk.proofs.Queue.{AllSized}
-use Rattle.disk.proofs.Questions.{yes-all, in-range, list-number, block-number}
+use Rattle.disk.proofs.Questions.{yes-all, in-range}
+use Rattle.disk.proofs.Given.{list-number, block-number}
 
 -- Changes that may be placed.
 take-good : (l : ℕ) → isList l ≡ true → Good (plain (takeList l))
@@ -54,7 +55,7 @@ unfolding legal raw mapEntry mapChange legalChange carried carriedBy
 delList-good l h = record { lawful = h; sized = tt }
 
 -- Changes that apply.
-pub apply-applies : (c : Change Written) (s : State Written) → applies c (s .lists) ≡ true → apply c s ≡ some (state (changed c (s .lists)) (freeAfter c (s .lists) (s .free)))
+pub apply-applies : {D : Type 0} (c : Change D) (s : State D) → applies c (s .lists) ≡ true → apply c s ≡ some (state (changed c (s .lists)) (freeAfter c (s .lists) (s .free)))
 unfolding apply
 apply-applies c s h = guard-true (applies c (s .lists)) _ h
 
@@ -78,16 +79,16 @@ unfolding putAt
 put-brings b l zero n h = eqb-true b n (rw or-false at h)
 put-brings b l (suc p) n h = eqb-true b n (rw or-false at h)
 
--- a free block and a free list are not in use
-block-unused : (b : ℕ) (rs : List (Row Written)) → isBlock b ≡ true → placed b rs ≡ false → inUse b rs ≡ false
+-- a block that is not in use is on no list, a list that is not is not taken
+unused-block : (b : ℕ) (rs : List (Row Written)) → isBlock b ≡ true → inUse b rs ≡ false → placed b rs ≡ false
 unfolding inUse
-block-unused b rs i h = rw (and-true (leb 1 b) (leb b 64) i .1) h
+unused-block b rs i h = rw (and-true (leb 1 b) (leb b 64) i .1) at h
 
-list-unused : (l : ℕ) (rs : List (Row Written)) → isList l ≡ true → taken l rs ≡ false → inUse (listNumber l) rs ≡ false
+unused-list : (l : ℕ) (rs : List (Row Written)) → isList l ≡ true → inUse (listNumber l) rs ≡ false → taken l rs ≡ false
 unfolding inUse
-list-unused l rs i h =
+unused-list l rs i h =
     let n : 64 + l - 64 ≡ l = omega arith in
-    rw (lt-leb (64 + l) 64 (omega (arith, leb-true 1 l (and-true (leb 1 l) (leb l 16) i .0))), n) h
+    rw (lt-leb (64 + l) 64 (omega (arith, leb-true 1 l (and-true (leb 1 l) (leb l 16) i .0))), n) at h
 
 -- a change made on stream s of disk d: it goes to a queue or a journal that has room
 pub record Makes (s : ℕ) (c : Change Written) (d : Disk) : Type 0 where
@@ -102,18 +103,18 @@ unfolding questions editQuestions numberGiven changeFor applies
 edit-makes s newList d h =
     let y = yes-all (onStream s newList) d h in
     let l = numberGiven newList d in
-    let (n, z, i) = list-number d (y 3) in
+    let (n, z, i) = list-number d (y 1) (y 3) in
     record {
       journal = y 4;
       queue = y 5;
       good = take-good l i;
-      applying = λ e. take-applies l (committed d .lists) n;
-      free = λ x e. rw (← (eqb-true (listNumber l) x (rw or-false at e))) (z, list-unused l (committed d .lists) i n);
+      applying = λ e. take-applies l (committed d .lists) (unused-list l (committed d .lists) i n);
+      free = λ x e. rw (← (eqb-true (listNumber l) x (rw or-false at e))) (z, n);
     }
 edit-makes s (newBlock l p) d h =
     let y = yes-all (onStream s (newBlock l p)) d h in
     let b = numberGiven (newBlock l p) d in
-    let (n, z, i) = block-number d (y 6) in
+    let (n, z, i) = block-number d (y 1) (y 6) in
     let (a, c) = and-true (isList l) (leb p 64) (y 3) in
     record {
       journal = y 7;
@@ -121,8 +122,8 @@ edit-makes s (newBlock l p) d h =
       good = put-good b l p i a (leb-true p 64 c);
       applying =
           λ e. put-applies b l p (committed d .lists)
-          (at-zero (λ x. taken l (x .lists) ≡ true) s d e (y 4)) n (at-zero (λ x. predecessorRight (x .lists) l p ≡ true) s d e (y 5));
-      free = λ x e. rw (← (put-brings b l p x e)) (z, block-unused b (committed d .lists) i n);
+          (at-zero (λ x. taken l (x .lists) ≡ true) s d e (y 4)) (unused-block b (committed d .lists) i n) (at-zero (λ x. predecessorRight (x .lists) l p ≡ true) s d e (y 5));
+      free = λ x e. rw (← (put-brings b l p x e)) (z, n);
     }
 edit-makes s (writeBlock b n x) d h =
     let y = yes-all (onStream s (writeBlock b n x)) d h in

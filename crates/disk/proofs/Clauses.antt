@@ -1,23 +1,27 @@
 -- Questions 1 and 3 taken apart into facts, and put together again.
-use mathlib.Core.Path.{_≡_, refl, ap}
+use mathlib.Core.Path.{_≡_, refl, sym, ap, _∙_}
 use mathlib.Core.Logic.{_⊎_, inl, inr}
-use mathlib.Core.Bool.{Bool, true, false, _&&_, _||_, not, or-true, true≢false, false≢true}
+use mathlib.Core.Bool.{Bool, true, false, _&&_, _||_, not, cond, or-true, true≢false, false≢true}
 use mathlib.Core.Option.{some}
-use Prim.Native.Nat.{ℕ, zero, suc, _≤_, _<_}
+use mathlib.Core.List.{List, [], _∷_, _++_}
+use Prim.Native.Nat.{ℕ, zero, suc, _-_, _≤_, _<_}
 use native.Mathlib.Omega.{arith}
-use lib.Dec.{eqb}
-use lib.ListN.{length}
-use Rattle.lists.specs.Basic.{all, each, from}
+use lib.Dec.{leb, eqb}
+use lib.ListN.{length, take, drop, replicate, take-append-drop, length-take, length-drop}
+use lib.Seq.{drop-append-seam}
+use Rattle.lists.specs.Basic.{all, each, times, from}
 use Rattle.lists.specs.State.{State}
-use Rattle.lists.specs.InUse.{inUse}
+use Rattle.lists.specs.InUse.{inUse, isNumber}
+use Rattle.lists.specs.Numbers.{allNumbers}
 use Rattle.lists.proofs.Basic.{and-true, or-cases, not-false, eqb-true, leb-true, ltb-true, le-true, lt-true, eq-true, some-of, is-some, each-at, all-from, from-all}
-use Rattle.log.specs.Entry.{legal, raw, isBlock, isList}
+use Rattle.log.specs.Entry.{legal, raw}
 use Rattle.log.specs.Reader.{Reader}
 use Rattle.log.specs.Card.{Written, cardLength}
-use Rattle.disk.specs.Record.{Record, unitAt, holderOf, shaped, isOpen}
+use Rattle.disk.specs.Record.{Record, unitAt, holderOf, listedIn, padded, shaped, isOpen}
 use Rattle.disk.specs.Disk.{Disk, queued, unitOf, journalOf, committedReader, stateOf, committed}
-use Rattle.disk.specs.Sound.{lengthsRight, isOpenUnit, journalSound, unitSound, holderSound, headStanding, recordSound}
+use Rattle.disk.specs.Sound.{lengthsRight, isOpenUnit, journalSound, unitSound, holderSound, orderSound, listedSound, headStanding, recordSound}
 use Rattle.disk.proofs.Questions.{card-length, queue-data, journal-data}
+use Rattle.disk.proofs.Listing.{listed-length}
 
 -- the card, and the queue behind it, which replays to z
 pub record LogRight (d : Disk) (z : Reader Written) : Type 0 where
@@ -54,9 +58,15 @@ pub record Right (d : Disk) : Type 0 where
   pub log : LogRight d reader
   pub units : UnitsRight d (reader .state)
   pub journalData : length (d .journalData) ≡ 15360
-  pub lastBlock : isBlock (d .rec .tally .lastBlock) ≡ true
-  pub lastList : isList (d .rec .tally .lastList) ≡ true
   pub conflicts : length (d .rec .tally .conflicts) ≡ 16
+
+-- the order of the free numbers, over the committed state s
+pub record OrderRight (d : Disk) (s : State Written) : Type 0 where
+  pub places : length (d .rec .tally .order) ≡ 80
+  pub many : d .rec .tally .listed ≤ 80
+  pub behind : d .rec .tally .order ≡ padded (listedIn (d .rec))
+  pub range : all isNumber (listedIn (d .rec)) ≡ true
+  pub once : (n : ℕ) → 1 ≤ n → n ≤ 80 → times n (listedIn (d .rec)) ≡ cond (not (inUse n (s .lists)) && eqb (holderOf (d .rec) n) 0) 1 0
 
 pub committed-is : (d : Disk) (z : Reader Written) → committedReader d ≡ some z → committed d ≡ z .state
 unfolding committed stateOf
@@ -67,6 +77,7 @@ record Shape (r : Record) : Type 0 where
   queue : length (r .ring .queue) ≡ 32
   units : length (r .held .units) ≡ 4
   holder : length (r .held .holder) ≡ 80
+  order : length (r .tally .order) ≡ 80
   counts : length (r .tally .conflicts) ≡ 16
   journals : (u : ℕ) → 1 ≤ u → u ≤ 4 → length (unitAt r u .journal) ≡ 15
 
@@ -85,13 +96,15 @@ shape r h =
     let (h3, j3) = and-true _ (eqb (length (unitAt r 3 .journal)) 15) h4 in
     let (h2, j2) = and-true _ (eqb (length (unitAt r 2 .journal)) 15) h3 in
     let (h1, j1) = and-true _ (eqb (length (unitAt r 1 .journal)) 15) h2 in
-    let (i0, n) = and-true _ (eqb (length (r .tally .conflicts)) 16) h1 in
+    let (i1, n) = and-true _ (eqb (length (r .tally .conflicts)) 16) h1 in
+    let (i0, o) = and-true _ (eqb (length (r .tally .order)) 80) i1 in
     let (h0, k) = and-true _ (eqb (length (r .held .holder)) 80) i0 in
     let (q, u) = and-true (eqb (length (r .ring .queue)) 32) (eqb (length (r .held .units)) 4) h0 in
     record {
       queue = eqb-true _ 32 q;
       units = eqb-true _ 4 u;
       holder = eqb-true _ 80 k;
+      order = eqb-true _ 80 o;
       counts = eqb-true _ 16 n;
       journals = for-four (λ n. length (unitAt r n .journal) ≡ 15) (eqb-true _ 15 j1) (eqb-true _ 15 j2) (eqb-true _ 15 j3) (eqb-true _ 15 j4);
     }
@@ -99,7 +112,7 @@ shape r h =
 shape-shaped : (r : Record) → Shape r → shaped r ≡ true
 unfolding shaped
 shape-shaped r s =
-    rw (s .queue, s .units, s .holder, s .counts, s .journals 1 (omega arith) (omega arith), s .journals 2 (omega arith) (omega arith), s .journals 3 (omega arith) (omega arith), s .journals 4 (omega arith) (omega arith))
+    rw (s .queue, s .units, s .holder, s .order, s .counts, s .journals 1 (omega arith) (omega arith), s .journals 2 (omega arith) (omega arith), s .journals 3 (omega arith) (omega arith), s .journals 4 (omega arith) (omega arith))
 
 -- Clauses of a unit.
 pub open-window : (n : ℕ) → not (eqb n 0) ≡ true → 1 ≤ n
@@ -158,9 +171,9 @@ units-right d s e h us hs =
       holders = λ b p q. holder-right d s b e (all-from (holderSound d) (λ b. b) 1 80 hs b p (omega arith));
     }
 
-right-shaped : (d : Disk) (s : State Written) → length (d .rec .ring .queue) ≡ 32 → UnitsRight d s → length (d .rec .tally .conflicts) ≡ 16 → shaped (d .rec) ≡ true
+right-shaped : (d : Disk) (s : State Written) → length (d .rec .ring .queue) ≡ 32 → UnitsRight d s → OrderRight d s → length (d .rec .tally .conflicts) ≡ 16 → shaped (d .rec) ≡ true
 unfolding unitOf
-right-shaped d s q k n = shape-shaped (d .rec) (record { queue = q; units = k .four; holder = k .table; counts = n; journals = λ u a b. k .units u a b .places })
+right-shaped d s q k o n = shape-shaped (d .rec) (record { queue = q; units = k .four; holder = k .table; order = o .places; counts = n; journals = λ u a b. k .units u a b .places })
 
 right-units : (d : Disk) (s : State Written) → UnitsRight d s → all (unitSound d) (from (λ u. u) 1 4) ≡ true
 right-units d s k = from-all (unitSound d) (λ u. u) 1 4 (λ u p q. right-unit d u (k .units u p (omega arith)))
@@ -170,10 +183,10 @@ right-holders d s e k = from-all (holderSound d) (λ b. b) 1 80 (λ b p q. right
 
 -- The questions.
 pub right : (d : Disk) → lengthsRight d ≡ true → recordSound d ≡ true → Right d
-unfolding recordSound
+unfolding recordSound allNumbers
 right d l h =
     let r = d .rec in
-    let (z, e) = some-of (committedReader d) (each-at _ h 7) in
+    let (z, e) = some-of (committedReader d) (each-at _ h 6) in
     record {
       reader = z;
       log = record {
@@ -182,27 +195,80 @@ right d l h =
         places = shape r (each-at _ h 0) .queue;
         room = leb-true (r .ring .len) 32 (each-at _ h 1);
         head = ltb-true (r .ring .head) 32 (each-at _ h 2);
-        lawful = each-at _ h 5;
+        lawful = each-at _ h 4;
         replays = e;
-        stands = each-at _ h 8;
+        stands = each-at _ h 7;
       };
-      units = units-right d (z .state) (committed-is d z e) (each-at _ h 0) (each-at _ h 6) (each-at _ h 9);
+      units = units-right d (z .state) (committed-is d z e) (each-at _ h 0) (each-at _ h 5) (each-at _ h 8);
       journalData = journal-data d l;
-      lastBlock = each-at _ h 3;
-      lastList = each-at _ h 4;
       conflicts = shape r (each-at _ h 0) .counts;
     }
 
-pub right-sound : (d : Disk) → Right d → recordSound d ≡ true
-unfolding recordSound each
-right-sound d k =
+-- Clauses of the order of the free numbers.
+order-numbers : (r : Record) → orderSound r ≡ true → (r .tally .listed ≤ 80) × (all isNumber (listedIn r) ≡ true) × (all (λ n. eqb n 0) (drop (r .tally .listed) (r .tally .order)) ≡ true)
+unfolding orderSound
+order-numbers r h =
+    let (a, z) = and-true (leb (r .tally .listed) 80 && all isNumber (listedIn r)) _ h in
+    let (m, n) = and-true (leb (r .tally .listed) 80) (all isNumber (listedIn r)) a in
+    (leb-true (r .tally .listed) 80 m, n, z)
+
+all-zero : (xs : List ℕ) → all (λ n. eqb n 0) xs ≡ true → xs ≡ replicate (length xs) 0
+unfolding all
+all-zero [] h = refl
+all-zero (x ∷ xs) h = let (a, b) = and-true (eqb x 0) _ h in λ i. eqb-true x 0 a i ∷ all-zero xs b i
+
+zeros-padded : (r : Record) → length (r .tally .order) ≡ 80 → r .tally .listed ≤ 80 → all (λ n. eqb n 0) (drop (r .tally .listed) (r .tally .order)) ≡ true
+    → r .tally .order ≡ padded (listedIn r)
+unfolding listedIn
+zeros-padded r l m z =
+    let k = r .tally .listed in
+    let os = r .tally .order in
+    sym (take-append-drop k os)
+    ∙ ap (λ (xs : List ℕ). take k os ++ xs) (all-zero (drop k os) z ∙ ap (λ (n : ℕ). replicate n 0) (let e : length (drop k os) ≡ 80 - length (take k os) = omega (arith, length-drop k os, length-take k os) in e))
+
+padded-zeros : (r : Record) → r .tally .listed ≤ 80 → r .tally .order ≡ padded (listedIn r) → length (listedIn r) ≡ r .tally .listed → all (λ n. eqb n 0) (drop (r .tally .listed) (r .tally .order)) ≡ true
+unfolding all
+padded-zeros r m e l =
+    ap (λ (xs : List ℕ). all (λ n. eqb n 0) (drop (r .tally .listed) xs)) e
+    ∙ ap (λ (k : ℕ). all (λ n. eqb n 0) (drop k (padded (listedIn r)))) (sym l)
+    ∙ ap (all (λ n. eqb n 0)) (drop-append-seam (listedIn r) (replicate (80 - length (listedIn r)) 0))
+    ∙ zeros-all (80 - length (listedIn r))
+  where
+    zeros-all : (n : ℕ) → all (λ m. eqb m 0) (replicate n 0) ≡ true
+    zeros-all zero = refl
+    zeros-all (suc n) = zeros-all n
+
+order-sound : (d : Disk) (s : State Written) → OrderRight d s → orderSound (d .rec) ≡ true
+unfolding orderSound
+order-sound d s k = rw (le-true (d .rec .tally .listed) 80 (k .many), k .range) (padded-zeros (d .rec) (k .many) (k .behind) (listed-length (d .rec) (k .places) (k .many)))
+
+pub order-right : (d : Disk) → recordSound d ≡ true → OrderRight d (committed d)
+unfolding recordSound listedSound allNumbers
+order-right d h = record {
+  places = shape (d .rec) (each-at _ h 0) .order;
+  many = numbers .0;
+  behind = zeros-padded (d .rec) (shape (d .rec) (each-at _ h 0) .order) (numbers .0) (numbers .2);
+  range = numbers .1;
+  once = λ n p q. eqb-true _ _ (all-from (listedSound d) (λ b. b) 1 80 (each-at _ h 9) n p (omega arith));
+}
+  where
+    numbers : (d .rec .tally .listed ≤ 80) × (all isNumber (listedIn (d .rec)) ≡ true) × (all (λ n. eqb n 0) (drop (d .rec .tally .listed) (d .rec .tally .order)) ≡ true)
+    numbers = order-numbers (d .rec) (each-at _ h 3)
+
+right-order : (d : Disk) (s : State Written) → committed d ≡ s → OrderRight d s → all (listedSound d) allNumbers ≡ true
+unfolding listedSound allNumbers
+right-order d s e k = from-all (listedSound d) (λ b. b) 1 80 (λ n p q. rw e (eq-true _ _ (k .once n p (omega arith))))
+
+pub right-sound : (d : Disk) (k : Right d) → OrderRight d (k .reader .state) → recordSound d ≡ true
+unfolding recordSound each allNumbers
+right-sound d k o =
     let r = d .rec in
     let l = k .log in
     let z = k .reader in
-    rw (right-shaped d (z .state) (l .places) (k .units) (k .conflicts), le-true (r .ring .len) 32 (l .room), lt-true (r .ring .head) 32 (l .head))
-    (rw (k .lastBlock, k .lastList)
+    rw (right-shaped d (z .state) (l .places) (k .units) o (k .conflicts), le-true (r .ring .len) 32 (l .room), lt-true (r .ring .head) 32 (l .head))
+    (rw (order-sound d (z .state) o)
     (rw (l .lawful, right-units d (z .state) (k .units), is-some (committedReader d) z (l .replays), l .stands)
-    (rw (right-holders d (z .state) (committed-is d z (l .replays)) (k .units)))))
+    (rw (right-holders d (z .state) (committed-is d z (l .replays)) (k .units), right-order d (z .state) (committed-is d z (l .replays)) o))))
 
 pub right-lengths : (d : Disk) → Right d → lengthsRight d ≡ true
 unfolding lengthsRight

@@ -10,16 +10,17 @@ use native.Mathlib.Decide.{ℕ-discrete}
 use lib.Dec.{leb, eqb, eqb·suc-zero}
 use lib.ListN.{length, getD, set}
 use lib.Seq.{getD-set-same, getD-set-other}
-use Rattle.lists.specs.Change.{Change, takeList, putFirst, putAfter, write, delBlock, delList}
-use Rattle.lists.specs.InUse.{listNumber}
+use Rattle.lists.specs.Change.{Change}
+use Rattle.lists.specs.State.{Row}
 use Rattle.lists.proofs.Basic.{and-true, leb-true, eqb-same, eqb-false, eqb-true, getD-same}
 use Rattle.log.specs.Card.{Written}
-use Rattle.disk.specs.Record.{Record, freshRecord, countOf}
-use Rattle.disk.specs.Disk.{Disk, unitOf, journalOf}
+use Rattle.disk.specs.Record.{Record, blankRecord, freshRecord, countOf, withListed}
+use Rattle.disk.specs.Disk.{Disk, unitOf, journalOf, committed, listing}
 use Rattle.disk.specs.Call.{Call, format, mount, conflictCount, onStream, inView, begin, end, flush, ends, resets}
 use Rattle.disk.specs.Questions.{isWindow, questions, refusal}
-use Rattle.disk.specs.Perform.{enqueue, enqueueAll, journalAdd, change, hold, gaveBlock, gaveList, noted, made, numberGiven, changeFor, opening, closing, conflicted, unitEntries, afterFlush, accepted, refused, perform}
+use Rattle.disk.specs.Perform.{enqueue, enqueueAll, journalAdd, change, hold, relisted, noted, made, numberGiven, changeFor, opening, closing, conflicted, unitEntries, afterFlush, accepted, refused, perform}
 use Rattle.disk.specs.Statements.{countAfter, CountsMove}
+use Rattle.disk.proofs.Held.{noted-by}
 use Rattle.disk.proofs.Clauses.{right, open-window}
 use Rattle.disk.proofs.Performing.{perform-accepted, perform-refused, accepted-code, refusal-code}
 use Rattle.disk.proofs.Questions.{past, twelve-end, unit-range}
@@ -39,22 +40,17 @@ unfolding hold
 hold-counts zero b d = refl
 hold-counts (suc u) b d = refl
 
-noted-counts : (s : ℕ) (c : Change Written) (d : Disk) → counts (noted s c d) ≡ counts d
-unfolding noted gaveBlock gaveList
-noted-counts s (takeList l) d = hold-counts s (listNumber l) d
-noted-counts s (putFirst b l) d = hold-counts s b d
-noted-counts s (putAfter b l p) d = hold-counts s b d
-noted-counts s (write b x) d = refl
-noted-counts s (delBlock b) d = refl
-noted-counts s (delList l) d = refl
+noted-counts : (s : ℕ) (c : Change Written) (rs : List (Row Written)) (d : Disk) → counts (noted s c rs d) ≡ counts d
+unfolding relisted withListed
+noted-counts s c rs d = noted-by (λ e. counts e ≡ counts d) s (λ n e p. hold-counts s n e ∙ p) (λ fs e p. p) c rs d refl
 
 made-counts : (s : ℕ) (c : Change Written) (d : Disk) → counts (made s c d) ≡ counts d
 unfolding made
-made-counts s c d = noted-counts s c (change s c d) ∙ change-counts s c d
+made-counts s c d = noted-counts s c (committed d .lists) (change s c d) ∙ change-counts s c d
 
 -- An accepted call: the counts stay, but where it sets the record anew.
-accepted-counts : (c : Call) (d : Disk) → counts (accepted c d .disk) ≡ cond (resets c) (freshRecord .tally .conflicts) (counts d)
-unfolding accepted resets opening closing afterFlush
+accepted-counts : (c : Call) (d : Disk) → counts (accepted c d .disk) ≡ cond (resets c) (blankRecord .tally .conflicts) (counts d)
+unfolding accepted resets opening closing relisted withListed freshRecord afterFlush
 accepted-counts format d = refl
 accepted-counts mount d = refl
 accepted-counts (conflictCount w) d = refl
@@ -68,11 +64,11 @@ at-window : (w : ℕ) {xs ys : List ℕ} → xs ≡ ys → getD xs (w - 1) 0 ≡
 at-window w e = ap (λ (xs : List ℕ). getD xs (w - 1) 0) e
 
 accepted-moves : (c : Call) (d : Disk) (w : ℕ) → countOf (accepted c d .disk .rec) w ≡ countAfter c 0 d w
-unfolding countAfter freshRecord
+unfolding countAfter blankRecord
 accepted-moves c d w = at-window w (accepted-counts c d) ∙ go (resets c) (ends c)
   where
     go : (r : Bool) (o : Option ℕ)
-        → getD (cond r (freshRecord .tally .conflicts) (counts d)) (w - 1) 0
+        → getD (cond r (blankRecord .tally .conflicts) (counts d)) (w - 1) 0
         ≡ cond (r && true) 0 (elim o as (λ x. ℕ) [ none ↦ countOf (d .rec) w | some u ↦ cond (eqb 0 12 && eqb (unitOf d u .window) w) (min 65535 (countOf (d .rec) w + 1)) (countOf (d .rec) w) ])
     go true o = getD-same 16 (w - 1) 0
     go false none = refl
@@ -88,9 +84,9 @@ module _ (u : ℕ) (d : Disk) (h : refusal (end u) d ≡ 12) where
       let k = right d (y 0 (omega arith)) (y 1 (omega arith)) in
       (open-window (unitOf d u .window) o, k .units .units u p q .window, k .conflicts)
 
-  raised : (w : ℕ) → 1 ≤ w → countOf (conflicted (unitOf d u .window) (closing u d) .rec) w
+  raised : (w : ℕ) → 1 ≤ w → countOf (conflicted (unitOf d u .window) (closing u (listing d) d) .rec) w
       ≡ cond (eqb (unitOf d u .window) w) (min 65535 (countOf (d .rec) w + 1)) (countOf (d .rec) w)
-  unfolding conflicted closing
+  unfolding conflicted closing relisted withListed
   raised w a = go (ℕ-discrete (unitOf d u .window) w)
     where
       go : Dec (unitOf d u .window ≡ w)
@@ -105,7 +101,7 @@ refused-moves c d m w a h = go (ends c) refl (eqb (suc m) 12) refl
   where
     -- only an End is refused 12
     conflict : (u : ℕ) → ends c ≡ some u → eqb (suc m) 12 ≡ true
-        → countOf (conflicted (unitOf d u .window) (closing u d) .rec) w ≡ cond (eqb (unitOf d u .window) w) (min 65535 (countOf (d .rec) w + 1)) (countOf (d .rec) w)
+        → countOf (conflicted (unitOf d u .window) (closing u (listing d) d) .rec) w ≡ cond (eqb (unitOf d u .window) w) (min 65535 (countOf (d .rec) w + 1)) (countOf (d .rec) w)
     conflict u e f =
         let t : refusal c d ≡ 12 = h ∙ eqb-true (suc m) 12 f in
         let (v, g) = twelve-end c d t in

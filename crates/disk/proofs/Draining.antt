@@ -168,15 +168,13 @@ flush-log a d z l =
       stands = flush-stands a d z t;
     }
 
-pub left-right : (a : ℕ) (d : Disk) → Right d → Right (left a d)
+unfoldable pub left-right : (a : ℕ) (d : Disk) → Right d → Right (left a d)
 unfolding afterFlush
 left-right a d k = record {
   reader = k .reader;
   log = flush-log a d (k .reader) (k .log);
   units = units-same d (left a d) (k .reader .state) refl refl refl (k .units);
   journalData = k .journalData;
-  lastBlock = k .lastBlock;
-  lastList = k .lastList;
   conflicts = k .conflicts;
 }
 

@@ -80,41 +80,41 @@ module _ (bs cs : List ℕ) where
     len-fixed i l = ap (λ (u : Unit). u .len) (unit-fixed i l)
 
     -- the numbers behind the holders
-    numbers-fixed : IsBytes bs → IsBytes cs → (k : ℕ) → k < 6 → getD bs (456 + k) 0 ≡ getD cs (456 + k) 0
+    numbers-fixed : IsBytes bs → IsBytes cs → (k : ℕ) → k < 5 → getD bs (456 + k) 0 ≡ getD cs (456 + k) 0
     unfolding recordIn
     numbers-fixed x y k l = go k l
       where
         done : pairIn bs 458 ≡ pairIn cs 458
         done = ap (λ (r : Record). r .ring .done) e
 
-        go : (k : ℕ) → k < 6 → getD bs (456 + k) 0 ≡ getD cs (456 + k) 0
+        go : (k : ℕ) → k < 5 → getD bs (456 + k) 0 ≡ getD cs (456 + k) 0
         go zero h = ap (λ (r : Record). r .ring .head) e
         go (suc zero) h = ap (λ (r : Record). r .ring .len) e
         go (suc (suc zero)) h = omega (arith, done, x 458, y 458)
         go (suc (suc (suc zero))) h = omega (arith, done, x 458, y 458)
-        go (suc (suc (suc (suc zero)))) h = ap (λ (r : Record). r .tally .lastBlock) e
-        go (suc (suc (suc (suc (suc zero))))) h = ap (λ (r : Record). r .tally .lastList) e
-        go (suc (suc (suc (suc (suc (suc k)))))) h = absurd (omega arith)
+        go (suc (suc (suc (suc zero)))) h = ap (λ (r : Record). r .tally .listed) e
+        go (suc (suc (suc (suc (suc k))))) h = absurd (omega arith)
 
-    counts-fixed : IsBytes bs → IsBytes cs → (i : ℕ) → 462 ≤ i → i < 494 → getD bs i 0 ≡ getD cs i 0
+    counts-fixed : IsBytes bs → IsBytes cs → (i : ℕ) → 461 ≤ i → i < 493 → getD bs i 0 ≡ getD cs i 0
     unfolding recordIn
-    counts-fixed x y i p q = pairs-fixed x y 462 16 (ap (λ (r : Record). r .tally .conflicts) e) i p (omega arith)
+    counts-fixed x y i p q = pairs-fixed x y 461 16 (ap (λ (r : Record). r .tally .conflicts) e) i p (omega arith)
 
-    byte-fixed : IsBytes bs → IsBytes cs → (i : ℕ) → i < 494 → getD bs i 0 ≡ getD cs i 0
+    byte-fixed : IsBytes bs → IsBytes cs → (i : ℕ) → i < 573 → getD bs i 0 ≡ getD cs i 0
     unfolding recordIn
-    byte-fixed x y i l = go (decLt i 128) (decLt i 368) (decLt i 372) (decLt i 376) (decLt i 456) (decLt i 462)
+    byte-fixed x y i l = go (decLt i 128) (decLt i 368) (decLt i 372) (decLt i 376) (decLt i 456) (decLt i 461) (decLt i 493)
       where
         at : (j : ℕ) → i ≡ j → getD bs j 0 ≡ getD cs j 0 → getD bs i 0 ≡ getD cs i 0
         at j m h = rw m h
 
-        go : Dec (i < 128) → Dec (i < 368) → Dec (i < 372) → Dec (i < 376) → Dec (i < 456) → Dec (i < 462) → getD bs i 0 ≡ getD cs i 0
-        go (yes p) q r s t u = cells-fixed 0 32 (ap (λ (r : Record). r .ring .queue) e) i (omega arith) (omega arith)
-        go (no p) (yes q) r s t u = journals-fixed i (omega arith) q
-        go (no p) (no q) (yes r) s t u = at (368 + (i - 368)) (omega arith) (window-fixed (i - 368) (omega arith))
-        go (no p) (no q) (no r) (yes s) t u = at (372 + (i - 372)) (omega arith) (len-fixed (i - 372) (omega arith))
-        go (no p) (no q) (no r) (no s) (yes t) u = bytes-fixed 376 80 (ap (λ (r : Record). r .held .holder) e) i (omega arith) (omega arith)
-        go (no p) (no q) (no r) (no s) (no t) (yes u) = at (456 + (i - 456)) (omega arith) (numbers-fixed x y (i - 456) (omega arith))
-        go (no p) (no q) (no r) (no s) (no t) (no u) = counts-fixed x y i (omega arith) l
+        go : Dec (i < 128) → Dec (i < 368) → Dec (i < 372) → Dec (i < 376) → Dec (i < 456) → Dec (i < 461) → Dec (i < 493) → getD bs i 0 ≡ getD cs i 0
+        go (yes p) q r s t u v = cells-fixed 0 32 (ap (λ (r : Record). r .ring .queue) e) i (omega arith) (omega arith)
+        go (no p) (yes q) r s t u v = journals-fixed i (omega arith) q
+        go (no p) (no q) (yes r) s t u v = at (368 + (i - 368)) (omega arith) (window-fixed (i - 368) (omega arith))
+        go (no p) (no q) (no r) (yes s) t u v = at (372 + (i - 372)) (omega arith) (len-fixed (i - 372) (omega arith))
+        go (no p) (no q) (no r) (no s) (yes t) u v = bytes-fixed 376 80 (ap (λ (r : Record). r .held .holder) e) i (omega arith) (omega arith)
+        go (no p) (no q) (no r) (no s) (no t) (yes u) v = at (456 + (i - 456)) (omega arith) (numbers-fixed x y (i - 456) (omega arith))
+        go (no p) (no q) (no r) (no s) (no t) (no u) (yes v) = counts-fixed x y i (omega arith) v
+        go (no p) (no q) (no r) (no s) (no t) (no u) (no v) = bytes-fixed 493 80 (ap (λ (r : Record). r .tally .order) e) i (omega arith) (omega arith)
 
 pub record-fixed : RecordFixed
 record-fixed bs cs l m x y e = ext-getD 0 bs cs (l ∙ sym m) (λ i h. byte-fixed bs cs e x y i (rw l at h))

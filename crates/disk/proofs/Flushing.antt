@@ -21,6 +21,7 @@ use Rattle.disk.proofs.Clauses.{Right, right}
 use Rattle.disk.proofs.Performing.{perform-accepted}
 use Rattle.disk.proofs.Views.{committed-stays, view-stays, drained-queue, drained-persistent}
 use Rattle.disk.proofs.Sequence.{flow-ready, flush-stored, reported, cut-left, todo-in}
+use Rattle.disk.proofs.AcceptedOrder.{reader-order}
 use Rattle.disk.proofs.Allowance.{flush-accepted}
 
 -- The result r of a flush with allowance a on the disk d. The stores to do form one sequence, `todo`: the flush did the next ones up to its
@@ -95,4 +96,4 @@ cut-after a k d h l =
     let m : k ≤ flushed a d .stores = rw (perform-accepted (flush a) d h) at l in
     let n = leb-true a 65535 (yes-all (flush a) d h 2) in
     let s = flush-stored a d r in
-    cut-left a k d r m ∙ sym (ap (λ (x : Result). x .disk .card) (perform-accepted (flush k) d (flush-accepted k d r (omega (arith, s .stores)))))
+    cut-left a k d r m ∙ sym (ap (λ (x : Result). x .disk .card) (perform-accepted (flush k) d (flush-accepted k d r (reader-order d r (yes-all (flush a) d h 1)) (omega (arith, s .stores)))))

@@ -2,7 +2,7 @@
 use mathlib.Core.Path.{_≡_, refl, ap, _∙_}
 use mathlib.Core.Bool.{Bool, true, false, cond}
 use mathlib.Core.Option.{Option, none, some}
-use mathlib.Core.List.{[]}
+use mathlib.Core.List.{List, []}
 use Prim.Native.Nat.{ℕ, zero, suc, _-_}
 use lib.Dec.{eqb}
 use lib.ListN.{getD, replicate}
@@ -10,7 +10,7 @@ use Rattle.lists.specs.Basic.{bind, from}
 use Rattle.lists.specs.State.{overlay}
 use Rattle.log.specs.Reader.{Reader, replay}
 use Rattle.log.specs.Card.{Written, mounted}
-use Rattle.disk.specs.Record.{Record, noUnit, freshUnit, freshRecord, unitCount}
+use Rattle.disk.specs.Record.{Record, noUnit, freshUnit, blankRecord, freshRecord, withListed, unitCount}
 use Rattle.disk.specs.Disk.{Disk, queuedAt, queued, unitOf, journalAt, journalOf, readerOf, committedReader, persistent, committed, view}
 
 fresh-length : (n i : ℕ) → getD (replicate n freshUnit) i noUnit .len ≡ 0
@@ -24,13 +24,13 @@ unfolding replay
 replay-none none = refl
 replay-none (some r) = refl
 
-module _ (d : Disk) (h : d .rec ≡ freshRecord) where
+module _ (d : Disk) (fs : List ℕ) (h : d .rec ≡ freshRecord fs) where
   pub fresh-queue : queued d ≡ []
-  unfolding queued freshRecord from
+  unfolding queued freshRecord withListed blankRecord from
   fresh-queue = ap (from (queuedAt d) 0) (ap (λ (r : Record). r .ring .len) h)
 
   pub fresh-journal : (u : ℕ) → journalOf d u ≡ []
-  unfolding journalOf unitOf freshRecord from
+  unfolding journalOf unitOf freshRecord withListed blankRecord from
   fresh-journal u = ap (from (journalAt d u) 0) (ap (λ (r : Record). getD (r .held .units) (u - 1) noUnit .len) h ∙ fresh-length unitCount (u - 1))
 
   pub fresh-reader : committedReader d ≡ readerOf (mounted (d .card))

@@ -2,24 +2,25 @@
 -- numbers that it brings into use.
 use mathlib.Core.Path.{_≡_, refl, sym, ap, _∙_}
 use mathlib.Core.Logic.{_≢_, ⊎-elim}
-use mathlib.Core.Bool.{Bool, true, false, cond, or-true, false≢true}
-use mathlib.Core.List.{List, [], _∷_, map}
+use mathlib.Core.Bool.{Bool, true, false, not, cond, or-true, false≢true}
+use mathlib.Core.List.{List, [], _∷_, _++_, map}
 use Prim.Native.Nat.{ℕ, zero, suc, _-_, _≤_}
 use native.Mathlib.Omega.{arith}
 use lib.Dec.{eqb}
 use lib.ListN.{length, getD}
 use lib.Seq.{getD-set-same, getD-set-other}
-use Rattle.lists.specs.Basic.{any, all}
-use Rattle.lists.specs.Change.{Change}
-use Rattle.lists.specs.InUse.{brings}
+use Rattle.lists.specs.Basic.{any, all, keep}
+use Rattle.lists.specs.Change.{Change, takeList, putFirst, putAfter, write, delBlock, delList}
+use Rattle.lists.specs.State.{Row, State, frees}
+use Rattle.lists.specs.InUse.{listNumber, brings}
 use Rattle.lists.proofs.Basic.{and-true, or-cases, eqb-same, eqb-true, eqb-false, eq-true, all-each}
 use Rattle.lists.proofs.InUse.{brought}
 use Rattle.log.specs.Entry.{member, raw, legal}
 use Rattle.log.specs.Card.{Written}
-use Rattle.disk.specs.Record.{Record, holderOf, released}
+use Rattle.disk.specs.Record.{Record, holderOf, listedIn, released, withListed}
 use Rattle.disk.specs.Disk.{Disk}
 use Rattle.disk.specs.Sound.{journalSound}
-use Rattle.disk.specs.Perform.{hold, closing}
+use Rattle.disk.specs.Perform.{hold, relisted, given, freed, noted, closing}
 
 -- The holders when unit u gives up what it holds.
 getD-map : (f : ℕ → ℕ) (l : List ℕ) (i : ℕ) → f 0 ≡ 0 → getD (map f l) i 0 ≡ f (getD l i 0)
@@ -35,13 +36,13 @@ released-at u hs i = getD-map (λ h. cond (eqb h u) 0 h) hs i (none (eqb 0 u))
     none true = refl
     none false = refl
 
-pub closing-holder : (u : ℕ) (d : Disk) (b : ℕ) → holderOf (d .rec) b ≢ u → holderOf (closing u d .rec) b ≡ holderOf (d .rec) b
-unfolding closing
-closing-holder u d b n = released-at u (d .rec .held .holder) (b - 1) ∙ rw (eqb-false (holderOf (d .rec) b) u n)
+pub closing-holder : (u : ℕ) (s : State Written) (d : Disk) (b : ℕ) → holderOf (d .rec) b ≢ u → holderOf (closing u s d .rec) b ≡ holderOf (d .rec) b
+unfolding closing relisted withListed
+closing-holder u s d b n = released-at u (d .rec .held .holder) (b - 1) ∙ rw (eqb-false (holderOf (d .rec) b) u n)
 
-pub closing-released : (u : ℕ) (d : Disk) (b : ℕ) → holderOf (d .rec) b ≡ u → holderOf (closing u d .rec) b ≡ 0
-unfolding closing
-closing-released u d b e = released-at u (d .rec .held .holder) (b - 1) ∙ rw (eq-true (holderOf (d .rec) b) u e)
+pub closing-released : (u : ℕ) (s : State Written) (d : Disk) (b : ℕ) → holderOf (d .rec) b ≡ u → holderOf (closing u s d .rec) b ≡ 0
+unfolding closing relisted withListed
+closing-released u s d b e = released-at u (d .rec .held .holder) (b - 1) ∙ rw (eq-true (holderOf (d .rec) b) u e)
 
 -- A number that stream s is given: unit s holds it; stream 0 holds nothing.
 pub hold-holder : (s b : ℕ) (d : Disk) → 1 ≤ b → b ≤ length (d .rec .held .holder) → holderOf (d .rec) b ≡ 0 → holderOf (hold s b d .rec) b ≡ s
@@ -53,6 +54,22 @@ pub hold-other : (s b x : ℕ) (d : Disk) → holderOf (d .rec) b ≡ 0 → hold
 unfolding hold
 hold-other zero b x d h n = refl
 hold-other (suc u) b x d h n = getD-set-other (d .rec .held .holder) (b - 1) (x - 1) (suc u) 0 (λ e. n (ap (λ (i : ℕ). getD (d .rec .held .holder) i 0) e ∙ h))
+
+-- What is noted of a change: a number given is held, and the order of the free ones is another.
+freed-by : (P : Disk → Type 0) (s : ℕ) → ((fs : List ℕ) (d : Disk) → P d → P (relisted fs d)) → (ns : List ℕ) (d : Disk) → P d → P (freed s ns d)
+unfolding freed
+freed-by P zero l ns d p = l (listedIn (d .rec) ++ ns) d p
+freed-by P (suc u) l ns d p = p
+
+pub noted-by : (P : Disk → Type 0) (s : ℕ) → ((n : ℕ) (d : Disk) → P d → P (hold s n d)) → ((fs : List ℕ) (d : Disk) → P d → P (relisted fs d))
+    → (c : Change Written) (rs : List (Row Written)) (d : Disk) → P d → P (noted s c rs d)
+unfolding noted given
+noted-by P s h l (takeList x) rs d p = let e = hold s (listNumber x) d in l (keep (λ m. not (eqb m (listNumber x))) (listedIn (e .rec))) e (h (listNumber x) d p)
+noted-by P s h l (putFirst x y) rs d p = let e = hold s x d in l (keep (λ m. not (eqb m x)) (listedIn (e .rec))) e (h x d p)
+noted-by P s h l (putAfter x y z) rs d p = let e = hold s x d in l (keep (λ m. not (eqb m x)) (listedIn (e .rec))) e (h x d p)
+noted-by P s h l (write x y) rs d p = p
+noted-by P s h l (delBlock x) rs d p = freed-by P s l (frees (delBlock x) rs) d p
+noted-by P s h l (delList x) rs d p = freed-by P s l (frees (delList x) rs) d p
 
 -- Numbers that a change brings into use, one by one and all.
 pub brought-all : (p : ℕ → Bool) (ns : List ℕ) → ((n : ℕ) → any (λ m. eqb m n) ns ≡ true → p n ≡ true) → all p ns ≡ true

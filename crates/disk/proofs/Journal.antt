@@ -13,6 +13,7 @@ use lib.Seq.{getD-set-same, getD-set-other}
 use Rattle.lists.specs.Basic.{from}
 use Rattle.lists.specs.Change.{Change, mapChange, carriedBy}
 use Rattle.lists.proofs.Basic.{from-length, from-ext, from-snoc}
+use Rattle.lists.specs.State.{State}
 use Rattle.log.specs.Raced.{withBody}
 use Rattle.log.specs.Entry.{Entry, plain, member, commit, carried, asChange}
 use Rattle.log.specs.Cell.{cellOf, entryIn}
@@ -20,9 +21,9 @@ use Rattle.log.specs.Card.{Written, slot}
 use Rattle.log.specs.Flush.{Flow}
 use Rattle.log.proofs.Segment.{Sized}
 use Rattle.log.proofs.Slot.{length-slot}
-use Rattle.disk.specs.Record.{Unit, noCell, noUnit, journaled, emptied}
+use Rattle.disk.specs.Record.{Unit, noCell, noUnit, journaled, emptied, withListed}
 use Rattle.disk.specs.Disk.{Disk, unitOf, journalPlace, journalAt, journalOf}
-use Rattle.disk.specs.Perform.{enqueue, enqueueAll, afterFlush, journalAdd, hold, gaveBlock, gaveList, opening, closing, conflicted, unitEntries}
+use Rattle.disk.specs.Perform.{enqueue, enqueueAll, afterFlush, journalAdd, hold, relisted, opening, closing, conflicted, unitEntries}
 use Rattle.disk.proofs.Buffer.{length-spliced, filled-place, other-place}
 use Rattle.disk.proofs.Queue.{beside-one, beside-all, AllSized, change-fill, change-sized}
 
@@ -40,9 +41,9 @@ pub unit-opening : (u w : ℕ) (d : Disk) → 1 ≤ u → u ≤ 4 → length (d 
 unfolding unitOf opening
 unit-opening u w d p q n = getD-set-same (d .rec .held .units) (u - 1) _ noUnit (omega arith)
 
-pub unit-closing : (u : ℕ) (d : Disk) → 1 ≤ u → u ≤ 4 → length (d .rec .held .units) ≡ 4 → unitOf (closing u d) u ≡ emptied 0 (unitOf d u)
-unfolding unitOf closing
-unit-closing u d p q n = getD-set-same (d .rec .held .units) (u - 1) _ noUnit (omega arith)
+pub unit-closing : (u : ℕ) (t : State Written) (d : Disk) → 1 ≤ u → u ≤ 4 → length (d .rec .held .units) ≡ 4 → unitOf (closing u t d) u ≡ emptied 0 (unitOf d u)
+unfolding unitOf closing relisted withListed
+unit-closing u t d p q n = getD-set-same (d .rec .held .units) (u - 1) _ noUnit (omega arith)
 
 module _ (u v : ℕ) (p : 1 ≤ u) (q : 1 ≤ v) (n : u ≢ v) where
   unit-other : (us : List Unit) (x : Unit) → getD (set us (u - 1) x) (v - 1) noUnit ≡ getD us (v - 1) noUnit
@@ -56,9 +57,9 @@ module _ (u v : ℕ) (p : 1 ≤ u) (q : 1 ≤ v) (n : u ≢ v) where
   unfolding unitOf opening
   unit-opening-other w d = unit-other (d .rec .held .units) _
 
-  pub unit-closing-other : (d : Disk) → unitOf (closing u d) v ≡ unitOf d v
-  unfolding unitOf closing
-  unit-closing-other d = unit-other (d .rec .held .units) _
+  pub unit-closing-other : (t : State Written) (d : Disk) → unitOf (closing u t d) v ≡ unitOf d v
+  unfolding unitOf closing relisted withListed
+  unit-closing-other t d = unit-other (d .rec .held .units) _
 
 -- Journals.
 pub journal-size : (d : Disk) (u : ℕ) → length (journalOf d u) ≡ unitOf d u .len
@@ -129,16 +130,16 @@ empty-set [] i x h = refl
 empty-set (y ∷ us) zero x h = h
 empty-set (y ∷ us) (suc i) x h = empty-set us i x h
 
-closing-len : (u : ℕ) (d : Disk) → unitOf (closing u d) u .len ≡ 0
-unfolding unitOf closing
-closing-len u d = empty-set (d .rec .held .units) (u - 1) _ refl
+closing-len : (u : ℕ) (t : State Written) (d : Disk) → unitOf (closing u t d) u .len ≡ 0
+unfolding unitOf closing relisted withListed
+closing-len u t d = empty-set (d .rec .held .units) (u - 1) _ refl
 
-pub journal-closing : (u : ℕ) (d : Disk) → journalOf (closing u d) u ≡ []
-journal-closing u d = journal-none (closing u d) u (closing-len u d)
+pub journal-closing : (u : ℕ) (t : State Written) (d : Disk) → journalOf (closing u t d) u ≡ []
+journal-closing u t d = journal-none (closing u t d) u (closing-len u t d)
 
-pub journal-closing-other : (u v : ℕ) (d : Disk) → 1 ≤ u → 1 ≤ v → u ≢ v → journalOf (closing u d) v ≡ journalOf d v
-unfolding closing
-journal-closing-other u v d p q n = journal-same d (closing u d) v refl (unit-closing-other u v p q n d)
+pub journal-closing-other : (u v : ℕ) (t : State Written) (d : Disk) → 1 ≤ u → 1 ≤ v → u ≢ v → journalOf (closing u t d) v ≡ journalOf d v
+unfolding closing relisted withListed
+journal-closing-other u v t d p q n = journal-same d (closing u t d) v refl (unit-closing-other u v p q n t d)
 
 opening-len : (u v w : ℕ) (d : Disk) → v - 1 ≡ u - 1 → unitOf (opening u w d) v .len ≡ 0
 unfolding unitOf opening
@@ -182,13 +183,9 @@ unfolding hold
 journal-hold zero b d u = refl
 journal-hold (suc s) b d u = journal-same d (hold (suc s) b d) u refl (unit-same d (hold (suc s) b d) u refl)
 
-pub journal-gaveBlock : (b : ℕ) (d : Disk) (u : ℕ) → journalOf (gaveBlock b d) u ≡ journalOf d u
-unfolding gaveBlock
-journal-gaveBlock b d u = journal-same d (gaveBlock b d) u refl (unit-same d (gaveBlock b d) u refl)
-
-pub journal-gaveList : (l : ℕ) (d : Disk) (u : ℕ) → journalOf (gaveList l d) u ≡ journalOf d u
-unfolding gaveList
-journal-gaveList l d u = journal-same d (gaveList l d) u refl (unit-same d (gaveList l d) u refl)
+pub journal-relisted : (fs : List ℕ) (d : Disk) (u : ℕ) → journalOf (relisted fs d) u ≡ journalOf d u
+unfolding relisted withListed
+journal-relisted fs d u = journal-same d (relisted fs d) u refl (unit-same d (relisted fs d) u refl)
 
 pub journal-conflicted : (w : ℕ) (d : Disk) (u : ℕ) → journalOf (conflicted w d) u ≡ journalOf d u
 unfolding conflicted

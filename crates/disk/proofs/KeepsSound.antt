@@ -4,7 +4,7 @@ use mathlib.Core.Path.{_≡_, refl, sym, ap, _∙_, subst}
 use mathlib.Core.Logic.{inl, _≢_}
 use mathlib.Core.Bool.{Bool, true, false, _&&_, or-false, false≢true}
 use mathlib.Core.Option.{some}
-use mathlib.Core.List.{List, [], _∷_}
+use mathlib.Core.List.{List, [], _∷_, _++_}
 use Prim.Native.Nat.{ℕ, zero, suc, _+_, _-_, _*_, _≤_, _<_}
 use native.Mathlib.Omega.{arith}
 use lib.Dec.{leb, eqb, eqb·suc-zero}
@@ -12,8 +12,9 @@ use lib.ListN.{length, length-set, length-replicate, getD-replicate}
 use lib.Seq.{take-all}
 use Rattle.lists.specs.Basic.{all, joined}
 use Rattle.lists.specs.Change.{Change, takeList, putFirst, putAfter, write, delBlock, delList, mapChange, carriedBy}
-use Rattle.lists.specs.State.{State, state, applies, changed, freeAfter, apply, applyAll}
+use Rattle.lists.specs.State.{State, state, applies, changed, freeAfter, apply, applyAll, overlay}
 use Rattle.lists.specs.InUse.{listNumber, inUse, brings}
+use Rattle.lists.specs.Numbers.{allNumbers}
 use Rattle.lists.proofs.Basic.{and-true, not-false, eqb-same, eqb-true, leb-true, some-of, getD-same, joined-nils}
 use Rattle.lists.proofs.InUse.{brought, in-use-changed, in-use-all}
 use Rattle.log.specs.Entry.{Entry, plain, member, mapEntry, carried, raw, legal, legalChange, isBlock, isList}
@@ -25,12 +26,12 @@ use Rattle.log.proofs.Segment.{Sized, Carries, carries-walk}
 use Rattle.log.proofs.Formatting.{nils, format-length, formatted-carries}
 use Rattle.log.proofs.Places.{Good}
 use Rattle.log.proofs.Flows.{AllGood}
-use Rattle.disk.specs.Record.{noUnit, freshUnit, freshRecord, holderOf, isOpen}
-use Rattle.disk.specs.Disk.{Disk, withRecord, unitOf, journalOf, readerOf, committed}
+use Rattle.disk.specs.Record.{noUnit, freshUnit, blankRecord, freshRecord, holderOf, listedIn, withListed, isOpen}
+use Rattle.disk.specs.Disk.{Disk, withRecord, unitOf, journalOf, readerOf, persistent, committed, listing}
 use Rattle.disk.specs.Sound.{isOpenUnit, headStanding}
 use Rattle.disk.specs.Call.{Edit, format, mount, onStream, begin, end, ends}
 use Rattle.disk.specs.Questions.{mountable, streamOpen, journalRoom, endApplies, queueRoom, streamRoom, questions, refusal}
-use Rattle.disk.specs.Perform.{enqueue, enqueueAll, journalAdd, change, hold, gaveBlock, gaveList, opening, closing, noted, made, numberGiven, changeFor, conflicted, unitEntries, formatted, accepted, refused}
+use Rattle.disk.specs.Perform.{enqueue, enqueueAll, journalAdd, change, hold, relisted, given, freed, opening, givenUp, closing, noted, made, numberGiven, changeFor, conflicted, unitEntries, formatted, accepted, refused}
 use Rattle.disk.proofs.Queue.{beside-one, beside-all}
 use Rattle.disk.proofs.Journal.{journal-data-add, journal-size, unit-entries, unit-sized}
 use Rattle.disk.proofs.Questions.{yes-all, past, card-length, queue-data, journal-data, unit-range, queue-room, stream-room, journal-room}
@@ -42,27 +43,13 @@ use Rattle.disk.proofs.Growth.{enqueue-log, enqueueAll-log, log-same}
 use Rattle.disk.proofs.Units.{units-state, units-same, hold-units, journal-units, opening-units, closing-units}
 
 -- Steps that leave the log and its queue alone.
-gave-block : (b : ℕ) (d : Disk) → isBlock b ≡ true → Right d → Right (gaveBlock b d)
-unfolding gaveBlock
-gave-block b d h k = record {
+relisted-right : (fs : List ℕ) (d : Disk) → Right d → Right (relisted fs d)
+unfolding relisted withListed
+relisted-right fs d k = record {
   reader = k .reader;
-  log = log-same d (gaveBlock b d) (k .reader) refl refl refl refl refl refl (k .log);
-  units = units-same d (gaveBlock b d) (k .reader .state) refl refl refl (k .units);
+  log = log-same d (relisted fs d) (k .reader) refl refl refl refl refl refl (k .log);
+  units = units-same d (relisted fs d) (k .reader .state) refl refl refl (k .units);
   journalData = k .journalData;
-  lastBlock = h;
-  lastList = k .lastList;
-  conflicts = k .conflicts;
-}
-
-gave-list : (l : ℕ) (d : Disk) → isList l ≡ true → Right d → Right (gaveList l d)
-unfolding gaveList
-gave-list l d h k = record {
-  reader = k .reader;
-  log = log-same d (gaveList l d) (k .reader) refl refl refl refl refl refl (k .log);
-  units = units-same d (gaveList l d) (k .reader .state) refl refl refl (k .units);
-  journalData = k .journalData;
-  lastBlock = k .lastBlock;
-  lastList = h;
   conflicts = k .conflicts;
 }
 
@@ -73,8 +60,6 @@ conflicted-right w d k = record {
   log = log-same d (conflicted w d) (k .reader) refl refl refl refl refl refl (k .log);
   units = units-same d (conflicted w d) (k .reader .state) refl refl refl (k .units);
   journalData = k .journalData;
-  lastBlock = k .lastBlock;
-  lastList = k .lastList;
   conflicts = length-set (d .rec .tally .conflicts) (w - 1) _ ∙ k .conflicts;
 }
 
@@ -85,20 +70,16 @@ opening-right u w d p q x y c k = record {
   log = log-same d (opening u w d) (k .reader) refl refl refl refl refl refl (k .log);
   units = opening-units u w d (k .reader .state) p q x y (k .units) c;
   journalData = k .journalData;
-  lastBlock = k .lastBlock;
-  lastList = k .lastList;
   conflicts = k .conflicts;
 }
 
-closing-right : (u : ℕ) (d : Disk) → 1 ≤ u → u ≤ 4 → Right d → Right (closing u d)
-unfolding closing
-closing-right u d p q k = record {
+closing-right : (u : ℕ) (t : State Written) (d : Disk) → 1 ≤ u → u ≤ 4 → Right d → Right (closing u t d)
+unfolding closing relisted withListed
+closing-right u t d p q k = record {
   reader = k .reader;
-  log = log-same d (closing u d) (k .reader) refl refl refl refl refl refl (k .log);
-  units = closing-units u d (k .reader .state) p q (k .units);
+  log = log-same d (closing u t d) (k .reader) refl refl refl refl refl refl (k .log);
+  units = closing-units u t d (k .reader .state) p q (k .units);
   journalData = k .journalData;
-  lastBlock = k .lastBlock;
-  lastList = k .lastList;
   conflicts = k .conflicts;
 }
 
@@ -111,8 +92,6 @@ hold-right (suc u) b d o x y z n k = record {
   log = log-same d (hold (suc u) b d) (k .reader) refl refl refl refl refl refl (k .log);
   units = hold-units u b d (k .reader .state) (rw (eqb·suc-zero u) at o) x y z (rw (committed-is d (k .reader) (k .log .replays)) at n) (k .units);
   journalData = k .journalData;
-  lastBlock = k .lastBlock;
-  lastList = k .lastList;
   conflicts = k .conflicts;
 }
 
@@ -135,8 +114,6 @@ journal-right u c d o m g f k =
       log = log-same d (journalAdd u c d) (k .reader) refl refl refl refl refl refl (k .log);
       units = journal-units u c d (k .reader .state) o (k .journalData) m (plain-sized c g) (member-legal c g) f (k .units);
       journalData = journal-data-add u c d p q (k .journalData) m (plain-sized c g);
-      lastBlock = k .lastBlock;
-      lastList = k .lastList;
       conflicts = k .conflicts;
     }
 
@@ -150,12 +127,10 @@ enqueueAll-right es d k z m g r u =
       log = enqueueAll-log es d (k .reader) z (k .log) m g r;
       units = units-same d (enqueueAll es d) (z .state) (b .journalData) (b .units) (b .holder) u;
       journalData = rw (b .journalData) (k .journalData);
-      lastBlock = rw (b .lastBlock) (k .lastBlock);
-      lastList = rw (b .lastList) (k .lastList);
       conflicts = rw (b .conflicts) (k .conflicts);
     }
 
-plain-read : (z : Reader Written) (c : Change Written) (s : State Written) → apply c (z .state) ≡ some s → read z (plain c) ≡ some (settled s)
+pub plain-read : (z : Reader Written) (c : Change Written) (s : State Written) → apply c (z .state) ≡ some s → read z (plain c) ≡ some (settled s)
 unfolding read
 plain-read z c s a = rw a
 
@@ -169,8 +144,6 @@ plain-right c d m g a f k =
       log = enqueue-log (plain c) d (k .reader) (settled t) (k .log) m g (plain-read (k .reader) c t (apply-applies c s (rw e at a)));
       units = units-same d (enqueue (plain c) d) t (b .journalData) (b .units) (b .holder) (units-state d s t (λ n p q o h. in-use-changed c (s .lists) n (apart n o (brought c n) refl) h) (k .units));
       journalData = rw (b .journalData) (k .journalData);
-      lastBlock = rw (b .lastBlock) (k .lastBlock);
-      lastList = rw (b .lastList) (k .lastList);
       conflicts = rw (b .conflicts) (k .conflicts);
     }
   where
@@ -237,15 +210,22 @@ module _ (s : ℕ) (c : Change Written) (d : Disk) (o : streamOpen d s ≡ true)
       (λ x p. subst (λ (y : ℕ). holderOf (hold s n d .rec) y ≡ s) (eqb-true n x (sym (only x) ∙ p)) q)
       (hold-right s n d o lo hi z u k))
 
-  put-right : (b : ℕ) → isBlock b ≡ true → brings c ≡ b ∷ [] → Right (gaveBlock b (hold s b (change s c d)))
+  put-right : (b : ℕ) → isBlock b ≡ true → brings c ≡ b ∷ [] → Right (given b (hold s b (change s c d)))
+  unfolding given
   put-right b i w =
       let (x, y) = and-true (leb 1 b) (leb b 64) i in
-      gave-block b (hold s b (change s c d)) i (given-right b (leb-true 1 b x) (omega (arith, leb-true b 64 y)) w)
+      relisted-right _ (hold s b (change s c d)) (given-right b (leb-true 1 b x) (omega (arith, leb-true b 64 y)) w)
 
-  take-right : (l : ℕ) → isList l ≡ true → brings c ≡ listNumber l ∷ [] → Right (gaveList l (hold s (listNumber l) (change s c d)))
+  take-right : (l : ℕ) → isList l ≡ true → brings c ≡ listNumber l ∷ [] → Right (given (listNumber l) (hold s (listNumber l) (change s c d)))
+  unfolding given
   take-right l i w =
       let (x, y) = and-true (leb 1 l) (leb l 16) i in
-      gave-list l (hold s (listNumber l) (change s c d)) i (given-right (listNumber l) (omega arith) (omega (arith, leb-true l 16 y)) w)
+      relisted-right _ (hold s (listNumber l) (change s c d)) (given-right (listNumber l) (omega arith) (omega (arith, leb-true l 16 y)) w)
+
+freed-right : (s : ℕ) (ns : List ℕ) (d : Disk) → Right d → Right (freed s ns d)
+unfolding freed
+freed-right zero ns d k = relisted-right (listedIn (d .rec) ++ ns) d k
+freed-right (suc u) ns d k = k
 
 made-right : (s : ℕ) (c : Change Written) (d : Disk) → streamOpen d s ≡ true → Makes s c d → Right d → Right (made s c d)
 unfolding made noted legal raw mapEntry mapChange legalChange
@@ -254,8 +234,8 @@ made-right s (putFirst b l) d o m k = put-right s (putFirst b l) d o m k b (and-
 made-right s (putAfter b l p) d o m k =
     put-right s (putAfter b l p) d o m k b (and-true (isBlock b) (isList l) (and-true (isBlock b && isList l) (isBlock p) (m .good .lawful) .0) .0) refl
 made-right s (write b x) d o m k = quiet s (write b x) d o m k (λ n. refl)
-made-right s (delBlock b) d o m k = quiet s (delBlock b) d o m k (λ n. refl)
-made-right s (delList l) d o m k = quiet s (delList l) d o m k (λ n. refl)
+made-right s (delBlock b) d o m k = freed-right s _ (change s (delBlock b) d) (quiet s (delBlock b) d o m k (λ n. refl))
+made-right s (delList l) d o m k = freed-right s _ (change s (delList l) d) (quiet s (delList l) d o m k (λ n. refl))
 
 pub edit-right : (s : ℕ) (e : Edit) (d : Disk) → refusal (onStream s e) d ≡ 0 → Right (accepted (onStream s e) d .disk)
 unfolding questions accepted
@@ -277,31 +257,31 @@ unfolding refusal questions refused ends
 conflict-right u d h =
     let y = past 3 (questions (end u) d) 12 (omega arith) h in
     let (p, q, _) = unit-range d u (y 2 (omega arith)) in
-    conflicted-right (unitOf d u .window) (closing u d) (closing-right u d p q (right d (y 0 (omega arith)) (y 1 (omega arith))))
+    conflicted-right (unitOf d u .window) (closing u (listing d) d) (closing-right u (listing d) d p q (right d (y 0 (omega arith)) (y 1 (omega arith))))
 
 -- End: the unit closes first, and then its journal and the commit join the queue.
-closing-enqueue : (u : ℕ) (e : Entry Written) (d : Disk) → closing u (enqueue e d) ≡ enqueue e (closing u d)
-unfolding closing enqueue unitOf
-closing-enqueue u e d = refl
+closing-enqueue : (u : ℕ) (x : State Written) (e : Entry Written) (d : Disk) → closing u x (enqueue e d) ≡ enqueue e (closing u x d)
+unfolding closing givenUp relisted withListed enqueue unitOf
+closing-enqueue u x e d = refl
 
-closing-enqueueAll : (u : ℕ) (es : List (Entry Written)) (d : Disk) → closing u (enqueueAll es d) ≡ enqueueAll es (closing u d)
+closing-enqueueAll : (u : ℕ) (x : State Written) (es : List (Entry Written)) (d : Disk) → closing u x (enqueueAll es d) ≡ enqueueAll es (closing u x d)
 unfolding enqueueAll
-closing-enqueueAll u [] d = refl
-closing-enqueueAll u (e ∷ es) d = closing-enqueueAll u es (enqueue e d) ∙ ap (enqueueAll es) (closing-enqueue u e d)
+closing-enqueueAll u x [] d = refl
+closing-enqueueAll u x (e ∷ es) d = closing-enqueueAll u x es (enqueue e d) ∙ ap (enqueueAll es) (closing-enqueue u x e d)
 
-closing-len : (u : ℕ) (d : Disk) → closing u d .rec .ring .len ≡ d .rec .ring .len
-unfolding closing
-closing-len u d = refl
+closing-len : (u : ℕ) (x : State Written) (d : Disk) → closing u x d .rec .ring .len ≡ d .rec .ring .len
+unfolding closing relisted withListed
+closing-len u x d = refl
 
 -- the other units hold nothing that this one's journal brings into use
-ended-units : (u : ℕ) (d : Disk) (s t : State Written) → 1 ≤ u → u ≤ 4 → applyAll (journalOf d u) s ≡ some t → UnitsRight d s → UnitsRight (closing u d) t
-ended-units u d s t p q a k =
-    units-state (closing u d) s t
-    (λ b x y o n. in-use-all (journalOf d u) s t b (journals-apart (d .rec) u (journalOf d u) b (other b o) (k .units u p q .sound)) n a)
-    (closing-units u d s p q k)
+ended-units : (u : ℕ) (x : State Written) (d : Disk) (s t : State Written) → 1 ≤ u → u ≤ 4 → applyAll (journalOf d u) s ≡ some t → UnitsRight d s → UnitsRight (closing u x d) t
+ended-units u x d s t p q a k =
+    units-state (closing u x d) s t
+    (λ b v y o n. in-use-all (journalOf d u) s t b (journals-apart (d .rec) u (journalOf d u) b (other b o) (k .units u p q .sound)) n a)
+    (closing-units u x d s p q k)
   where
-    other : (b : ℕ) → isOpenUnit (closing u d) (holderOf (closing u d .rec) b) ≡ true → holderOf (d .rec) b ≢ u
-    other b o e = let (x, y, _) = unit-range (closing u d) (holderOf (closing u d .rec) b) o in omega (arith, closing-released u d b e)
+    other : (b : ℕ) → isOpenUnit (closing u x d) (holderOf (closing u x d .rec) b) ≡ true → holderOf (d .rec) b ≢ u
+    other b o e = let (v, y, _) = unit-range (closing u x d) (holderOf (closing u x d .rec) b) o in omega (arith, closing-released u x d b e)
 
 pub end-right : (u : ℕ) (d : Disk) → refusal (end u) d ≡ 0 → Right (accepted (end u) d .disk)
 unfolding questions accepted endApplies closing-right
@@ -313,30 +293,31 @@ end-right u d h =
     let (t, a) = some-of (applyAll cs (committed d)) (y 3) in
     let e : applyAll cs (k .reader .state) ≡ some t = ap (applyAll cs) (sym (committed-is d (k .reader) (k .log .replays))) ∙ a in
     let x = k .units .units u p q in
-    subst Right (sym (closing-enqueueAll u (unitEntries cs) d))
-    (enqueueAll-right (unitEntries cs) (closing u d) (closing-right u d p q k) (settled t)
-    (omega (arith, closing-len u d, queue-room d (unitOf d u .len + 1) (y 4), unit-entries cs, journal-size d u))
+    let f = overlay cs (listing d) in
+    subst Right (sym (closing-enqueueAll u f (unitEntries cs) d))
+    (enqueueAll-right (unitEntries cs) (closing u f d) (closing-right u f d p q k) (settled t)
+    (omega (arith, closing-len u f d, queue-room d (unitOf d u .len + 1) (y 4), unit-entries cs, journal-size d u))
     (unit-good (d .rec) u cs (x .sound) (omega (arith, journal-size d u, x .room)) (unit-sized d u p q (k .journalData) (x .room)))
-    (replay-unit (k .reader) cs t e) (ended-units u d (k .reader .state) t p q e (k .units)))
+    (replay-unit (k .reader) cs t e) (ended-units u f d (k .reader .state) t p q e (k .units)))
 
 -- Mounting and formatting: the record is set anew.
-module _ (d : Disk) (r : d .rec ≡ freshRecord) where
+module _ (d : Disk) (fs : List ℕ) (r : d .rec ≡ freshRecord fs) where
   fresh-unit : (u : ℕ) → 1 ≤ u → u ≤ 4 → unitOf d u ≡ freshUnit
-  unfolding unitOf freshRecord
+  unfolding unitOf freshRecord withListed blankRecord
   fresh-unit u p q = rw r (getD-replicate 4 (u - 1) freshUnit noUnit (omega arith))
 
   fresh-units : (s : State Written) → UnitsRight d s
-  unfolding freshRecord freshUnit all
+  unfolding freshRecord withListed blankRecord freshUnit all
   fresh-units s = record {
     four = rw r;
     table = rw r;
-    units = λ u p q. let e = fresh-unit u p q in record { places = rw e; room = rw e (omega arith); window = rw e (omega arith); closed = λ h. rw e; sound = rw (fresh-journal d r u) };
+    units = λ u p q. let e = fresh-unit u p q in record { places = rw e; room = rw e (omega arith); window = rw e (omega arith); closed = λ h. rw e; sound = rw (fresh-journal d fs r u) };
     holders = λ b p q. inl (rw r (getD-same 80 (b - 1) 0));
   }
 
   fresh-right : (z : Reader Written) → cardLength (d .card) ≡ true → length (d .queueData) ≡ 8192 → length (d .journalData) ≡ 15360
       → readerOf (mounted (d .card)) ≡ some z → Right d
-  unfolding freshRecord all headStanding
+  unfolding freshRecord withListed blankRecord all headStanding
   fresh-right z c q j w = record {
     reader = z;
     log = record {
@@ -345,14 +326,12 @@ module _ (d : Disk) (r : d .rec ≡ freshRecord) where
       places = rw r;
       room = rw r (omega arith);
       head = rw r (omega arith);
-      lawful = rw (fresh-queue d r);
-      replays = fresh-reader d r ∙ w;
-      stands = rw (fresh-queue d r, r);
+      lawful = rw (fresh-queue d fs r);
+      replays = fresh-reader d fs r ∙ w;
+      stands = rw (fresh-queue d fs r, r);
     };
     units = fresh-units (z .state);
     journalData = j;
-    lastBlock = rw r;
-    lastList = rw r;
     conflicts = rw r;
   }
 
@@ -361,7 +340,7 @@ unfolding questions accepted mountable
 mount-right d h =
     let y = yes-all mount d h in
     let (z, e) = some-of (readerOf (mounted (d .card))) (y 1) in
-    fresh-right (withRecord d freshRecord) refl z (card-length d (y 0)) (queue-data d (y 0)) (journal-data d (y 0)) e
+    fresh-right (withRecord d (freshRecord (persistent d .free))) (persistent d .free) refl z (card-length d (y 0)) (queue-data d (y 0)) (journal-data d (y 0)) e
 
 -- a formatted card holds nothing
 pub sound-reader : (c : List ℕ) (z : Reader Written) → mounted c ≡ sound z → readerOf (mounted c) ≡ some z
@@ -379,6 +358,11 @@ formatted-empty c h =
     let (a, b) = card-size c h in
     rw (take-all n (formatStores n) (omega (arith, format-length n))) (formatted-carries n c b a)
 
+pub formatted-start : (c : List ℕ) → cardLength c ≡ true → readerOf (mounted (formatted (segmentsIn c) c)) ≡ some start
+formatted-start c l =
+    let n = segmentsIn c in
+    sound-reader (formatted n c) start (carries-walk (formatted n c) (nils n) start (formatted-empty c l) (none-replayed n))
+
 pub format-right : (d : Disk) → refusal format d ≡ 0 → Right (accepted format d .disk)
 unfolding questions accepted
 format-right d h =
@@ -387,6 +371,6 @@ format-right d h =
     let n = segmentsIn (d .card) in
     let c = formatted n (d .card) in
     let k : Carries c (nils n) = formatted-empty (d .card) l in
-    fresh-right (record { card = c; queueData = d .queueData; journalData = d .journalData; rec = freshRecord }) refl start
+    fresh-right (record { card = c; queueData = d .queueData; journalData = d .journalData; rec = freshRecord allNumbers }) allNumbers refl start
     (same-length (d .card) c (k .size ∙ ap (λ (m : ℕ). 4096 * m) (length-replicate n []) ∙ sym (card-size (d .card) l .0)) l)
-    (queue-data d (y 0)) (journal-data d (y 0)) (sound-reader c start (carries-walk c (nils n) start k (none-replayed n)))
+    (queue-data d (y 0)) (journal-data d (y 0)) (formatted-start (d .card) l)

@@ -4,22 +4,20 @@ use mathlib.Core.Logic.{_≢_}
 use mathlib.Core.Bool.{Bool, true, false, _&&_, _||_, not, or-true, false≢true}
 use mathlib.Core.Option.{some, Option·none-ne-some, Option·some-injective}
 use mathlib.Core.List.{List, [], _∷_}
-use Prim.Native.Nat.{ℕ, zero, suc, _+_, _%_, _≤_, _<_}
+use Prim.Native.Nat.{ℕ, zero, suc, _+_, _-_, _≤_, _<_}
 use native.Mathlib.Omega.{arith}
-use native.Mathlib.Nat.{mod-lt}
 use lib.Dec.{leb, eqb, ltb, eqb·suc-zero}
 use lib.ListN.{length, getD}
-use Rattle.lists.specs.Basic.{isSome, orElse, all}
-use Rattle.lists.specs.State.{State, taken, placed, overlay}
-use Rattle.lists.specs.InUse.{listNumber}
-use Rattle.lists.proofs.Basic.{and-true, or-both, false-not, eqb-same, eqb-true, leb-true, ltb-true, le-true, some-of}
-use Rattle.log.specs.Entry.{isBlock, isList}
+use Rattle.lists.specs.Basic.{all, times}
+use Rattle.lists.specs.State.{State, overlay}
+use Rattle.lists.proofs.Basic.{and-true, eqb-same, eqb-true, leb-true, ltb-true, le-true}
+use Rattle.lists.proofs.Times.{times-here, times-cons}
 use Rattle.log.specs.Card.{Written, cardLength}
-use Rattle.disk.specs.Record.{holderOf, isOpen}
+use Rattle.disk.specs.Record.{isOpen}
 use Rattle.disk.specs.Disk.{Disk, unitOf, journalOf, persistent, committed, view}
 use Rattle.disk.specs.Sound.{lengthsRight, isOpenUnit}
 use Rattle.disk.specs.Call.{Call, format, mount, conflictCount, onStream, inView, begin, end, flush}
-use Rattle.disk.specs.Questions.{streamOpen, viewOpen, journalRoom, queueRoom, streamRoom, freeFrom, freeBlock, freeList, questions, ask, firstNo, refusal}
+use Rattle.disk.specs.Questions.{streamOpen, viewOpen, journalRoom, queueRoom, streamRoom, firstFree, questions, ask, firstNo, refusal}
 use Rattle.disk.proofs.Order.{asks, edit-behind, look-behind, questions-rise, rising-above}
 
 -- Questions in general: each has its number and its answer.
@@ -141,36 +139,19 @@ journal-room d u h = ltb-true (unitOf d (suc u) .len) 15 (rw (eqb·suc-zero u) a
 pub in-range : (m n : ℕ) → 1 ≤ n → n ≤ m → leb 1 n && leb n m ≡ true
 in-range m n a b = rw (le-true 1 n a) (le-true n m b)
 
-pub free-from : (used : ℕ → Bool) (limit k last n : ℕ) → 0 < limit → freeFrom used limit k last ≡ some n → (used n ≡ false) × (1 ≤ n) × (n ≤ limit)
-unfolding freeFrom
-free-from used limit zero last n l h = absurd (Option·none-ne-some _ h)
-free-from used limit (suc k) last n l h = go (λ q. free-from used limit k (suc (last % limit)) n l q) (used (suc (last % limit))) refl
+-- the first of k numbers behind number m that stands in a list
+pub first-free : (m k n : ℕ) (ns : List ℕ) → firstFree m k ns ≡ some n → (1 ≤ n) × (n ≤ k) × (1 ≤ times (m + n) ns)
+unfolding firstFree times
+first-free m k n [] h = absurd (Option·none-ne-some _ h)
+first-free m k n (x ∷ ns) h = go (λ q. first-free m k n ns q) (ltb m x && leb x (m + k)) refl
   where
-    m : ℕ
-    m = suc (last % limit)
-
-    go : (freeFrom used limit k m ≡ some n → (used n ≡ false) × (1 ≤ n) × (n ≤ limit)) → (b : Bool) → used m ≡ b → (used n ≡ false) × (1 ≤ n) × (n ≤ limit)
-    go ih true e = ih (rw (e, freeFrom) at h)
+    go : (firstFree m k ns ≡ some n → (1 ≤ n) × (n ≤ k) × (1 ≤ times (m + n) ns)) → (b : Bool) → ltb m x && leb x (m + k) ≡ b → (1 ≤ n) × (n ≤ k) × (1 ≤ times (m + n) (x ∷ ns))
+    go ih true e =
+        let (p, q) = and-true (ltb m x) (leb x (m + k)) e in
+        let v : x - m ≡ n = Option·some-injective _ _ (rw (e, firstFree) at h) in
+        let o = ltb-true m x p in
+        let w : m + n ≡ x = omega arith in
+        (omega arith, omega (arith, leb-true x (m + k) q), rw w (omega (arith, times-here x ns)))
     go ih false e =
-        let v : m ≡ n = Option·some-injective _ _ (rw (e, freeFrom) at h) in
-        (ap used (sym v) ∙ e, omega arith, omega (arith, mod-lt last l))
-
--- the list that NewList gives: not taken, held by no unit, and in range
-pub list-number : (d : Disk) → isSome (freeList d) ≡ true
-    → (taken (orElse 0 (freeList d)) (committed d .lists) ≡ false) × (holderOf (d .rec) (listNumber (orElse 0 (freeList d))) ≡ 0) × (isList (orElse 0 (freeList d)) ≡ true)
-unfolding freeList orElse
-list-number d h =
-    let (n, e) = some-of (freeList d) h in
-    let f = free-from (λ l. taken l (committed d .lists) || not (eqb (holderOf (d .rec) (listNumber l)) 0)) 16 16 (d .rec .tally .lastList) n (omega arith) e in
-    let (a, b) = or-both (taken n (committed d .lists)) (not (eqb (holderOf (d .rec) (listNumber n)) 0)) (f .0) in
-    rw e (a, eqb-true _ 0 (false-not (eqb (holderOf (d .rec) (listNumber n)) 0) b), in-range 16 n (f .1) (f .2))
-
--- the block that NewBlock gives: on no list, held by no unit, and in range
-pub block-number : (d : Disk) → isSome (freeBlock d) ≡ true
-    → (placed (orElse 0 (freeBlock d)) (committed d .lists) ≡ false) × (holderOf (d .rec) (orElse 0 (freeBlock d)) ≡ 0) × (isBlock (orElse 0 (freeBlock d)) ≡ true)
-unfolding freeBlock orElse
-block-number d h =
-    let (n, e) = some-of (freeBlock d) h in
-    let f = free-from (λ b. placed b (committed d .lists) || not (eqb (holderOf (d .rec) b) 0)) 64 64 (d .rec .tally .lastBlock) n (omega arith) e in
-    let (a, b) = or-both (placed n (committed d .lists)) (not (eqb (holderOf (d .rec) n) 0)) (f .0) in
-    rw e (a, eqb-true _ 0 (false-not (eqb (holderOf (d .rec) n) 0) b), in-range 64 n (f .1) (f .2))
+        let (a, b, c) = ih (rw (e, firstFree) at h) in
+        (a, b, omega (arith, c, times-cons (m + n) x ns))

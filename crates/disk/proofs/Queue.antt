@@ -12,6 +12,7 @@ use lib.Seq.{getD-set-same, getD-set-other}
 use Rattle.lists.specs.Basic.{bind, from}
 use Rattle.lists.specs.Change.{Change, takeList, putFirst, putAfter, write, delBlock, delList, mapChange, carriedBy}
 use Rattle.lists.proofs.Basic.{from-length, from-shift, from-ext, from-snoc, from-drop}
+use Rattle.lists.specs.State.{State}
 use Rattle.log.specs.Raced.{Raced, withBody}
 use Rattle.log.specs.Entry.{Entry, plain, member, commit, mapEntry, carried, asEntry, asChange, raw}
 use Rattle.log.specs.Cell.{cellOf, memberIn, entryIn}
@@ -21,9 +22,9 @@ use Rattle.log.specs.Flush.{Flow}
 use Rattle.log.proofs.Cells.{cell-entry, cell-change}
 use Rattle.log.proofs.Segment.{Sized}
 use Rattle.log.proofs.Slot.{length-slot}
-use Rattle.disk.specs.Record.{ringPlace, noCell}
+use Rattle.disk.specs.Record.{ringPlace, noCell, withListed}
 use Rattle.disk.specs.Disk.{Disk, queuedAt, queued, readerOf, committedReader}
-use Rattle.disk.specs.Perform.{spliceSome, enqueue, enqueueAll, afterFlush, journalAdd, hold, gaveBlock, gaveList, opening, closing, conflicted}
+use Rattle.disk.specs.Perform.{spliceSome, enqueue, enqueueAll, afterFlush, journalAdd, hold, relisted, opening, closing, conflicted}
 use Rattle.disk.proofs.Buffer.{FillsWith, length-spliced, filled-place, other-place}
 
 -- An entry with its data taken out and put in again.
@@ -172,8 +173,8 @@ pub record Beside (d e : Disk) : Type 0 where
   pub done : e .rec .ring .done ≡ d .rec .ring .done
   pub units : e .rec .held .units ≡ d .rec .held .units
   pub holder : e .rec .held .holder ≡ d .rec .held .holder
-  pub lastBlock : e .rec .tally .lastBlock ≡ d .rec .tally .lastBlock
-  pub lastList : e .rec .tally .lastList ≡ d .rec .tally .lastList
+  pub order : e .rec .tally .order ≡ d .rec .tally .order
+  pub listed : e .rec .tally .listed ≡ d .rec .tally .listed
   pub conflicts : e .rec .tally .conflicts ≡ d .rec .tally .conflicts
 
 pub beside-one : (e : Entry Written) (d : Disk) → Beside d (enqueue e d)
@@ -187,8 +188,8 @@ beside-one e d =
       done = refl;
       units = refl;
       holder = refl;
-      lastBlock = refl;
-      lastList = refl;
+      order = refl;
+      listed = refl;
       conflicts = refl;
     }
 
@@ -203,8 +204,8 @@ beside-all [] d =
       done = refl;
       units = refl;
       holder = refl;
-      lastBlock = refl;
-      lastList = refl;
+      order = refl;
+      listed = refl;
       conflicts = refl;
     }
 beside-all (e ∷ es) d =
@@ -218,8 +219,8 @@ beside-all (e ∷ es) d =
       done = y .done ∙ x .done;
       units = y .units ∙ x .units;
       holder = y .holder ∙ x .holder;
-      lastBlock = y .lastBlock ∙ x .lastBlock;
-      lastList = y .lastList ∙ x .lastList;
+      order = y .order ∙ x .order;
+      listed = y .listed ∙ x .listed;
       conflicts = y .conflicts ∙ x .conflicts;
     }
 
@@ -267,21 +268,17 @@ unfolding hold
 queued-hold zero b d = refl
 queued-hold (suc u) b d = queued-same d (hold (suc u) b d) refl refl refl refl
 
-pub queued-gaveBlock : (b : ℕ) (d : Disk) → queued (gaveBlock b d) ≡ queued d
-unfolding gaveBlock
-queued-gaveBlock b d = queued-same d (gaveBlock b d) refl refl refl refl
-
-pub queued-gaveList : (l : ℕ) (d : Disk) → queued (gaveList l d) ≡ queued d
-unfolding gaveList
-queued-gaveList l d = queued-same d (gaveList l d) refl refl refl refl
+pub queued-relisted : (fs : List ℕ) (d : Disk) → queued (relisted fs d) ≡ queued d
+unfolding relisted withListed
+queued-relisted fs d = queued-same d (relisted fs d) refl refl refl refl
 
 pub queued-opening : (u w : ℕ) (d : Disk) → queued (opening u w d) ≡ queued d
 unfolding opening
 queued-opening u w d = queued-same d (opening u w d) refl refl refl refl
 
-pub queued-closing : (u : ℕ) (d : Disk) → queued (closing u d) ≡ queued d
-unfolding closing
-queued-closing u d = queued-same d (closing u d) refl refl refl refl
+pub queued-closing : (u : ℕ) (s : State Written) (d : Disk) → queued (closing u s d) ≡ queued d
+unfolding closing relisted withListed
+queued-closing u s d = queued-same d (closing u s d) refl refl refl refl
 
 pub queued-conflicted : (w : ℕ) (d : Disk) → queued (conflicted w d) ≡ queued d
 unfolding conflicted

@@ -13,7 +13,7 @@ use Rattle.lists.specs.Basic.{all}
 use Rattle.lists.proofs.Basic.{and-true, eqb-false, leb-true, le-true, ltb-true, all-each, bind-some, is-some}
 use Rattle.log.specs.Reader.{replay}
 use Rattle.log.specs.Card.{mounted}
-use Rattle.disk.specs.Disk.{Disk, queued, readerOf, committedReader, view}
+use Rattle.disk.specs.Disk.{Disk, queued, readerOf, committedReader, view, committed}
 use Rattle.disk.specs.Sound.{lengthsRight, recordSound}
 use Rattle.disk.specs.Call.{Call, format, mount, conflictCount, onStream, inView, begin, end, flush, ends}
 use Rattle.disk.specs.Questions.{mountable, questions, ask, firstNo, refusal}
@@ -21,7 +21,8 @@ use Rattle.disk.specs.Perform.{accepted, refused, perform, performAll}
 use Rattle.disk.specs.Statements.{LeavesSound}
 use Rattle.disk.proofs.Order.{Behind, edit-behind, look-behind, rising-above}
 use Rattle.disk.proofs.Questions.{test, yes-all, twelve-end}
-use Rattle.disk.proofs.Clauses.{Right, right, right-sound, right-lengths}
+use Rattle.disk.proofs.Clauses.{Right, right, right-sound, right-lengths, OrderRight, committed-is}
+use Rattle.disk.proofs.AcceptedOrder.{accepted-order, conflict-order}
 use Rattle.disk.proofs.KeepsSound.{edit-right, begin-right, conflict-right, end-right, mount-right, format-right}
 use Rattle.disk.proofs.Draining.{flush-right}
 use Rattle.disk.proofs.Performing.{perform-accepted, perform-refused}
@@ -109,18 +110,36 @@ mounts d k =
     let (r, p, u) = bind-some (readerOf (mounted (d .card))) (λ r. replay r (queued d)) (k .reader) (k .log .replays) in
     is-some (readerOf (mounted (d .card))) r p
 
+leaves-order : (c : Call) (d : Disk) → (refusal c d ≡ 0) ⊎ (refusal c d ≡ 12) → OrderRight (perform c d .disk) (committed (perform c d .disk))
+leaves-order c d (inl h) = rw (perform-accepted c d h) (accepted-order c d h)
+leaves-order c d (inr h) =
+    let (u, e) = twelve-end c d h in
+    rw (perform-refused c d 11 h)
+    (subst (λ (x : Call). OrderRight (refused x 12 d) (committed (refused x 12 d))) (sym e) (conflict-order u d (sym (ap (λ (x : Call). refusal x d) e) ∙ h)))
+
+leaves-all : (c : Call) (d : Disk) → (refusal c d ≡ 0) ⊎ (refusal c d ≡ 12) → recordSound (perform c d .disk) ≡ true
+leaves-all c d h =
+    let k = leaves-right c d h in
+    right-sound (perform c d .disk) k (subst (OrderRight (perform c d .disk)) (committed-is (perform c d .disk) (k .reader) (k .log .replays)) (leaves-order c d h))
+
 -- What is claimed. Every accepted call, and refusal 12, leaves a sound record, from any disk.
 pub leaves-sound : LeavesSound
-leaves-sound c d h = let k = leaves-right c d h in (right-lengths (perform c d .disk) k, right-sound (perform c d .disk) k)
+leaves-sound c d h = let k = leaves-right c d h in (right-lengths (perform c d .disk) k, leaves-all c d h)
 
 -- A sound disk stays sound whatever is called.
 pub stays-sound : (cs : List Call) (d : Disk) → lengthsRight d ≡ true → recordSound d ≡ true
     → (lengthsRight (performAll cs d) ≡ true) × (recordSound (performAll cs d) ≡ true)
 unfolding performAll
 stays-sound [] d l r = (l, r)
-stays-sound (c ∷ cs) d l r =
-    let k = stays-right c d (right d l r) in
-    stays-sound cs (perform c d .disk) (right-lengths (perform c d .disk) k) (right-sound (perform c d .disk) k)
+stays-sound (c ∷ cs) d l r = stays-sound cs (perform c d .disk) (right-lengths (perform c d .disk) (stays-right c d (right d l r))) (go (refusal c d) refl)
+  where
+    go : (n : ℕ) → refusal c d ≡ n → recordSound (perform c d .disk) ≡ true
+    go zero e = leaves-all c d (inl e)
+    go (suc n) e = twelve (ℕ-discrete (suc n) 12)
+      where
+        twelve : Dec (suc n ≡ 12) → recordSound (perform c d .disk) ≡ true
+        twelve (yes q) = leaves-all c d (inr (e ∙ q))
+        twelve (no q) = rw (perform-refused c d n e) (rw (refused-same c (suc n) d q) r)
 
 -- On a sound disk no call is refused 1, 2 or 3.
 pub never-refused : (c : Call) (d : Disk) → lengthsRight d ≡ true → recordSound d ≡ true → (refusal c d ≡ 0) ⊎ (4 ≤ refusal c d)

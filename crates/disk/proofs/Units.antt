@@ -20,10 +20,10 @@ use Rattle.log.specs.Entry.{plain, member, raw, legal}
 use Rattle.log.specs.Cell.{cellOf}
 use Rattle.log.specs.Card.{Written}
 use Rattle.log.proofs.Segment.{Sized}
-use Rattle.disk.specs.Record.{Unit, holderOf, journaled, emptied, released, isOpen}
+use Rattle.disk.specs.Record.{Unit, holderOf, journaled, emptied, released, isOpen, withListed}
 use Rattle.disk.specs.Disk.{Disk, unitOf, journalOf}
 use Rattle.disk.specs.Sound.{isOpenUnit, journalSound}
-use Rattle.disk.specs.Perform.{journalAdd, hold, opening, closing}
+use Rattle.disk.specs.Perform.{journalAdd, hold, relisted, opening, closing}
 use Rattle.disk.proofs.Questions.{unit-range}
 use Rattle.disk.proofs.Journal.{unit-same, unit-added, unit-added-other, unit-opening, unit-opening-other, unit-closing, unit-closing-other, journal-same, journal-add, journal-other, journal-opening, journal-closing, journal-closing-other, journal-hold}
 use Rattle.disk.proofs.Held.{closing-holder, closing-released, hold-holder, hold-other, brought-all, journals-more}
@@ -213,22 +213,22 @@ module _ (u w : ℕ) (d : Disk) (s : State Written) (p : 1 ≤ u) (q : u ≤ 4) 
           unit-kept d begun v (unit-opening-other u v p a n w d) (journal-opening u v w d (k .units u p q .closed c)) (λ x h. holder x ∙ h) (k .units v a b)
 
 -- A unit closes, and gives up what it holds.
-module _ (u : ℕ) (d : Disk) (s : State Written) (p : 1 ≤ u) (q : u ≤ 4) (k : UnitsRight d s) where
+module _ (u : ℕ) (t : State Written) (d : Disk) (s : State Written) (p : 1 ≤ u) (q : u ≤ 4) (k : UnitsRight d s) where
   abbrev ended : Disk
-  ended = closing u d
+  ended = closing u t d
 
   ended-four : length (ended .rec .held .units) ≡ 4
-  unfolding closing
+  unfolding closing relisted withListed
   ended-four = length-set (d .rec .held .units) (u - 1) _ ∙ k .four
 
   ended-table : length (ended .rec .held .holder) ≡ 80
-  unfolding closing released
+  unfolding closing relisted withListed released
   ended-table = length-map (d .rec .held .holder) _ ∙ k .table
 
   ended-unit : unitOf ended u ≡ emptied 0 (unitOf d u)
-  ended-unit = unit-closing u d p q (k .four)
+  ended-unit = unit-closing u t d p q (k .four)
 
-  pub closing-units : UnitsRight (closing u d) s
+  pub closing-units : UnitsRight (closing u t d) s
   unfolding all
   closing-units = record {
     four = ended-four;
@@ -243,16 +243,16 @@ module _ (u : ℕ) (d : Disk) (s : State Written) (p : 1 ≤ u) (q : u ≤ 4) (k
         room = rw ended-unit (omega arith);
         window = rw ended-unit (omega arith);
         closed = λ h. ap (λ (x : Unit). x .len) ended-unit;
-        sound = rw (journal-closing u d);
+        sound = rw (journal-closing u t d);
       }
 
       unit : (v : ℕ) → 1 ≤ v → v ≤ 4 → Dec (u ≡ v) → UnitRight ended v
       unit v a b (yes n) = subst (UnitRight ended) n own
       unit v a b (no n) =
-          unit-kept d ended v (unit-closing-other u v p a n d) (journal-closing-other u v d p a n) (λ x h. closing-holder u d x (λ w. n (sym w ∙ h)) ∙ h) (k .units v a b)
+          unit-kept d ended v (unit-closing-other u v p a n t d) (journal-closing-other u v t d p a n) (λ x h. closing-holder u t d x (λ w. n (sym w ∙ h)) ∙ h) (k .units v a b)
 
       holder : (b : ℕ) → HolderRight d s b → Dec (holderOf (d .rec) b ≡ u) → HolderRight ended s b
-      holder b h (yes w) = inl (closing-released u d b w)
+      holder b h (yes w) = inl (closing-released u t d b w)
       holder b h (no w) =
-          holder-kept d ended s b (closing-holder u d b w)
-          (λ v x. open-more d ended v (λ a c o. ap (λ (y : Unit). isOpen y) (unit-closing-other u v p a (λ e. w (x ∙ sym e)) d) ∙ o)) h
+          holder-kept d ended s b (closing-holder u t d b w)
+          (λ v x. open-more d ended v (λ a c o. ap (λ (y : Unit). isOpen y) (unit-closing-other u v p a (λ e. w (x ∙ sym e)) t d) ∙ o)) h

@@ -10,15 +10,17 @@ use native.Mathlib.Decide.{ℕ-discrete}
 use lib.Dec.{leb, eqb}
 use lib.ListN.{length, getD, set}
 use lib.Seq.{getD-set-other}
-use Rattle.lists.specs.Change.{Change, takeList, putFirst, putAfter, write, delBlock, delList}
-use Rattle.lists.specs.InUse.{listNumber}
+use Rattle.lists.specs.Change.{Change}
+use Rattle.lists.specs.State.{Row, State, overlay}
+use Rattle.lists.specs.Numbers.{allNumbers}
 use Rattle.lists.proofs.Basic.{and-true, leb-true}
 use Rattle.log.specs.Card.{Written}
-use Rattle.disk.specs.Record.{Unit, Record, noUnit, freshUnit, freshRecord, unitAt, emptied, journaled}
-use Rattle.disk.specs.Disk.{Disk, unitOf, journalOf}
+use Rattle.disk.specs.Record.{Unit, Record, noUnit, freshUnit, blankRecord, freshRecord, unitAt, emptied, journaled, withListed}
+use Rattle.disk.specs.Disk.{Disk, unitOf, journalOf, persistent, committed, listing}
 use Rattle.disk.specs.Call.{Call, format, mount, conflictCount, onStream, inView, begin, end, flush, ends, resets}
 use Rattle.disk.specs.Questions.{questions, refusal}
-use Rattle.disk.specs.Perform.{enqueue, enqueueAll, journalAdd, change, hold, gaveBlock, gaveList, noted, made, numberGiven, changeFor, opening, closing, conflicted, unitEntries, afterFlush, accepted, refused, perform}
+use Rattle.disk.specs.Perform.{enqueue, enqueueAll, journalAdd, change, hold, relisted, noted, made, numberGiven, changeFor, opening, closing, conflicted, unitEntries, afterFlush, accepted, refused, perform}
+use Rattle.disk.proofs.Held.{noted-by}
 use Rattle.disk.proofs.Clauses.{right}
 use Rattle.disk.proofs.Performing.{perform-accepted, perform-refused}
 use Rattle.disk.proofs.Questions.{yes-all}
@@ -51,18 +53,13 @@ unfolding hold unitOf
 hold-window zero b d u = refl
 hold-window (suc v) b d u = refl
 
-noted-window : (s : ℕ) (c : Change Written) (d : Disk) (u : ℕ) → unitOf (noted s c d) u .window ≡ unitOf d u .window
-unfolding noted gaveBlock gaveList unitOf
-noted-window s (takeList l) d u = hold-window s (listNumber l) d u
-noted-window s (putFirst b l) d u = hold-window s b d u
-noted-window s (putAfter b l p) d u = hold-window s b d u
-noted-window s (write b x) d u = refl
-noted-window s (delBlock b) d u = refl
-noted-window s (delList l) d u = refl
+noted-window : (s : ℕ) (c : Change Written) (rs : List (Row Written)) (d : Disk) (u : ℕ) → unitOf (noted s c rs d) u .window ≡ unitOf d u .window
+unfolding relisted withListed unitOf
+noted-window s c rs d u = noted-by (λ e. unitOf e u .window ≡ unitOf d u .window) s (λ n e p. hold-window s n e u ∙ p) (λ fs e p. p) c rs d refl
 
 made-window : (s : ℕ) (c : Change Written) (d : Disk) (u : ℕ) → unitOf (made s c d) u .window ≡ unitOf d u .window
 unfolding made
-made-window s c d u = noted-window s c (change s c d) u ∙ change-window s c d u
+made-window s c d u = noted-window s c (committed d .lists) (change s c d) u ∙ change-window s c d u
 
 -- it is 0, or as it was
 abbrev pub Stays : Disk → Disk → ℕ → Type 0
@@ -72,19 +69,19 @@ stays-from : (d x e : Disk) (u : ℕ) → unitOf x u .window ≡ unitOf d u .win
 stays-from d x e u s (inl z) = inl z
 stays-from d x e u s (inr k) = inr (k ∙ s)
 
-closing-stays : (v : ℕ) (d : Disk) (u : ℕ) → Stays d (closing v d) u
-unfolding closing unitOf
-closing-stays v d u = set-closed (d .rec .held .units) (v - 1) (u - 1) _ refl
+closing-stays : (v : ℕ) (t : State Written) (d : Disk) (u : ℕ) → Stays d (closing v t d) u
+unfolding closing relisted withListed unitOf
+closing-stays v t d u = set-closed (d .rec .held .units) (v - 1) (u - 1) _ refl
 
-conflicted-stays : (n v : ℕ) (d : Disk) (u : ℕ) → Stays d (conflicted n (closing v d)) u
-unfolding conflicted closing unitOf
-conflicted-stays n v d u = set-closed (d .rec .held .units) (v - 1) (u - 1) _ refl
+conflicted-stays : (n v : ℕ) (t : State Written) (d : Disk) (u : ℕ) → Stays d (conflicted n (closing v t d)) u
+unfolding conflicted closing relisted withListed unitOf
+conflicted-stays n v t d u = set-closed (d .rec .held .units) (v - 1) (u - 1) _ refl
 
-fresh-closed : (u : ℕ) → unitAt freshRecord u .window ≡ 0
-unfolding freshRecord freshUnit
-fresh-closed u = go (u - 1)
+fresh-closed : (fs : List ℕ) (u : ℕ) → unitAt (freshRecord fs) u .window ≡ 0
+unfolding freshRecord withListed blankRecord freshUnit
+fresh-closed fs u = go (u - 1)
   where
-    go : (k : ℕ) → getD (freshRecord .held .units) k noUnit .window ≡ 0
+    go : (k : ℕ) → getD (blankRecord .held .units) k noUnit .window ≡ 0
     go zero = refl
     go (suc zero) = refl
     go (suc (suc zero)) = refl
@@ -108,15 +105,16 @@ begin-range v w d h = let (a, b) = and-true (leb 1 v) (leb v 4) (yes-all (begin 
 
 accepted-window : (c : Call) (d : Disk) (u : ℕ) → 1 ≤ u → refusal c d ≡ 0 → Other c d u → Stays d (accepted c d .disk) u
 unfolding accepted afterFlush unitOf
-accepted-window format d u p h o = inl (fresh-closed u)
-accepted-window mount d u p h o = inl (fresh-closed u)
+accepted-window format d u p h o = inl (fresh-closed allNumbers u)
+accepted-window mount d u p h o = inl (fresh-closed (persistent d .free) u)
 accepted-window (conflictCount w) d u p h o = inr refl
 accepted-window (onStream s e) d u p h o = inr (made-window s (changeFor e (numberGiven e d)) d u)
 accepted-window (inView v k) d u p h o = inr refl
 accepted-window (begin v w) d u p h o = inr (ap (λ (x : Unit). x .window) (unit-opening-other v u (begin-range v w d h .0) p (λ e. o e h) w d))
 accepted-window (end v) d u p h o =
     let x = enqueueAll (unitEntries (journalOf d v)) d in
-    stays-from d x (closing v x) u (ap (λ (us : List Unit). getD us (u - 1) noUnit .window) (beside-all (unitEntries (journalOf d v)) d .units)) (closing-stays v x u)
+    let t = overlay (journalOf d v) (listing d) in
+    stays-from d x (closing v t x) u (ap (λ (us : List Unit). getD us (u - 1) noUnit .window) (beside-all (unitEntries (journalOf d v)) d .units)) (closing-stays v t x u)
 accepted-window (flush a) d u p h o = inr refl
 
 refused-window : (c : Call) (m : ℕ) (d : Disk) (u : ℕ) → Stays d (refused c (suc m) d) u
@@ -125,7 +123,7 @@ refused-window c m d u = go (ends c) refl (eqb (suc m) 12) refl
   where
     go : (o : Option ℕ) → ends c ≡ o → (t : Bool) → eqb (suc m) 12 ≡ t → Stays d (refused c (suc m) d) u
     go none e t f = rw (e, refused) (inr refl)
-    go (some v) e true f = rw (e, refused) (rw (f, refused) (conflicted-stays (unitOf d v .window) v d u))
+    go (some v) e true f = rw (e, refused) (rw (f, refused) (conflicted-stays (unitOf d v .window) v (listing d) d u))
     go (some v) e false f = rw (e, refused) (rw (f, refused) (inr refl))
 
 pub window-stays : (c : Call) (d : Disk) (u : ℕ) → 1 ≤ u → Other c d u → Stays d (perform c d .disk) u
@@ -148,8 +146,8 @@ unfolding accepted resets unitOf
 reset-closed c d u r h = rw (perform-accepted c d h) (go c r)
   where
     go : (c : Call) → resets c ≡ true → unitOf (accepted c d .disk) u .window ≡ 0
-    go format r = fresh-closed u
-    go mount r = fresh-closed u
+    go format r = fresh-closed allNumbers u
+    go mount r = fresh-closed (persistent d .free) u
     go (conflictCount w) r = absurd (false≢true r)
     go (onStream s e) r = absurd (false≢true r)
     go (inView v k) r = absurd (false≢true r)

@@ -7,13 +7,13 @@ use lib.Dec.{eqb}
 use lib.ListN.{length, getD}
 use Rattle.lists.specs.Basic.{bind, from}
 use Rattle.lists.specs.Change.{Change, mapChange}
-use Rattle.lists.specs.State.{State, empty, overlay}
+use Rattle.lists.specs.State.{State, state, empty, overlay}
 use Rattle.log.specs.Raced.{withBody}
 use Rattle.log.specs.Entry.{Entry, mapEntry, asEntry, asChange}
 use Rattle.log.specs.Cell.{memberIn, entryIn}
 use Rattle.log.specs.Reader.{Reader, replay}
 use Rattle.log.specs.Card.{Written, slot, Outcome, sound, fault, mounted}
-use Rattle.disk.specs.Record.{Unit, Record, recordIn, noCell, unitAt, ringPlace, journalPlaces}
+use Rattle.disk.specs.Record.{Unit, Record, recordIn, noCell, unitAt, listedIn, ringPlace, journalPlaces}
 
 -- "Every call is lent card, queue data, journal data and record."
 pub record Disk : Type 0 where
@@ -77,3 +77,7 @@ committed d = stateOf (committedReader d)
 -- persistent one."
 unfoldable pub view : Disk → ℕ → State Written
 view d v = cond (eqb v 5) (persistent d) (cond (eqb v 0) (committed d) (overlay (journalOf d v) (committed d)))
+
+-- the committed lists with the record's own order of the free numbers, in which held ones are missing
+unfoldable pub listing : Disk → State Written
+listing d = state (committed d .lists) (listedIn (d .rec))

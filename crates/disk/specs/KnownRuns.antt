@@ -8,9 +8,9 @@ use Rattle.lists.specs.Basic.{from, joined}
 use Rattle.log.specs.Entry.{Entry, encode, raw}
 use Rattle.log.specs.Card.{Content, Written, countOffset}
 use Rattle.log.specs.Flush.{Ending, drained, spent}
-use Rattle.disk.specs.Record.{freshRecord, withFlow}
+use Rattle.disk.specs.Record.{blankRecord, withFlow}
 use Rattle.disk.specs.Disk.{Disk, queued}
-use Rattle.disk.specs.Call.{newList, newBlock, writeBlock, deleteBlock, readBlock, blockAfter, inventory, Call, format, mount, conflictCount, onStream, inView, begin, end, flush}
+use Rattle.disk.specs.Call.{newList, newBlock, writeBlock, deleteBlock, deleteList, readBlock, blockAfter, inventory, Call, format, mount, conflictCount, onStream, inView, begin, end, flush}
 use Rattle.disk.specs.Perform.{Result, perform, performAll, endingNumber}
 
 -- A step of a run, with what must come of it: a call, answered by its code, its two results and the lent bytes that it leaves; a look at the
@@ -81,7 +81,7 @@ blank = record {
   card = replicate 4096 170;
   queueData = replicate 8192 170;
   journalData = replicate 15360 170;
-  rec = withFlow freshRecord 170 170 170;
+  rec = withFlow blankRecord 170 170 170;
 }
 
 -- a 7 and 255 zeros
@@ -150,6 +150,10 @@ runs =
     ∷ run stored (
     accepts (begin 1 1) ∷ gives (onStream 1 newList) 2 ∷ accepts (onStream 1 (deleteBlock 1)) ∷ accepts (onStream 0 (deleteBlock 1)) ∷ refuses (end 1) 12
     ∷ lists 0 (1 ∷ []) ∷ queue (33 ∷ 1 ∷ []) ∷ [])
+    -- "numbers never used come first, ascending": block 1 and list 1, once deleted, are given after all others, over a mount too
+    ∷ run stored (
+    accepts (onStream 0 (deleteList 1)) ∷ gives (onStream 0 newList) 2 ∷ gives (onStream 0 (newBlock 2 0)) 2 ∷ flushes 65535 10 drained ∷ accepts mount
+    ∷ gives (onStream 0 newList) 3 ∷ gives (onStream 0 (newBlock 3 0)) 3 ∷ [])
     ∷ []
 
 -- each step of each run comes out as it must

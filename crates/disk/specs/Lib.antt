@@ -7,4 +7,5 @@ pub mod Perform
 pub mod Answers
 pub mod KnownRuns
 pub mod Statements
+pub mod Rest
 pub mod promises

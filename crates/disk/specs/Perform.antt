@@ -1,14 +1,15 @@
 -- What each call answers, and all that it leaves: of the record, of the card, of both data buffers and of the lent destination.
-use mathlib.Core.Bool.{true, false}
+use mathlib.Core.Bool.{true, false, _&&_, not}
 use mathlib.Core.Option.{Option, none, some}
 use mathlib.Core.List.{List, [], _∷_, _++_, map}
 use Prim.Native.Nat.{ℕ, zero, suc, _+_, _-_, _*_, _/_, _%_, min}
 use lib.Dec.{eqb}
 use lib.ListN.{length, drop, take, set}
-use Rattle.lists.specs.Basic.{orElse}
+use Rattle.lists.specs.Basic.{orElse, keep, times}
 use Rattle.lists.specs.Change.{Change, takeList, putFirst, putAfter, write, delBlock, delList, carriedBy}
-use Rattle.lists.specs.State.{State}
-use Rattle.lists.specs.InUse.{listNumber}
+use Rattle.lists.specs.State.{Row, State, frees, overlay}
+use Rattle.lists.specs.InUse.{listNumber, inUse}
+use Rattle.lists.specs.Numbers.{allNumbers}
 use Rattle.lists.specs.Lookup.{contentOf, nextAfter, listNums}
 use Rattle.log.specs.Raced.{raced}
 use Rattle.log.specs.Entry.{Entry, plain, member, commit, carried}
@@ -17,8 +18,8 @@ use Rattle.log.specs.Card.{Written, slotBytes, segmentsIn, Outcome, sound, faul
 use Rattle.log.specs.Store.{doStores, formatStores, tail}
 use Rattle.log.specs.Flush.{Flow, Flushed, Ending, drained, full, spent, flushFrom}
 use Rattle.listing.specs.Page.{pageText}
-use Rattle.disk.specs.Record.{ringPlace, withFlow, withLastBlock, withLastList, appended, journalGrown, unitTurned, holding, releasing, conflictCounted, countOf, freshRecord, queuePlaces}
-use Rattle.disk.specs.Disk.{Disk, withRecord, unitOf, journalPlace, journalOf, queued, view}
+use Rattle.disk.specs.Record.{Record, ringPlace, holderOf, listedIn, withListed, withFlow, appended, journalGrown, unitTurned, holding, releasing, conflictCounted, countOf, freshRecord, queuePlaces}
+use Rattle.disk.specs.Disk.{Disk, withRecord, unitOf, journalPlace, journalOf, queued, persistent, committed, view, listing}
 use Rattle.disk.specs.Call.{Edit, newList, newBlock, writeBlock, deleteBlock, deleteList, Look, readBlock, blockAfter, inventory, page, Call, format, mount, conflictCount, onStream, inView, begin, end, flush, ends, destination}
 use Rattle.disk.specs.Questions.{freeBlock, freeList, refusal}
 
@@ -73,30 +74,36 @@ change s c d = elim s [ zero ↦ enqueue (plain c) d | suc u ↦ journalAdd (suc
 unfoldable pub hold : ℕ → ℕ → Disk → Disk
 hold s n d = elim s [ zero ↦ d | suc u ↦ withRecord d (holding n (suc u) (d .rec)) ]
 
-unfoldable pub gaveBlock : ℕ → Disk → Disk
-gaveBlock b d = withRecord d (withLastBlock (d .rec) b)
+-- the free numbers in another order
+unfoldable pub relisted : List ℕ → Disk → Disk
+relisted fs d = withRecord d (withListed fs (d .rec))
 
-unfoldable pub gaveList : ℕ → Disk → Disk
-gaveList l d = withRecord d (withLastList (d .rec) l)
+-- a number given leaves it, on whatever stream
+unfoldable pub given : ℕ → Disk → Disk
+given n d = relisted (keep (λ m. not (eqb m n)) (listedIn (d .rec))) d
 
--- what the record notes of a number given with a change
-unfoldable pub noted : ℕ → Change Written → Disk → Disk
-noted s (takeList l) d = gaveList l (hold s (listNumber l) d)
-noted s (putFirst b l) d = gaveBlock b (hold s b d)
-noted s (putAfter b l p) d = gaveBlock b (hold s b d)
-noted s (write b x) d = d
-noted s (delBlock b) d = d
-noted s (delList l) d = d
+-- numbers freed on stream 0 join it at its end; what a unit frees it frees when it ends
+unfoldable pub freed : ℕ → List ℕ → Disk → Disk
+freed s ns d = elim s [ zero ↦ relisted (listedIn (d .rec) ++ ns) d | suc u ↦ d ]
+
+-- what the record notes of a change, made in these lists
+unfoldable pub noted : ℕ → Change Written → List (Row Written) → Disk → Disk
+noted s (takeList l) rs d = given (listNumber l) (hold s (listNumber l) d)
+noted s (putFirst b l) rs d = given b (hold s b d)
+noted s (putAfter b l p) rs d = given b (hold s b d)
+noted s (write b x) rs d = d
+noted s (delBlock b) rs d = freed s (frees (delBlock b) rs) d
+noted s (delList l) rs d = freed s (frees (delList l) rs) d
 
 -- a change that comes on a stream; "NewList inside a unit is journalled like everything else"
 unfoldable pub made : ℕ → Change Written → Disk → Disk
-made s c d = noted s c (change s c d)
+made s c d = noted s c (committed d .lists) (change s c d)
 
 -- put first where the predecessor is 0
 unfoldable pub putAt : ℕ → ℕ → ℕ → Change Written
 putAt b l p = elim p [ zero ↦ putFirst b l | suc q ↦ putAfter b l (suc q) ]
 
--- "NewBlock gives the first free number after the one given last", "NewList likewise with 16": the number given, 0 where none is
+-- "NewBlock and NewList now give the number that has been free longest": the number given, 0 where none is
 unfoldable pub numberGiven : Edit → Disk → ℕ
 numberGiven newList d = orElse 0 (freeList d)
 numberGiven (newBlock l p) d = orElse 0 (freeBlock d)
@@ -129,9 +136,14 @@ found (page x) s = let text = pageText (s .lists) in (length text, text ++ drop 
 unfoldable pub opening : ℕ → ℕ → Disk → Disk
 opening u w d = withRecord d (unitTurned w u (d .rec))
 
--- "the unit closes, its journal goes, its held numbers are released"
-unfoldable pub closing : ℕ → Disk → Disk
-closing u d = withRecord d (releasing u (unitTurned 0 u (d .rec)))
+-- The numbers that unit u gives up where a state's lists and free numbers are as s has them: "numbers released by a closing unit ascending, after those
+-- its commit freed; one that its commit put or took and also freed counts as freed there"
+unfoldable pub givenUp : {D : Type 0} → ℕ → State D → Record → List ℕ
+givenUp u s r = keep (λ n. eqb (holderOf r n) u && not (inUse n (s .lists)) && eqb (times n (s .free)) 0) allNumbers
+
+-- "the unit closes, its journal goes, its held numbers are released": they join the free numbers of s at their end
+unfoldable pub closing : ℕ → State Written → Disk → Disk
+closing u s d = relisted (s .free ++ givenUp u s (d .rec)) (withRecord d (releasing u (unitTurned 0 u (d .rec))))
 
 -- "An End refused 12 raises the count of the window its unit's Begin named and no other"
 unfoldable pub conflicted : ℕ → Disk → Disk
@@ -174,18 +186,21 @@ reply d n m x = record { disk = d; answer = record { code = 0; value = n; second
 
 -- what an accepted call does and returns
 unfoldable pub accepted : Call → Disk → Result
-accepted format d = reply (record { card = formatted (segmentsIn (d .card)) (d .card); queueData = d .queueData; journalData = d .journalData; rec = freshRecord }) 0 0 []
-accepted mount d = reply (withRecord d freshRecord) 0 0 []
+-- "numbers never used come first, ascending"
+accepted format d = reply (record { card = formatted (segmentsIn (d .card)) (d .card); queueData = d .queueData; journalData = d .journalData; rec = freshRecord allNumbers }) 0 0 []
+-- "After mounting, the log's order of freeing counts and holds that no acting entry shows are forgotten"
+accepted mount d = reply (withRecord d (freshRecord (persistent d .free))) 0 0 []
 accepted (conflictCount w) d = reply d (countOf (d .rec) w) 0 []
 accepted (onStream s e) d = let n = numberGiven e d in reply (made s (changeFor e n) d) n 0 []
 accepted (inView v k) d = let f = found k (view d v) in reply d (f .0) 0 (f .1)
 accepted (begin u w) d = reply (opening u w d) 0 0 []
-accepted (end u) d = reply (closing u (enqueueAll (unitEntries (journalOf d u)) d)) 0 0 []
+-- entry by entry the members act on the record's order too, as they do on a state's
+accepted (end u) d = reply (closing u (overlay (journalOf d u) (listing d)) (enqueueAll (unitEntries (journalOf d u)) d)) 0 0 []
 accepted (flush a) d = let f = flushed a d in reply (afterFlush d (f .flow)) (f .stores) (endingNumber (f .ending)) []
 
 -- "Beyond refusal 12's closing, a refusal changes nothing."
 unfoldable pub refused : Call → ℕ → Disk → Disk
-refused c n d = elim (ends c) [ none ↦ d | some u ↦ elim (eqb n 12) [ true ↦ conflicted (unitOf d u .window) (closing u d) | false ↦ d ] ]
+refused c n d = elim (ends c) [ none ↦ d | some u ↦ elim (eqb n 12) [ true ↦ conflicted (unitOf d u .window) (closing u (listing d) d) | false ↦ d ] ]
 
 -- "2, with segment and entry (from 0) of the first fault"; "other returned numbers are 0"
 unfoldable pub faultAt : Outcome Written → ℕ → Answer

@@ -2,17 +2,16 @@
 use mathlib.Core.Bool.{Bool, true, false, _&&_, _||_, not}
 use mathlib.Core.Option.{Option, none, some}
 use mathlib.Core.List.{List, [], _∷_}
-use Prim.Native.Nat.{ℕ, zero, suc, _+_, _%_}
+use Prim.Native.Nat.{ℕ, _+_, _-_}
 use lib.Dec.{leb, eqb, ltb}
 use lib.ListN.{length}
 use Rattle.lists.specs.Basic.{isSome}
 use Rattle.lists.specs.State.{Row, State, taken, placed, onList, applyAll}
-use Rattle.lists.specs.InUse.{listNumber}
 use Rattle.lists.specs.Lookup.{written}
 use Rattle.log.specs.Entry.{isBlock, isList, isRace}
 use Rattle.log.specs.Card.{Written, slotBytes, mounted}
 use Rattle.listing.specs.Page.{pageText}
-use Rattle.disk.specs.Record.{isOpen, holderOf, queuePlaces, journalPlaces, unitCount, windowCount}
+use Rattle.disk.specs.Record.{isOpen, listedIn, queuePlaces, journalPlaces, unitCount, windowCount}
 use Rattle.disk.specs.Disk.{Disk, unitOf, journalOf, readerOf, committed, view}
 use Rattle.disk.specs.Sound.{lengthsRight, recordSound, isOpenUnit}
 use Rattle.disk.specs.Call.{Edit, newList, newBlock, writeBlock, deleteBlock, deleteList, Look, readBlock, blockAfter, inventory, page, Call, format, mount, conflictCount, onStream, inView, begin, end, flush}
@@ -32,24 +31,17 @@ viewOpen d v = eqb v 5 || streamOpen d v
 unfoldable pub predecessorRight : List (Row Written) → ℕ → ℕ → Bool
 predecessorRight rs l p = eqb p 0 || onList l p rs
 
--- "the first free number after the one given last, 1 following 64": of k numbers after the last
-unfoldable pub freeFrom : (ℕ → Bool) → ℕ → ℕ → ℕ → Option ℕ
-freeFrom used limit zero last = none
-freeFrom used limit (suc k) last =
-    let n = suc (last % limit) in
-    elim (used n) [ true ↦ freeFrom used limit k n | false ↦ some n ]
+-- "NewBlock and NewList now give the number that has been free longest": the first that the record lists of its kind. The first of k numbers behind
+-- number m, counted from there:
+unfoldable pub firstFree : ℕ → ℕ → List ℕ → Option ℕ
+firstFree m k [] = none
+firstFree m k (n ∷ ns) = elim (ltb m n && leb n (m + k)) [ true ↦ some (n - m) | false ↦ firstFree m k ns ]
 
--- "Free means on no committed list and not held by an open unit."
 unfoldable pub freeBlock : Disk → Option ℕ
-freeBlock d =
-    let s = committed d in
-    freeFrom (λ b. placed b (s .lists) || not (eqb (holderOf (d .rec) b) 0)) 64 64 (d .rec .tally .lastBlock)
+freeBlock d = firstFree 0 64 (listedIn (d .rec))
 
--- "NewList likewise with 16 (free: not taken in the committed state)"; "the number is held by the unit and so free for no stream"
 unfoldable pub freeList : Disk → Option ℕ
-freeList d =
-    let s = committed d in
-    freeFrom (λ l. taken l (s .lists) || not (eqb (holderOf (d .rec) (listNumber l)) 0)) 16 16 (d .rec .tally .lastList)
+freeList d = firstFree 64 16 (listedIn (d .rec))
 
 -- "11. Has the journal fewer than 15?" (streams 1 to 4)
 unfoldable pub journalRoom : Disk → ℕ → Bool

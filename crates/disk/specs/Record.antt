@@ -1,9 +1,9 @@
 -- The working record: its parts by name, the bytes that it is lent as, and the record with a part changed.
 use mathlib.Core.Bool.{Bool, _&&_, not, cond}
-use mathlib.Core.List.{List, [], _∷_, map}
+use mathlib.Core.List.{List, [], _∷_, _++_, map}
 use Prim.Native.Nat.{ℕ, _+_, _-_, _*_, _%_, min}
 use lib.Dec.{eqb}
-use lib.ListN.{length, getD, set, replicate}
+use lib.ListN.{length, getD, set, take, replicate}
 use Rattle.lists.specs.Basic.{from}
 use Rattle.lists.specs.InUse.{numberCount}
 use Rattle.log.specs.Cell.{Cell, cell}
@@ -40,10 +40,10 @@ pub record Held : Type 0 where
   pub units : List Unit
   pub holder : List ℕ
 
--- block and list given last, and the conflict count of each window
+-- the free numbers in the order of their freeing: the first `listed` of the places; and the conflict count of each window
 pub record Tally : Type 0 where
-  pub lastBlock : ℕ
-  pub lastList : ℕ
+  pub order : List ℕ
+  pub listed : ℕ
   pub conflicts : List ℕ
 
 pub record Record : Type 0 where
@@ -54,7 +54,7 @@ pub record Record : Type 0 where
 abbrev pub unit : ℕ → ℕ → List Cell → Unit
 unit w n j = record { window = w; len = n; journal = j }
 
--- "Every call is lent card, queue data, journal data and record.": the record in 494 bytes. Cells of four bytes, and bytes, from byte a on, n of them:
+-- "Every call is lent card, queue data, journal data and record.": the record in 573 bytes. Cells of four bytes, and bytes, from byte a on, n of them:
 unfoldable pub cellsIn : List ℕ → ℕ → ℕ → List Cell
 cellsIn bs a n = from (λ k. cell (getD bs (a + 4 * k) 0) (getD bs (a + 4 * k + 1) 0) (getD bs (a + 4 * k + 2) 0) (getD bs (a + 4 * k + 3) 0)) 0 n
 
@@ -77,7 +77,7 @@ unfoldable pub recordIn : List ℕ → Record
 recordIn bs = record {
   ring = record { queue = cellsIn bs 0 queuePlaces; head = getD bs 456 0; len = getD bs 457 0; done = pairIn bs 458 };
   held = record { units = from (unitIn bs) 0 unitCount; holder = bytesIn bs 376 numberCount };
-  tally = record { lastBlock = getD bs 460 0; lastList = getD bs 461 0; conflicts = pairsIn bs 462 windowCount };
+  tally = record { order = bytesIn bs 493 numberCount; listed = getD bs 460 0; conflicts = pairsIn bs 461 windowCount };
 }
 
 -- what stands in a place that holds nothing, and past the end of the units
@@ -86,19 +86,6 @@ noCell = cell 0 0 0 0
 
 abbrev pub noUnit : Unit
 noUnit = unit 0 0 []
-
--- "Only formatting and mounting don't look at the lent record but set it anew: queue empty, units closed, nothing held." "the head place [..] is
--- 0 after mounting"; "mounting counts as 64 given last", "likewise with 16"; each window's count "is 0 after mounting".
-unfoldable pub freshUnit : Unit
-freshUnit = unit 0 0 (replicate journalPlaces noCell)
-
-unfoldable pub freshRecord : Record
-unfolding freshUnit
-freshRecord = record {
-  ring = record { queue = replicate queuePlaces noCell; head = 0; len = 0; done = 0 };
-  held = record { units = replicate unitCount freshUnit; holder = replicate numberCount 0 };
-  tally = record { lastBlock = 64; lastList = 16; conflicts = replicate windowCount 0 };
-}
 
 -- the place of the queue's entry k: "32 places used in a ring"
 abbrev pub ringPlace : Record → ℕ → ℕ
@@ -114,6 +101,10 @@ isOpen x = not (eqb (x .window) 0)
 abbrev pub holderOf : Record → ℕ → ℕ
 holderOf r n = getD (r .held .holder) (n - 1) 0
 
+-- the numbers that the record lists, in order
+unfoldable pub listedIn : Record → List ℕ
+listedIn r = take (r .tally .listed) (r .tally .order)
+
 -- window w's conflict count
 abbrev pub countOf : Record → ℕ → ℕ
 countOf r w = getD (r .tally .conflicts) (w - 1) 0
@@ -122,7 +113,7 @@ countOf r w = getD (r .tally .conflicts) (w - 1) 0
 unfoldable pub shaped : Record → Bool
 shaped r =
     eqb (length (r .ring .queue)) queuePlaces && eqb (length (r .held .units)) unitCount && eqb (length (r .held .holder)) numberCount
-    && eqb (length (r .tally .conflicts)) windowCount
+    && eqb (length (r .tally .order)) numberCount && eqb (length (r .tally .conflicts)) windowCount
     && eqb (length (unitAt r 1 .journal)) journalPlaces && eqb (length (unitAt r 2 .journal)) journalPlaces
     && eqb (length (unitAt r 3 .journal)) journalPlaces && eqb (length (unitAt r 4 .journal)) journalPlaces
 
@@ -133,8 +124,8 @@ withRing r q h n k = record { ring = record { queue = q; head = h; len = n; done
 abbrev pub withHeld : Record → List Unit → List ℕ → Record
 withHeld r us hs = record { ring = r .ring; held = record { units = us; holder = hs }; tally = r .tally }
 
-abbrev pub withTally : Record → ℕ → ℕ → List ℕ → Record
-withTally r b l ns = record { ring = r .ring; held = r .held; tally = record { lastBlock = b; lastList = l; conflicts = ns } }
+abbrev pub withTally : Record → List ℕ → ℕ → List ℕ → Record
+withTally r os n ns = record { ring = r .ring; held = r .held; tally = record { order = os; listed = n; conflicts = ns } }
 
 -- a unit with its journal emptied; the elements stay as they are
 abbrev pub emptied : ℕ → Unit → Unit
@@ -171,16 +162,32 @@ holding n u r = withHeld r (r .held .units) (set (r .held .holder) (n - 1) u)
 abbrev pub releasing : ℕ → Record → Record
 releasing u r = withHeld r (r .held .units) (released u (r .held .holder))
 
--- block b, list l given last
-abbrev pub withLastBlock : Record → ℕ → Record
-withLastBlock r b = withTally r b (r .tally .lastList) (r .tally .conflicts)
+-- these numbers listed, and 0 in the places behind them
+abbrev pub padded : List ℕ → List ℕ
+padded fs = fs ++ replicate (numberCount - length fs) 0
 
-abbrev pub withLastList : Record → ℕ → Record
-withLastList r l = withTally r (r .tally .lastBlock) l (r .tally .conflicts)
+unfoldable pub withListed : List ℕ → Record → Record
+withListed fs r = withTally r (padded fs) (length fs) (r .tally .conflicts)
 
 -- one conflict more of window w: "its own count, which stops at 65,535"
 abbrev pub withCount : Record → ℕ → ℕ → Record
-withCount r w n = withTally r (r .tally .lastBlock) (r .tally .lastList) (set (r .tally .conflicts) (w - 1) n)
+withCount r w n = withTally r (r .tally .order) (r .tally .listed) (set (r .tally .conflicts) (w - 1) n)
 
 abbrev pub conflictCounted : ℕ → Record → Record
 conflictCounted w r = withCount r w (min 65535 (countOf r w + 1))
+
+-- "Only formatting and mounting don't look at the lent record but set it anew: queue empty, units closed, nothing held." "the head place [..] is
+-- 0 after mounting"; each window's count "is 0 after mounting". fs are the free numbers: "After mounting, the log's order of freeing counts".
+unfoldable pub freshUnit : Unit
+freshUnit = unit 0 0 (replicate journalPlaces noCell)
+
+unfoldable pub blankRecord : Record
+unfolding freshUnit
+blankRecord = record {
+  ring = record { queue = replicate queuePlaces noCell; head = 0; len = 0; done = 0 };
+  held = record { units = replicate unitCount freshUnit; holder = replicate numberCount 0 };
+  tally = record { order = replicate numberCount 0; listed = 0; conflicts = replicate windowCount 0 };
+}
+
+unfoldable pub freshRecord : List ℕ → Record
+freshRecord fs = withListed fs blankRecord

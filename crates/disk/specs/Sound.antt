@@ -1,16 +1,17 @@
 -- Questions 1 and 3: the lent lengths, and the record's soundness, clause by clause.
-use mathlib.Core.Bool.{Bool, true, false, _&&_, _||_, not}
+use mathlib.Core.Bool.{Bool, true, false, _&&_, _||_, not, cond}
 use mathlib.Core.List.{List, [], _∷_}
 use Prim.Native.Nat.{ℕ, _/_}
 use lib.Dec.{leb, eqb, ltb}
-use lib.ListN.{length}
-use Rattle.lists.specs.Basic.{isSome, all, each, from}
+use lib.ListN.{length, drop}
+use Rattle.lists.specs.Basic.{isSome, all, each, times, from}
 use Rattle.lists.specs.Change.{Change}
-use Rattle.lists.specs.InUse.{numberCount, inUse, brings}
-use Rattle.log.specs.Entry.{Entry, member, raw, legal, isBlock, isList}
+use Rattle.lists.specs.InUse.{numberCount, isNumber, inUse, brings}
+use Rattle.lists.specs.Numbers.{allNumbers}
+use Rattle.log.specs.Entry.{Entry, member, raw, legal}
 use Rattle.log.specs.Card.{Written, cardLength, segmentsIn}
 use Rattle.log.specs.Store.{home, tail, headAt}
-use Rattle.disk.specs.Record.{Record, shaped, isOpen, holderOf, queuePlaces, journalPlaces, unitCount, windowCount}
+use Rattle.disk.specs.Record.{Record, shaped, isOpen, holderOf, listedIn, queuePlaces, journalPlaces, unitCount, windowCount}
 use Rattle.disk.specs.Disk.{Disk, unitOf, queued, journalOf, committed, committedReader}
 
 -- "1. Are the lent lengths of card, queue data and journal data right?"
@@ -38,6 +39,14 @@ unitSound d u =
 unfoldable pub holderSound : Disk → ℕ → Bool
 holderSound d n = eqb (holderOf (d .rec) n) 0 || isOpenUnit d (holderOf (d .rec) n) && not (inUse n (committed d .lists))
 
+-- "counts and numbers in range": the numbers listed, and 0 in the places behind them
+unfoldable pub orderSound : Record → Bool
+orderSound r = leb (r .tally .listed) numberCount && all isNumber (listedIn r) && all (λ n. eqb n 0) (drop (r .tally .listed) (r .tally .order))
+
+-- "question 3 wants each free number and no other listed, once, and believes their order."
+unfoldable pub listedSound : Disk → ℕ → Bool
+listedSound d n = eqb (times n (listedIn (d .rec))) (cond (not (inUse n (committed d .lists)) && eqb (holderOf (d .rec) n) 0) 1 0)
+
 -- "stores already done of the head (none if it has no place) standing on the card": k of them are done
 unfoldable pub headStanding : List ℕ → ℕ → List (Entry Written) → Bool
 headStanding c k [] = eqb k 0
@@ -50,10 +59,11 @@ recordSound d =
     each
     (shaped r
     ∷ leb (r .ring .len) queuePlaces ∷ ltb (r .ring .head) queuePlaces
-    ∷ isBlock (r .tally .lastBlock) ∷ isList (r .tally .lastList)
+    ∷ orderSound r
     ∷ all (λ e. legal (raw 0 e)) (queued d)
     ∷ all (unitSound d) (from (λ u. u) 1 unitCount)
     ∷ isSome (committedReader d)
     ∷ headStanding (d .card) (r .ring .done) (queued d)
-    ∷ all (holderSound d) (from (λ n. n) 1 numberCount)
+    ∷ all (holderSound d) allNumbers
+    ∷ all (listedSound d) allNumbers
     ∷ [])

@@ -32,7 +32,7 @@ abbrev pub IsBytes : List ℕ → Type 0
 IsBytes bs = (i : ℕ) → getD bs i 0 < 256
 
 abbrev pub RecordFixed : Type 0
-RecordFixed = (bs cs : List ℕ) → length bs ≡ 494 → length cs ≡ 494 → IsBytes bs → IsBytes cs → recordIn bs ≡ recordIn cs → bs ≡ cs
+RecordFixed = (bs cs : List ℕ) → length bs ≡ 573 → length cs ≡ 573 → IsBytes bs → IsBytes cs → recordIn bs ≡ recordIn cs → bs ≡ cs
 
 -- "the inventory, which fills 16 lent bytes with the lists taken in a view, [..] other bytes unchanged, and returns how many": n of them, ls in their
 -- order, in the destination y, which held x

@@ -1,2 +1,3 @@
 -- What functions promise each other: read after the definitions beside this folder, which a customer believes.
 pub mod Bytes
+pub mod Listing

@@ -1,15 +1,15 @@
-// One part of the record changed: the queue, a unit, the holders, the numbers given last, the conflict counts.
+// One part of the record changed: the queue, a unit, the holders, the order of the free numbers, the conflict counts.
 use crate::record::CELL;
 use crate::record::COUNTS;
 use crate::record::DONE;
 use crate::record::HEAD;
 use crate::record::HOLDERS;
 use crate::record::JOURNALS;
-use crate::record::LAST_BLOCK;
-use crate::record::LAST_LIST;
 use crate::record::LEN;
 use crate::record::LENGTHS;
+use crate::record::LISTED;
 use crate::record::NUMBERS;
+use crate::record::ORDER;
 use crate::record::RECORD;
 use crate::record::Record;
 use crate::record::UNIT_WINDOWS;
@@ -27,12 +27,13 @@ ghost use lib.Dec.{eqb};
 ghost use lib.ListN.{length, set};
 ghost use Rattle.log.specs.Entry.{asEntry};
 ghost use Rattle.log.specs.Cell.{cellOf};
-ghost use Rattle.disk.specs.Record.{recordIn, unitAt, withFlow, withLastBlock, withLastList, appended, journalGrown, unitTurned, holding, releasing, conflictCounted, freshRecord};
+ghost use Rattle.disk.specs.Record.{recordIn, unitAt, withFlow, appended, journalGrown, unitTurned, holding, releasing, conflictCounted, blankRecord};
 ghost use Rattle.disk.specs.promises.Bytes.{cellSet};
+ghost use Rattle.disk.specs.promises.Listing.{withMany, withPlace};
 
 // Nothing is done, and the compiler drops the copy: how long an array is the proof learns of a value, not of a reference.
 fn sized(rec: [u8; RECORD])
-    ensures { λ r. ⌜ length rec ≡ 494 ⌝ }
+    ensures { λ r. ⌜ length rec ≡ 573 ⌝ }
 {}
 
 // The four bytes of an entry, from byte i on.
@@ -109,19 +110,21 @@ pub fn count_conflict(rec: &mut [u8; RECORD], w: usize)
     rec[i + 1] = (m / 256) as u8;
 }
 
-// The number given last.
-pub fn gave_block(rec: &mut [u8; RECORD], b: u8)
-    ensures { λ r. ⌜ recordIn (now (rec .exit)) ≡ withLastBlock (recordIn (now (rec .entry))) b ⌝ }
+// So many free numbers listed; another number in a place of their order.
+pub fn list_first(rec: &mut [u8; RECORD], n: usize)
+    requires { ⌜ n ≤ 80 ⌝ }
+    ensures { λ r. ⌜ recordIn (now (rec .exit)) ≡ withMany n (recordIn (now (rec .entry))) ⌝ }
 {
     sized(*rec);
-    rec[LAST_BLOCK] = b;
+    rec[LISTED] = n as u8;
 }
 
-pub fn gave_list(rec: &mut [u8; RECORD], l: u8)
-    ensures { λ r. ⌜ recordIn (now (rec .exit)) ≡ withLastList (recordIn (now (rec .entry))) l ⌝ }
+pub fn put_listed(rec: &mut [u8; RECORD], at: usize, number: u8)
+    requires { ⌜ at < 80 ⌝ }
+    ensures { λ r. ⌜ recordIn (now (rec .exit)) ≡ withPlace at number (recordIn (now (rec .entry))) ⌝ }
 {
     sized(*rec);
-    rec[LAST_LIST] = l;
+    rec[ORDER + at] = number;
 }
 
 // The queue from another head on, with another length, and stores done of its head.
@@ -155,9 +158,9 @@ pub fn release(rec: &mut [u8; RECORD], u: u8)
     }
 }
 
-// The record set anew.
+// The record set anew, no number listed yet.
 pub fn renew(rec: &mut [u8; RECORD])
-    ensures { λ r. ⌜ recordIn (now (rec .exit)) ≡ freshRecord ⌝ }
+    ensures { λ r. ⌜ recordIn (now (rec .exit)) ≡ blankRecord ⌝ }
 {
     let fresh = Record::fresh();
     let bytes = fresh.bytes;

@@ -8,8 +8,9 @@
 //     368   the window that the unit's Begin named, 0 where it is closed: a byte for each
 //     372   entries in its journal: a byte for each unit
 //     376   the unit that holds the number, 0 for none: a byte for each block, then for each list
-//     456   the queue's head, then its length; stores done of the head, two bytes; block and list given last
-//     462   conflicts counted for the window: two bytes for each
+//     456   the queue's head, then its length; stores done of the head, two bytes; how many free numbers are listed
+//     461   conflicts counted for the window: two bytes for each
+//     493   the free numbers, blocks and lists, in the order of their freeing: a byte for each
 use lists::tables::of_bytes;
 use log::cell::entry_in;
 use log::entry::LogEntry;
@@ -19,10 +20,10 @@ ghost use Prim.Native.Nat.{_<_, _≤_};
 ghost use lib.ListN.{getD};
 ghost use Rattle.lists.specs.InUse.{listNumber};
 ghost use Rattle.log.specs.Cell.{memberIn, entryIn};
-ghost use Rattle.disk.specs.Record.{recordIn, noCell, unitAt, isOpen, holderOf, countOf, freshRecord};
+ghost use Rattle.disk.specs.Record.{recordIn, noCell, unitAt, isOpen, holderOf, countOf, blankRecord};
 
 // How many bytes a record has.
-pub const RECORD: usize = 494;
+pub const RECORD: usize = 573;
 
 pub const CELL: usize = 4;
 
@@ -40,11 +41,11 @@ pub const LEN: usize = 457;
 
 pub const DONE: usize = 458;
 
-pub const LAST_BLOCK: usize = 460;
+pub const LISTED: usize = 460;
 
-pub const LAST_LIST: usize = 461;
+pub const COUNTS: usize = 461;
 
-pub const COUNTS: usize = 462;
+pub const ORDER: usize = 493;
 
 // Blocks and lists are held by their numbers: 1 to BLOCKS, then the lists.
 pub const NUMBERS: usize = (LogEntry::BLOCKS + LogEntry::LISTS) as usize;
@@ -75,14 +76,13 @@ impl Record {
 
     pub const CONFLICTS: u16 = 65535;
 
-    // The record after an accepted mounting or formatting.
+    // The record that a mounting or a formatting starts from, before it lists the free numbers.
     pub fn fresh() -> Record
-        ensures { λ r. ⌜ recordIn (r .bytes) ≡ freshRecord ⌝ }
+        ensures { λ r. ⌜ recordIn (r .bytes) ≡ blankRecord ⌝ }
     {
-        let mut bytes = [0u8; RECORD];
-        bytes[LAST_BLOCK] = LogEntry::BLOCKS;
-        bytes[LAST_LIST] = LogEntry::LISTS;
-        Record { bytes }
+        Record {
+            bytes: [0u8; RECORD],
+        }
     }
 }
 
@@ -118,16 +118,18 @@ pub fn done(rec: &[u8; RECORD]) -> usize
     of_bytes(rec[DONE], rec[DONE + 1]) as usize
 }
 
-pub fn last_block(rec: &[u8; RECORD]) -> u8
-    ensures { λ r. ⌜ r ≡ recordIn (now (rec .entry)) .tally .lastBlock ⌝ }
+// How many free numbers are listed, and the one in a place of their order.
+pub fn listed(rec: &[u8; RECORD]) -> usize
+    ensures { λ r. ⌜ r ≡ recordIn (now (rec .entry)) .tally .listed ⌝ }
 {
-    rec[LAST_BLOCK]
+    wide(rec[LISTED])
 }
 
-pub fn last_list(rec: &[u8; RECORD]) -> u8
-    ensures { λ r. ⌜ r ≡ recordIn (now (rec .entry)) .tally .lastList ⌝ }
+pub fn listed_at(rec: &[u8; RECORD], at: usize) -> u8
+    requires { ⌜ at < 80 ⌝ }
+    ensures { λ r. ⌜ r ≡ getD (recordIn (now (rec .entry)) .tally .order) at 0 ⌝ }
 {
-    rec[LAST_LIST]
+    rec[ORDER + at]
 }
 
 // The conflicts counted for window w.

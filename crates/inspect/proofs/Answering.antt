@@ -1,5 +1,5 @@
 -- Question 3 by its parts: the clauses that the record decides, and those behind the log, asked at locations.
-use mathlib.Core.Path.{_≡_, refl, sym, ap, _∙_}
+use mathlib.Core.Path.{_≡_, refl, ap, _∙_}
 use mathlib.Core.Bool.{Bool, true, false, _&&_}
 use mathlib.Core.Option.{Option, none, some, Option·map}
 use mathlib.Core.List.{List, [], _∷_, _++_, map}
@@ -9,18 +9,19 @@ use Rattle.lists.specs.Basic.{isSome, all, each, from}
 use Rattle.lists.specs.Change.{Change, takeList, putFirst, putAfter, write, delBlock, delList, mapChange}
 use Rattle.lists.specs.State.{Row, mapRow}
 use Rattle.lists.specs.InUse.{numberCount, inUse, brings}
+use Rattle.lists.specs.Numbers.{allNumbers}
 use Rattle.lists.proofs.Naturality.{taken-map, placed-map}
 use Rattle.log.specs.Raced.{Raced, withBody}
-use Rattle.log.specs.Entry.{member, raw, legal, mapEntry, isBlock, isList}
+use Rattle.log.specs.Entry.{member, raw, legal, mapEntry}
 use Rattle.log.specs.Reader.{Reader, replay}
 use Rattle.log.specs.Card.{Content, Written, slot, sound, fault, mounted, cardLength, walkCard}
 use Rattle.log.specs.promises.Location.{cardNumber}
 use Rattle.log.proofs.Naturality.{mapReader, raw-map}
 use Rattle.disk.specs.Record.{Record, shaped, unitAt, ringPlace, unitCount}
 use Rattle.disk.specs.Disk.{Disk, disk, unitOf, queuedAt, queued, journalPlace, journalAt, journalOf, readerOf, committedReader, stateOf, committed}
-use Rattle.disk.specs.Sound.{isOpenUnit, journalSound, unitSound, holderSound, headStanding, recordSound}
+use Rattle.disk.specs.Sound.{isOpenUnit, journalSound, unitSound, holderSound, orderSound, listedSound, headStanding, recordSound}
 use Rattle.inspect.specs.promises.Located.{contents, queuedSaid, queueSaid, queueHere}
-use Rattle.inspect.specs.promises.Clauses.{numbersRight, changeRight, changeIn, unitRight, unitsRight, openUnit, holderRight, holdersRight, lawful, rowsOf, settledRight}
+use Rattle.inspect.specs.promises.Clauses.{numbersRight, changeRight, changeIn, unitRight, unitsRight, openUnit, holderRight, holdersRight, dueTimes, listedRight, allListed, lawful, rowsOf, settledRight}
 use Rattle.inspect.specs.promises.Inspect.{behindLog}
 use Rattle.inspect.proofs.Judging.{and-no}
 use Rattle.inspect.proofs.Locating.{committed-here, some-map}
@@ -38,17 +39,17 @@ each-append [] ys = refl
 each-append (true ∷ xs) ys = each-append xs ys
 each-append (false ∷ xs) ys = refl
 
--- five tests in another order
-turned : (l u s h o : Bool) → each (l ∷ u ∷ s ∷ h ∷ o ∷ []) ≡ u && each (l ∷ s ∷ o ∷ h ∷ [])
+-- six tests in another order
+turned : (l u s h o f : Bool) → each (l ∷ u ∷ s ∷ h ∷ o ∷ f ∷ []) ≡ u && each (l ∷ s ∷ o ∷ f ∷ h ∷ [])
 unfolding each
-turned false false s h o = refl
-turned false true s h o = refl
-turned true false s h o = refl
-turned true true false h o = refl
-turned true true true false false = refl
-turned true true true false true = refl
-turned true true true true false = refl
-turned true true true true true = refl
+turned false false s h o f = refl
+turned false true s h o f = refl
+turned true false s h o f = refl
+turned true true false h o f = refl
+turned true true true false false f = refl
+turned true true true false true false = refl
+turned true true true false true true = refl
+turned true true true true o f = refl
 
 -- The units.
 brings-map : {D E : Type 0} (f : D → E) (c : Change D) → brings (mapChange f c) ≡ brings c
@@ -84,11 +85,12 @@ module _ (d : Disk) where
       let u = all (unitSound d) (from (λ u. u) 1 unitCount) in
       let s = isSome (committedReader d) in
       let k = headStanding (d .card) (r .ring .done) (queued d) in
-      let o = all (holderSound d) (from (λ n. n) 1 numberCount) in
-      let ns = leb (r .ring .len) 32 ∷ ltb (r .ring .head) 32 ∷ isBlock (r .tally .lastBlock) ∷ isList (r .tally .lastList) ∷ [] in
-      ap (λ (b : Bool). b && each (ns ++ l ∷ u ∷ s ∷ k ∷ o ∷ [])) h
-      ∙ each-append ns (l ∷ u ∷ s ∷ k ∷ o ∷ [])
-      ∙ ap (λ (b : Bool). each ns && b) (turned l u s k o ∙ ap (λ (b : Bool). b && behindLog d) units-is)
+      let o = all (holderSound d) allNumbers in
+      let f = all (listedSound d) allNumbers in
+      let ns = leb (r .ring .len) 32 ∷ ltb (r .ring .head) 32 ∷ orderSound r ∷ [] in
+      ap (λ (b : Bool). b && each (ns ++ l ∷ u ∷ s ∷ k ∷ o ∷ f ∷ [])) h
+      ∙ each-append ns (l ∷ u ∷ s ∷ k ∷ o ∷ f ∷ [])
+      ∙ ap (λ (b : Bool). each ns && b) (turned l u s k o f ∙ ap (λ (b : Bool). b && behindLog d) units-is)
 
   -- A card with a fault.
   pub fault-behind : (g i : ℕ) → mounted (d .card) ≡ fault g i → behindLog d ≡ false
@@ -126,9 +128,17 @@ module _ (d : Disk) where
     unfolding holderSound holderRight isOpenUnit openUnit unitOf
     holder-is b = rw (rows-is, used-map b (rowsOf o))
 
-    holders-is : all (holderSound d) (from (λ n. n) 1 numberCount) ≡ holdersRight (d .rec) (rowsOf o)
-    unfolding holdersRight
+    holders-is : all (holderSound d) allNumbers ≡ holdersRight (d .rec) (rowsOf o)
+    unfolding holdersRight allNumbers
     holders-is = all-same (holderSound d) (holderRight (d .rec) (rowsOf o)) (λ n. n) (λ n. n) 1 numberCount holder-is
+
+    listed-is : (n : ℕ) → listedSound d n ≡ listedRight (d .rec) (rowsOf o) n
+    unfolding listedSound listedRight dueTimes
+    listed-is n = rw (rows-is, used-map n (rowsOf o))
+
+    all-listed-is : all (listedSound d) allNumbers ≡ allListed (d .rec) (rowsOf o)
+    unfolding allListed allNumbers
+    all-listed-is = all-same (listedSound d) (listedRight (d .rec) (rowsOf o)) (λ n. n) (λ n. n) 1 numberCount listed-is
 
     queued-is : queued d ≡ queued (disk (d .card) (d .queueData) [] (d .rec))
     unfolding queued queuedAt
@@ -136,4 +146,4 @@ module _ (d : Disk) where
 
     pub settled-is : behindLog d ≡ settledRight (d .card) (d .queueData) (d .rec) x
     unfolding settledRight behindLog each
-    settled-is = rw (lawful-is, some-is, holders-is, queued-is)
+    settled-is = rw (lawful-is, some-is, holders-is, all-listed-is, queued-is)

@@ -28,6 +28,7 @@ use Rattle.inspect.specs.declared.examine.Examined.{Examined}
 use Rattle.inspect.specs.declared.examine.Examined.the-variants.{WrongLength, Unsound, Sound}
 use Rattle.inspect.proofs.Behind.{tail-within}
 use Rattle.inspect.proofs.Locating.{committed-here}
+use Rattle.inspect.proofs.Ordering.{order-few}
 use Rattle.inspect.proofs.Answering.{parts, fault-behind, settled-is}
 
 -- What is asked next may take for granted what was asked before.
@@ -37,9 +38,9 @@ lengths-asked d h =
     let (a, b) = and-true (cardLength (d .card)) (eqb (length (d .queueData)) 8192) (and-true (cardLength (d .card) && eqb (length (d .queueData)) 8192) (eqb (length (d .journalData)) 15360) h .0) in
     (a, eqb-true (length (d .queueData)) 8192 b)
 
-pub numbers-asked : (r : Record) → numbersRight r ≡ true → (r .ring .len ≤ 32) × (r .ring .head < 32)
+pub numbers-asked : (r : Record) → numbersRight r ≡ true → (r .ring .len ≤ 32) × (r .ring .head < 32) × (r .tally .listed ≤ 80)
 unfolding numbersRight
-numbers-asked r h = (leb-true (r .ring .len) 32 (each-at _ h 0), ltb-true (r .ring .head) 32 (each-at _ h 1))
+numbers-asked r h = (leb-true (r .ring .len) 32 (each-at _ h 0), ltb-true (r .ring .head) 32 (each-at _ h 1), order-few r (each-at _ h 2))
 
 -- the place behind a log that was walked
 pub place-asked : (c : List ℕ) (p : Place) (n : ℕ) (m : Memory) → cardLength c ≡ true → Sounds c p n m → Within p × (p .segment < segmentsIn c)

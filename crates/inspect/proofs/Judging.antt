@@ -13,13 +13,15 @@ use Rattle.lists.specs.Basic.{all, each, from}
 use Rattle.lists.specs.Change.{Change, mapChange}
 use Rattle.lists.specs.State.{Row}
 use Rattle.lists.specs.InUse.{numberCount, inUse, brings}
-use Rattle.lists.proofs.Basic.{from-step, from-none, from-shift, eqb-true, eqb-false, le-true, leb-true, and-true, gt-false}
+use Rattle.lists.specs.Numbers.{allNumbers}
+use Rattle.lists.proofs.Basic.{from-step, from-none, from-shift, eqb-true, eqb-false, le-true, gt-false}
 use Rattle.log.specs.Raced.{Raced}
-use Rattle.log.specs.Entry.{member, raw, mapEntry, legal, legalChange, asChange, isBlock, isList}
+use Rattle.log.specs.Entry.{member, raw, mapEntry, legal, legalChange, asChange}
 use Rattle.log.specs.declared.entry.LogEntry.{LogEntry}
 use Rattle.log.specs.declared.entry.LogEntry.the-variants.{Take, PutFirst, PutAfter, Write, DeleteBlock, DeleteList, Commit}
 use Rattle.log.proofs.entry.LogEntry.{the-type}
 use Rattle.disk.specs.Record.{Unit, Record, unitAt, isOpen, holderOf, unitCount}
+use Rattle.disk.specs.Sound.{orderSound}
 use Rattle.inspect.specs.promises.Clauses.{numbersRight, changeRight, changeIn, unitRight, unitsRight, openUnit, holderRight, holdersRight}
 
 pub and-yes : (b : Bool) → b && true ≡ b
@@ -65,11 +67,6 @@ no-tag t l (inl k) = omega arith
 no-tag t l (inr (inl k)) = omega arith
 no-tag t l (inr (inr (inl k))) = omega arith
 no-tag t l (inr (inr (inr k))) = omega arith
-
--- a take that may be a member is one of a list
-pub take-range : (e : LogEntry) (l : ℕ) → e ≡ Take l → legal (raw 0 (member (asChange e))) ≡ true → l ≤ 16
-unfolding asChange legal raw mapEntry mapChange legalChange
-take-range e l q h = let k = rw q at h in leb-true l 16 (and-true (leb 1 l) (leb l 16) k .1)
 
 -- A change in unit u's journal.
 module _ (hs : List ℕ) (u : ℕ) where
@@ -135,15 +132,11 @@ module _ (r : Record) (u : ℕ) where
   open-unit a b = rw (le-true 1 u a, le-true u 4 b)
 
 -- The counts and numbers.
-pub numbers-all : (r : Record) → (leb (r .ring .len) 32 && ltb (r .ring .head) 32) && (isBlock (r .tally .lastBlock) && isList (r .tally .lastList)) ≡ numbersRight r
+pub numbers-all : (r : Record) → (leb (r .ring .len) 32 && ltb (r .ring .head) 32) && orderSound r ≡ numbersRight r
 unfolding numbersRight each
-numbers-all r = four (leb (r .ring .len) 32) (ltb (r .ring .head) 32) (isBlock (r .tally .lastBlock)) (isList (r .tally .lastList))
-  where
-    four : (a b c d : Bool) → (a && b) && (c && d) ≡ a && (b && (c && (d && true)))
-    four false b c d = refl
-    four true false c d = refl
-    four true true false d = refl
-    four true true true d = sym (and-yes d)
+numbers-all r =
+    ap (λ (b : Bool). leb (r .ring .len) 32 && ltb (r .ring .head) 32 && b) (sym (and-yes (orderSound r)))
+    ∙ and-behind (leb (r .ring .len) 32) (ltb (r .ring .head) 32) (orderSound r && true)
 
 -- The holder h of number b, over the lists rs.
 module _ (r : Record) (rs : List (Row ℕ)) (b h : ℕ) (e : holderOf r b ≡ h) where
@@ -164,5 +157,5 @@ module _ (r : Record) (rs : List (Row ℕ)) (b h : ℕ) (e : holderOf r b ≡ h)
   held-well n o k = rw (e, eqb-false h 0 n, o, k)
 
 pub holders-all : (r : Record) (rs : List (Row ℕ)) → all (holderRight r rs) (from (λ i. i + 1) 0 numberCount) ≡ holdersRight r rs
-unfolding holdersRight
+unfolding holdersRight allNumbers
 holders-all r rs = ap (all (holderRight r rs)) (sym (from-one numberCount))

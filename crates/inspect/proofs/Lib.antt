@@ -2,8 +2,10 @@ pub mod Behind
 pub mod Locating
 pub mod Queueing
 pub mod Judging
+pub mod Ordering
 pub mod Overlaying
-pub mod Searching
+pub mod Relisting
+pub mod Yielding
 pub mod Answering
 pub mod Settling
 pub mod Begun

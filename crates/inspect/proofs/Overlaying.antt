@@ -33,7 +33,7 @@ list-range : (l : ℕ) → isList l ≡ true → (1 ≤ l) × (l ≤ 16)
 list-range l h = let (p, q) = and-true _ _ h in (leb-true 1 l p, leb-true l 16 q)
 
 -- a change that may stand in a journal, by its fields, its write's bytes at location d, which is not 0
-member-change : (e : LogEntry) (d : ℕ) → 1 ≤ d → legal (raw 0 (member (asChange e))) ≡ true
+pub member-change : (e : LogEntry) (d : ℕ) → 1 ≤ d → legal (raw 0 (member (asChange e))) ≡ true
     → (fieldsChange e (d + 2048 * fieldsOf e .race) ≡ some (mapChange (numberAt d) (asChange e))) × Ranged (mapChange (numberAt d) (asChange e))
 unfolding ofKind asChange mapChange mapEntry raw legal legalChange
 member-change (Take l) d n h = (refl, list-range l h)
@@ -48,7 +48,7 @@ member-change (DeleteList l) d n h = (refl, list-range l h)
 member-change (Commit k) d n h = absurd (false≢true h)
 
 -- its race, as a table's number may have it
-member-race : (e : LogEntry) → legal (raw 0 (member (asChange e))) ≡ true → fieldsOf e .race ≤ 24
+pub member-race : (e : LogEntry) → legal (raw 0 (member (asChange e))) ≡ true → fieldsOf e .race ≤ 24
 unfolding asChange mapChange mapEntry raw legal legalChange
 member-race (Take l) h = omega arith
 member-race (PutFirst b l) h = omega arith

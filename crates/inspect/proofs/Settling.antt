@@ -13,7 +13,7 @@ use Rattle.disk.specs.Record.{Record}
 use Rattle.disk.specs.Disk.{disk, queued}
 use Rattle.disk.specs.Sound.{headStanding}
 use Rattle.inspect.specs.promises.Located.{queueSaid, queueHere}
-use Rattle.inspect.specs.promises.Clauses.{holdersRight, lawful, Replays, settledRight, Settles}
+use Rattle.inspect.specs.promises.Clauses.{holdersRight, allListed, lawful, Replays, settledRight, Settles}
 use Rattle.inspect.proofs.Judging.{and-yes}
 
 both-false : (a b c : Bool) → a && b ≡ false → false ≡ a && (b && c)
@@ -29,9 +29,10 @@ module _ (c q : List ℕ) (r : Record) (x : Reader ℕ) where
   unfolding settledRight each
   settled-refused h = both-false (lawful (queueSaid r)) (isSome (replay x (queueHere r))) _ h
 
-  settled-entered : lawful (queueSaid r) ≡ true → (y : Reader ℕ) → replay x (queueHere r) ≡ some y → holdersRight r (y .state .lists) && heads ≡ settledRight c q r x
+  settled-entered : lawful (queueSaid r) ≡ true → (y : Reader ℕ) → replay x (queueHere r) ≡ some y
+      → holdersRight r (y .state .lists) && (allListed r (y .state .lists) && heads) ≡ settledRight c q r x
   unfolding settledRight each isSome
-  settled-entered h y e = rw (h, e) (ap (λ (b : Bool). holdersRight r (y .state .lists) && b) (sym (and-yes heads)))
+  settled-entered h y e = rw (h, e) (ap (λ (b : Bool). holdersRight r (y .state .lists) && (allListed r (y .state .lists) && b)) (sym (and-yes heads)))
 
 -- the queue was fed, its answer b
 module _ (c q : List ℕ) (m : Memory) (run : ℕ) (r : Record) (b : Bool) (t : Tables) (fed : Replays m run r b t) where
@@ -41,25 +42,38 @@ module _ (c q : List ℕ) (m : Memory) (run : ℕ) (r : Record) (b : Bool) (t : 
     shows = λ x y k e. absurd (false≢true e);
   }
 
-  -- the holders have answer h, and the head k
+  -- the holders have answer h
   module _ (entered : b ≡ true) (h : Bool) (held : OfShown t (λ rs. h ≡ holdersRight r rs)) where
-    answer-is : (x : Reader ℕ) → Keeps m run x → h && headStanding c (r .ring .done) (queued (disk c q [] r)) ≡ settledRight c q r x
-    answer-is x k =
-        let (l, y, e, s) = rw entered at (fed x k) in
-        ap (λ (b : Bool). b && headStanding c (r .ring .done) (queued (disk c q [] r))) (held (y .state .lists) (lists-shown t (y .state) s))
-        ∙ settled-entered c q r x l y e
-
     pub settles-held : h ≡ false → Settles c q m run r false t
     settles-held z = record {
-      answer = λ x k. ap (λ (b : Bool). b && headStanding c (r .ring .done) (queued (disk c q [] r))) (sym z) ∙ answer-is x k;
+      answer = λ x k.
+          let (l, y, e, s) = rw entered at (fed x k) in
+          ap (λ (b : Bool). b && (allListed r (y .state .lists) && heads c q r x)) (sym z ∙ held (y .state .lists) (lists-shown t (y .state) s))
+          ∙ settled-entered c q r x l y e;
       shows = λ x y k e. absurd (false≢true e);
     }
 
-    pub settles-last : h ≡ true → (k : Bool) → k ≡ headStanding c (r .ring .done) (queued (disk c q [] r)) → Settles c q m run r k t
-    settles-last z k e = record {
-      answer = λ x n. e ∙ ap (λ (b : Bool). b && headStanding c (r .ring .done) (queued (disk c q [] r))) (sym z) ∙ answer-is x n;
-      shows = λ x y n f p.
-          let (l, w, o, s) = rw entered at (fed x n) in
-          let i : w ≡ y = Option·some-injective _ _ (sym o ∙ p) in
-          rw i at s;
-    }
+    -- they are right, the free numbers have answer f, and the head k
+    module _ (right : h ≡ true) (f : Bool) (listed : OfShown t (λ rs. f ≡ allListed r rs)) where
+      answer-is : (x : Reader ℕ) → Keeps m run x → f && heads c q r x ≡ settledRight c q r x
+      answer-is x k =
+          let (l, y, e, s) = rw entered at (fed x k) in
+          let o = lists-shown t (y .state) s in
+          ap (λ (b : Bool). b && heads c q r x) (listed (y .state .lists) o)
+          ∙ ap (λ (b : Bool). b && (allListed r (y .state .lists) && heads c q r x)) (sym right ∙ held (y .state .lists) o)
+          ∙ settled-entered c q r x l y e
+
+      pub settles-listed : f ≡ false → Settles c q m run r false t
+      settles-listed z = record {
+        answer = λ x k. ap (λ (b : Bool). b && heads c q r x) (sym z) ∙ answer-is x k;
+        shows = λ x y k e. absurd (false≢true e);
+      }
+
+      pub settles-last : f ≡ true → (k : Bool) → k ≡ headStanding c (r .ring .done) (queued (disk c q [] r)) → Settles c q m run r k t
+      settles-last z k e = record {
+        answer = λ x n. e ∙ ap (λ (b : Bool). b && heads c q r x) (sym z) ∙ answer-is x n;
+        shows = λ x y n a p.
+            let (l, w, o, s) = rw entered at (fed x n) in
+            let i : w ≡ y = Option·some-injective _ _ (sym o ∙ p) in
+            rw i at s;
+      }

@@ -2,6 +2,7 @@
 use super::head::head_stands;
 use super::holders::holders_right;
 use super::lengths::lengths_right;
+use super::listed::listed_right;
 use super::numbers::numbers_right;
 use super::queue::enter_queue;
 use super::units::units_right;
@@ -31,7 +32,7 @@ pub enum Examined {
     Sound(Place),
 }
 
-// The rest of question 3 behind the log, whose state the tables show: the queue, the holders, the head.
+// The rest of question 3 behind the log, whose state the tables show: the queue, the holders, the free numbers, the head.
 fn settle(
     card: &[u8],
     queue_data: &[u8],
@@ -41,13 +42,16 @@ fn settle(
     nodes: &mut [u8; 1280],
     members: &mut [u8; 128],
 ) -> bool
-    requires { ⌜ (cardLength (now card) ≡ true) × (length (now queue_data) ≡ 8192) × (recordIn (now rec) .ring .len ≤ 32) × (recordIn (now rec) .ring .head < 32) × (behind ≡ tail (now card)) × Within behind × (behind .segment < segmentsIn (now card)) × (run ≤ 64 * 255) ⌝ }
+    requires { ⌜ (cardLength (now card) ≡ true) × (length (now queue_data) ≡ 8192) × (recordIn (now rec) .ring .len ≤ 32) × (recordIn (now rec) .ring .head < 32) × (recordIn (now rec) .tally .listed ≤ 80) × (behind ≡ tail (now card)) × Within behind × (behind .segment < segmentsIn (now card)) × (run ≤ 64 * 255) ⌝ }
     ensures { λ r. ⌜ Settles (now (card .entry)) (now (queue_data .entry)) (memory (now (nodes .entry)) (now (members .entry))) run (recordIn (now (rec .entry))) r (tablesIn (now (nodes .exit))) ⌝ }
 {
     if !enter_queue(nodes, members, rec, run) {
         return false;
     }
     if !holders_right(rec, nodes) {
+        return false;
+    }
+    if !listed_right(rec, nodes) {
         return false;
     }
     head_stands(card, queue_data, rec, behind)
@@ -63,7 +67,7 @@ fn settle_apart(
     nodes: &[u8; 1280],
     members: &mut [u8; 128],
 ) -> bool
-    requires { ⌜ (cardLength (now card) ≡ true) × (length (now queue_data) ≡ 8192) × (recordIn (now rec) .ring .len ≤ 32) × (recordIn (now rec) .ring .head < 32) × (behind ≡ tail (now card)) × Within behind × (behind .segment < segmentsIn (now card)) × (run ≤ 64 * 255) ⌝ }
+    requires { ⌜ (cardLength (now card) ≡ true) × (length (now queue_data) ≡ 8192) × (recordIn (now rec) .ring .len ≤ 32) × (recordIn (now rec) .ring .head < 32) × (recordIn (now rec) .tally .listed ≤ 80) × (behind ≡ tail (now card)) × Within behind × (behind .segment < segmentsIn (now card)) × (run ≤ 64 * 255) ⌝ }
     ensures { λ r. ⌜ Settled (now (card .entry)) (now (queue_data .entry)) (memory (now (nodes .entry)) (now (members .entry))) run (recordIn (now (rec .entry))) r ⌝ }
 {
     let mut nodes_then = *nodes;
@@ -78,7 +82,7 @@ fn examine_log(
     persistent: bool,
     nodes: &mut [u8; 1280],
 ) -> Examined
-    requires { ⌜ (cardLength (now card) ≡ true) × (length (now queue_data) ≡ 8192) × (recordIn (now rec) .ring .len ≤ 32) × (recordIn (now rec) .ring .head < 32) ⌝ }
+    requires { ⌜ (cardLength (now card) ≡ true) × (length (now queue_data) ≡ 8192) × (recordIn (now rec) .ring .len ≤ 32) × (recordIn (now rec) .ring .head < 32) × (recordIn (now rec) .tally .listed ≤ 80) ⌝ }
     ensures { λ r. ⌜ ((j : List ℕ) → ExaminesLog (cond persistent 5 0) (diskIn (now (card .entry)) (now (queue_data .entry)) j (now (rec .entry))) r (tablesIn (now (nodes .exit)))) ⌝ }
 {
     let mut members = [0u8; 128];

@@ -15,7 +15,7 @@ ghost use Rattle.disk.specs.Record.{recordIn};
 ghost use Rattle.inspect.specs.promises.Clauses.{holdersRight};
 
 // Is the block on a list, or, behind the blocks, the list taken?
-fn is_used(nodes: &[u8; 1280], number: u8) -> bool
+pub fn is_used(nodes: &[u8; 1280], number: u8) -> bool
     requires { ⌜ (1 ≤ number) × (number ≤ 80) ⌝ }
     ensures { λ r. ⌜ OfShown (tablesIn (now (nodes .entry))) (λ rs. r ≡ inUse number rs) ⌝ }
 {

@@ -7,20 +7,12 @@ use native.Mathlib.Omega.{arith}
 use lib.ListN.{length, getD, set, length-set}
 use lib.Seq.{getD-set-same, getD-set-other}
 use Rattle.lists.specs.promises.Tables.{Away, Apart, Linked}
+pub use Rattle.lists.specs.promises.Tables.{last}
 
 -- all below the tables' length
 abbrev pub Small : List ℕ → Type 0
 Small [] = Unit {0}
 Small (x ∷ xs) = (x < 256) × Small xs
-
-abbrev pub headOf : List ℕ → ℕ
-headOf [] = 0
-headOf (x ∷ xs) = x
-
--- the last of a ∷ xs
-abbrev pub last : ℕ → List ℕ → ℕ
-last a [] = a
-last a (x ∷ xs) = last x xs
 
 pub away-left : (n : ℕ) (a b : List ℕ) → Away n (a ++ b) → Away n a
 away-left n [] b h = tt

@@ -11,7 +11,7 @@ use lib.Dec.{leb}
 use Rattle.lists.specs.Basic.{times}
 use Rattle.lists.specs.Change.{Change, takeList, putFirst, putAfter, write, delBlock, delList, mapChange}
 use Rattle.lists.specs.State.{Row, State, empty, taken, placed, apply, applyAll, mapRow, mapState}
-use Rattle.lists.specs.InUse.{inUse, isFree, Numbered, AllNumbered, FreeExact}
+use Rattle.lists.specs.InUse.{isNumber, inUse, isFree, Numbered, AllNumbered, FreeExact}
 use Rattle.lists.specs.promises.Tables.{Tables, Away, nodes, ends, chain, isNode, Ranged, ShowsWith, ShowsAll, done, cleared}
 use Rattle.lists.proofs.Basic.{le-true, gt-false, eqb-false, bind-some}
 use Rattle.lists.proofs.Apply.{apply-some}
@@ -82,7 +82,7 @@ module _ (t : Tables) (rs : List (Row ℕ)) (fs : List ℕ) (s : ShowsWith t rs 
           let k : isNode n ≡ false = rw (gt-false n 80 h, eqb-false n 254 c, eqb-false n 255 d, and-false (leb 1 n)) in
           omega (arith, parts, ap {B = ℕ} (λ z. cond z 1 0) k)
 
-      go : Dec (1 ≤ n) → Dec (n ≤ 80) → times n fs ≡ cond (leb 1 n && leb n 80 && not (inUse n rs)) 1 0
+      go : Dec (1 ≤ n) → Dec (n ≤ 80) → times n fs ≡ cond (isNumber n && not (inUse n rs)) 1 0
       go (no a) b = rw (gt-false 1 n (omega arith)) (omega (arith, parts, ap {B = ℕ} (λ z. cond z 1 0) (beyond (omega arith))))
       go (yes a) (no b) = rw (le-true 1 n a, gt-false n 80 (omega arith)) (outside (omega arith) (ℕ-discrete n 254) (ℕ-discrete n 255))
       go (yes a) (yes b) = rw (le-true 1 n a, le-true n 80 b) (within a b (inUse n rs) refl)

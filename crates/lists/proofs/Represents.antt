@@ -13,10 +13,10 @@ use Rattle.lists.specs.Basic.{bind, keep, orElse}
 use Rattle.lists.specs.Change.{Change, takeList, putFirst, putAfter, write, delBlock, delList}
 use Rattle.lists.specs.State.{State, Block, Row, taken, placed, onList, insertAfter, at, put, onBlocks, otherBlock, otherRow, block, row, blocksOf, changed, frees, freeAfter, applies, apply}
 use Rattle.lists.specs.Clearing.{firstOff, stepsOff, stepsFree}
-use Rattle.lists.specs.promises.Tables.{Tables, tables, nextOf, prevOf, ownerOf, placeNode, insertNode, insertBefore, freeNode, withLocation, times, cutNode, dropFirst, dropUpTo, dropAll, cutList, putFits, putDone, suits, done, Did, Away, Apart, Linked, blockNodes, nodes, ends, chain, Whole, isNode, IsFirst, IsBlock, IsList, HasBlock, HasBlocks, HasLists, Shows, ShowsWith, ShowsAll, Ranged, Represents, locatedAt}
+use Rattle.lists.specs.promises.Tables.{Tables, tables, nextOf, prevOf, ownerOf, placeNode, insertNode, insertBefore, freeNode, withLocation, times, cutNode, dropFirst, dropUpTo, dropAll, cutList, putFits, putDone, suits, done, Did, Away, Apart, Linked, blockNodes, nodes, ends, chain, Whole, isNode, firstOr0, IsFirst, IsBlock, IsList, HasBlock, HasBlocks, HasLists, Shows, ShowsWith, ShowsAll, Ranged, Represents, locatedAt}
 use Rattle.lists.proofs.Basic.{either, or-both, and-true, not-false, eqb-true, eqb-neq, eqb-false, le-true, keep-all, and-swap, and-implied, not-not, gt-false, getD-set-default}
 use Rattle.lists.proofs.Times.{times-append, times-cons, times-moved, times-here, away-none, Standing, standing, without, without-once}
-use Rattle.lists.proofs.Chain.{Small, headOf, last, Chained, uncons, away-left, away-right, away-append, away-last, apart-left, apart-right, apart-out, small-middle, small-append, last-snoc, last-append, next-at, prev-at, linked-tail, cut-before, cut-behind, chained-cut, chained-insert}
+use Rattle.lists.proofs.Chain.{Small, last, Chained, uncons, away-left, away-right, away-append, away-last, apart-left, apart-right, apart-out, small-middle, small-append, last-snoc, last-append, next-at, prev-at, linked-tail, cut-before, cut-behind, chained-cut, chained-insert}
 use Rattle.lists.proofs.Nodes.{Grown, RowAt, nodes-append, nodes-write, first-grown, after-grown, block-shrunk, row-at, onList-taken}
 use Rattle.lists.proofs.Owners.{same-refl, same-set, has-same, has-append, has-left, has-right, has-at, has-keep, has-write, blocks-after, taken-owner, unplaced-away, untaken-away}
 use Rattle.lists.proofs.Dropping.{AllOf, blocks-all, all-times, upTo-stop, upTo-more}
@@ -249,7 +249,7 @@ module _ (t : Tables) (rs : List (Row ℕ)) {fs : List ℕ} (s : ShowsWith t rs 
   behind-other : (l : ℕ) → IsList l → (qs : List (Row ℕ)) → HasLists (t .owner) (t .location) qs → taken l qs ≡ false → (y : ℕ) (r : List ℕ) → chain qs fs ≡ y ∷ r → ownerOf t y ≢ l
   unfolding taken
   behind-other l g [] w h y r e z =
-      let q : 254 ≡ y = ap headOf e in
+      let q : 254 ≡ y = ap firstOr0 e in
       let f : ownerOf t 254 ≡ 0 = s .free 254 (away-end (nodes rs) (chain-apart t rs s .1)) in
       let f′ : ownerOf t y ≡ 0 = rw (← q) f in
       omega arith
@@ -258,7 +258,7 @@ module _ (t : Tables) (rs : List (Row ℕ)) {fs : List ℕ} (s : ShowsWith t rs 
       away-end [] a = tt
       away-end (n ∷ ns) a = ((λ u. away-right n ns (ends fs) (a .0) .0 (sym u)), away-end ns (a .1))
   behind-other l g (x ∷ qs) w h y r e z =
-      let q : 64 + x .num ≡ y = ap headOf e in
+      let q : 64 + x .num ≡ y = ap firstOr0 e in
       eqb-neq (x .num) l (or-both (eqb (x .num) l) (taken l qs) h .0) (sym (w .0 .owned) ∙ rw q z)
 
   -- A list's row: its node, then its blocks, then the lists behind it.
@@ -320,9 +320,9 @@ module _ (t : Tables) (rs : List (Row ℕ)) {fs : List ℕ} (s : ShowsWith t rs 
         rw (k .0, k2, k .1, p255, set-comm (t .next) (64 + l) z y b nz, set-comm (set (t .next) z b) (64 + l) b y 255 nb, set-comm (t .prev) y b (64 + l) z yb, set-comm (set (t .prev) b z) y 255 (64 + l) b ye)
       where
         not-end : (qs : List ℕ) (y : ℕ) (r : List ℕ) → qs ++ ends fs ≡ y ∷ r → Apart (qs ++ ends fs) → y ≢ 255
-        not-end [] y r u a x = omega (arith, x, ap headOf u)
+        not-end [] y r u a x = omega (arith, x, ap firstOr0 u)
         not-end (m ∷ qs) y r u a x =
-            away-right m (254 ∷ fs) (255 ∷ []) (away-right m qs (ends fs) (a .0)) .0 (sym (ap headOf u ∙ x))
+            away-right m (254 ∷ fs) (255 ∷ []) (away-right m qs (ends fs) (a .0)) .0 (sym (ap firstOr0 u ∙ x))
 
     -- a step, and the empty list's going
     shows-first : (b : ℕ) (bs : List ℕ) → blocksOf rs l ≡ b ∷ bs → ShowsWith (dropFirst (64 + l) (prevOf t 255) t) (firstOff l rs) (fs ++ b ∷ [])

@@ -33,7 +33,7 @@ nextIn-at (x ∷ xs) zero a h = rw (eqb-same x, nextIn)
 nextIn-at (x ∷ xs) (suc i) a h = rw (eqb-false x (getD xs i 0) (away-at x xs i (a .0) (omega arith)), nextIn) (nextIn-at xs i (a .1) (omega arith))
 
 -- Numbers from 1 to k that are apart are no more than k: each has a mark of its own.
-marked : (k l : ℕ) → 1 ≤ l → l ≤ k → _≡_ {A = ℕ} (getD (0 ∷ replicate k 1) l 0) 1
+pub marked : (k l : ℕ) → 1 ≤ l → l ≤ k → _≡_ {A = ℕ} (getD (0 ∷ replicate k 1) l 0) 1
 marked k zero a b = absurd (omega arith)
 marked k (suc l) a b = getD-replicate k l 1 0 (omega arith)
 
@@ -42,7 +42,7 @@ unfolding times
 marks zero = refl
 marks (suc k) = ap suc (marks k)
 
-few : (k : ℕ) (ns : List ℕ) → Apart ns → AllOf 1 (0 ∷ replicate k 1) ns → length ns ≤ k
+pub few : (k : ℕ) (ns : List ℕ) → Apart ns → AllOf 1 (0 ∷ replicate k 1) ns → length ns ≤ k
 few k ns a h = rw (marks k) at (all-times 1 (0 ∷ replicate k 1) ns (omega arith) a h)
 
 -- The lists.

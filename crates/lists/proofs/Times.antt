@@ -1,15 +1,15 @@
 -- How often numbers stand in a list. Where none stands twice, no two are the same; a number that moves leaves all counts as they were.
 use mathlib.Core.Path.{_≡_, refl, sym, ap, _∙_}
 use mathlib.Core.Logic.{_≢_, ⊎-elim}
-use mathlib.Core.Bool.{Bool, true, false, not, cond}
+use mathlib.Core.Bool.{Bool, true, false, not, cond, true≢false}
 use mathlib.Core.List.{List, [], _∷_, _++_}
 use Prim.Native.Nat.{ℕ, zero, suc, _+_, _≤_, _<_}
 use native.Mathlib.Omega.{arith}
 use native.Mathlib.Decide.{ℕ-discrete}
 use lib.Dec.{eqb}
-use Rattle.lists.specs.Basic.{any, keep, from, times}
+use Rattle.lists.specs.Basic.{any, all, keep, from, times}
 use Rattle.lists.specs.promises.Tables.{Away, Apart}
-use Rattle.lists.proofs.Basic.{either, eqb-same, eqb-true, eqb-false, eqb-neq}
+use Rattle.lists.proofs.Basic.{and-true, either, eqb-same, eqb-true, eqb-false, eqb-neq}
 
 pub times-here : (n : ℕ) (xs : List ℕ) → times n (n ∷ xs) ≡ suc (times n xs)
 unfolding times
@@ -78,6 +78,38 @@ standing n (x ∷ xs) h = ⊎-elim
     (λ e. record { front = []; back = xs; was = ap (λ (m : ℕ). m ∷ xs) (eqb-true x n e) })
     (λ e. let s = standing n xs (rw e at h) in record { front = x ∷ s .front; back = s .back; was = ap (λ (ys : List ℕ). x ∷ ys) (s .was) })
     (either (eqb x n))
+
+-- a test that all pass is one that each number passes which stands there
+pub all-standing : (p : ℕ → Bool) (xs : List ℕ) → all p xs ≡ true → (n : ℕ) → 1 ≤ times n xs → p n ≡ true
+unfolding all times
+all-standing p [] h n k = absurd (omega arith)
+all-standing p (x ∷ xs) h n k =
+    let (a, b) = and-true (p x) (all p xs) h in
+    ⊎-elim (λ e. ap p (sym (eqb-true x n e)) ∙ a) (λ e. all-standing p xs b n (rw e at k)) (either (eqb x n))
+
+pub standing-all : (p : ℕ → Bool) (xs : List ℕ) → ((n : ℕ) → 1 ≤ times n xs → p n ≡ true) → all p xs ≡ true
+unfolding all
+standing-all p [] h = refl
+standing-all p (x ∷ xs) h =
+    rw (h x (omega (arith, times-here x xs))) (standing-all p xs (λ n k. h n (omega (arith, times-cons n x xs))))
+
+pub times-keep : (p : ℕ → Bool) (n : ℕ) (xs : List ℕ) → times n (keep p xs) ≡ cond (p n) (times n xs) 0
+unfolding times
+times-keep p n [] = go (p n)
+  where
+    go : (b : Bool) → _≡_ {A = ℕ} 0 (cond b 0 0)
+    go true = refl
+    go false = refl
+times-keep p n (x ∷ xs) = go (eqb x n) refl (p x) refl (p n) refl (times-keep p n xs)
+  where
+    go : (e : Bool) → eqb x n ≡ e → (a : Bool) → p x ≡ a → (b : Bool) → p n ≡ b → times n (keep p xs) ≡ cond b (times n xs) 0
+        → times n (cond a (x ∷ keep p xs) (keep p xs)) ≡ cond b (cond e (suc (times n xs)) (times n xs)) 0
+    go true e true u true v ih = rw e (ap suc ih)
+    go true e false u false v ih = ih
+    go true e true u false v ih = absurd (true≢false (sym u ∙ ap p (eqb-true x n e) ∙ v))
+    go true e false u true v ih = absurd (true≢false (sym v ∙ ap p (sym (eqb-true x n e)) ∙ u))
+    go false e true u b v ih = rw e ih
+    go false e false u b v ih = ih
 
 -- a list without a number
 abbrev pub without : ℕ → List ℕ → List ℕ

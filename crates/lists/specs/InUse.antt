@@ -7,7 +7,7 @@ use Prim.Native.Nat.{ℕ, _-_, _≤_}
 use lib.Dec.{leb}
 use Rattle.lists.specs.Basic.{times}
 use Rattle.lists.specs.Change.{Change, takeList, putFirst, putAfter, write, delBlock, delList}
-pub use Rattle.lists.specs.Numbers.{listNumber, numberCount, brings, brought}
+pub use Rattle.lists.specs.Numbers.{listNumber, numberCount, isNumber, brings, brought}
 use Rattle.lists.specs.State.{Row, State, empty, taken, placed, applyAll}
 
 -- is the block on some list, the list taken?
@@ -16,7 +16,7 @@ inUse n rs = cond (leb n 64) (placed n rs) (taken (n - 64) rs)
 
 -- is it the number of a block or of a list, and not in use?
 unfoldable pub isFree : {D : Type 0} → ℕ → List (Row D) → Bool
-isFree n rs = leb 1 n && leb n numberCount && not (inUse n rs)
+isFree n rs = isNumber n && not (inUse n rs)
 
 -- a change whose blocks are 1 to 64 and whose lists are 1 to 16
 abbrev pub Numbered : {D : Type 0} → Change D → Type 0

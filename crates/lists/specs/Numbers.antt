@@ -1,8 +1,8 @@
 -- Numbers: block b is number b, list l is number 64 + l, so that what is said of blocks and of lists alike is said once.
-use mathlib.Core.Bool.{Bool}
+use mathlib.Core.Bool.{Bool, _&&_}
 use mathlib.Core.List.{List, [], _∷_}
 use Prim.Native.Nat.{ℕ, _+_}
-use lib.Dec.{eqb}
+use lib.Dec.{eqb, leb}
 use Rattle.lists.specs.Basic.{any, from}
 use Rattle.lists.specs.Change.{Change, takeList, putFirst, putAfter, write, delBlock, delList}
 
@@ -11,6 +11,10 @@ listNumber l = 64 + l
 
 abbrev pub numberCount : ℕ
 numberCount = 80
+
+-- is it the number of a block or of a list?
+abbrev pub isNumber : ℕ → Bool
+isNumber n = leb 1 n && leb n numberCount
 
 -- all numbers, ascending
 unfoldable pub allNumbers : List ℕ

@@ -14,7 +14,7 @@ ghost use mathlib.Core.Path.{_≡_};
 ghost use Prim.Native.Nat.{_+_, _*_, _≤_};
 ghost use lib.ListN.{length};
 ghost use Rattle.lists.specs.Change.{takeList, putAfter, write, delBlock, delList};
-ghost use Rattle.lists.specs.promises.Tables.{tablesIn, nextOf, prevOf, ownerOf, listNode, withNext, withPrev, withOwner, withLocation, linkNodes, placeNode, insertNode, insertBefore, cutNode, freeNode, IsFirst, Drops, Clears, blockOr0, listWithin, cleared, Did, DidSome, ofKind, SaysTaken, SaysPlaced, SaysOn, SaysLocation, SaysBlockAfter, SaysListAfter};
+ghost use Rattle.lists.specs.promises.Tables.{tablesIn, nextOf, prevOf, ownerOf, listNode, withNext, withPrev, withOwner, withLocation, linkNodes, placeNode, insertNode, insertBefore, cutNode, freeNode, IsFirst, Drops, Clears, blockOr0, listWithin, cleared, Did, DidSome, ofKind, SaysTaken, SaysPlaced, SaysOn, SaysLocation, SaysBlockAfter, SaysListAfter, unless, SaysFreeAfter, SaysLastFree};
 
 const START: u8 = 0;
 
@@ -355,4 +355,31 @@ pub fn list_after(nodes: &[u8; 1280], list: u8) -> u8
     } else {
         list_behind(nodes, list_node(list))
     }
+}
+
+// The free number that follows node x, 0 if none does.
+fn free_behind(nodes: &[u8; 1280], x: u8) -> u8
+    ensures { λ r. ⌜ r ≡ unless 255 (nextOf (tablesIn (now (nodes .entry))) x) ⌝ }
+{
+    let y = next_of(nodes, x);
+    if y == END { 0 } else { y }
+}
+
+// The free number after another in the order of their freeing: 0 stands for before the first, and is returned at the end.
+pub fn free_after(nodes: &[u8; 1280], number: u8) -> u8
+    ensures { λ r. ⌜ SaysFreeAfter (tablesIn (now (nodes .entry))) number r ⌝ }
+{
+    if number == 0 {
+        free_behind(nodes, FREE)
+    } else {
+        free_behind(nodes, number)
+    }
+}
+
+// The last of the free numbers, 0 if there is none.
+pub fn last_free(nodes: &[u8; 1280]) -> u8
+    ensures { λ r. ⌜ SaysLastFree (tablesIn (now (nodes .entry))) r ⌝ }
+{
+    let x = prev_of(nodes, END);
+    if x == FREE { 0 } else { x }
 }

@@ -27,6 +27,8 @@ pub mod Numbers
 pub mod Entering
 pub mod Walking
 pub mod Locations
+pub mod Reached
+pub mod Mounting
 pub mod Copying
 pub mod Begun
 pub mod Before

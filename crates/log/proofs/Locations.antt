@@ -73,7 +73,7 @@ module _ {D : Type 0} (f h : Raced ℕ → D) (same : (s : Raced ℕ) → s .bod
   entry-same (member x) p = ap member (change-same x p)
   entry-same (commit n) p = refl
 
-entry-legal : (k : ℕ) (bs : List ℕ) (z : Entry (Raced ℕ) × List ℕ) → entryAt k bs ≡ some z → legal (z .0) ≡ true
+pub entry-legal : (k : ℕ) (bs : List ℕ) (z : Entry (Raced ℕ) × List ℕ) → entryAt k bs ≡ some z → legal (z .0) ≡ true
 unfolding entryAt
 entry-legal k bs z h =
     let (y, p, q) = bind-some (decode bs) (λ x. guard (isNext k (carried (x .0))) (some x)) z h in

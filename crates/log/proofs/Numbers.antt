@@ -73,16 +73,20 @@ module _ {D : Type 0} where
       let (u, v) = and-true (mayEnter e) (all mayEnter es) m in
       replay-range x q es v b (read-range r x e u a i)
 
--- The entries that a card carries are legal.
-fine-enters : (k : ℕ) (es : List (Entry Written)) → Fine k es → all mayEnter es ≡ true
-unfolding all
-fine-enters k [] f = refl
-fine-enters k (e ∷ es) f = rw (legal-enters k e (f .0)) (fine-enters (k + usedBy (carried e)) es (f .2))
-
 all-joined : {A : Type 0} (p : A → Bool) (xss : List (List A)) → ((h : ℕ) → h < length xss → all p (getD xss h []) ≡ true) → all p (joined xss) ≡ true
 unfolding joined all
 all-joined p [] f = refl
 all-joined p (xs ∷ xss) f = all-append p xs (joined xss) (f 0 (omega arith)) (all-joined p xss (λ h l. f (suc h) (omega arith)))
 
+-- The entries that a card carries are legal, and pass each test that legal entries pass.
+module _ (p : Entry Written → Bool) (lawful : (k : ℕ) (e : Entry Written) → legal (raw k e) ≡ true → p e ≡ true) where
+  fine-all : (k : ℕ) (es : List (Entry Written)) → Fine k es → all p es ≡ true
+  unfolding all
+  fine-all k [] f = refl
+  fine-all k (e ∷ es) f = rw (lawful k e (f .0)) (fine-all (k + usedBy (carried e)) es (f .2))
+
+  pub carries-all : (c : List ℕ) (ess : List (List (Entry Written))) → Carries c ess → all p (joined ess) ≡ true
+  carries-all c ess k = all-joined p ess (λ h l. fine-all 0 (getD ess h []) (k .holds h l .fine))
+
 pub carries-enters : (c : List ℕ) (ess : List (List (Entry Written))) → Carries c ess → all mayEnter (joined ess) ≡ true
-carries-enters c ess k = all-joined mayEnter ess (λ h l. fine-enters 0 (getD ess h []) (k .holds h l .fine))
+carries-enters c ess k = carries-all mayEnter legal-enters c ess k

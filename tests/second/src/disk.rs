@@ -1,9 +1,11 @@
-//! The calls: document 01, "The calls", "Flush" and "The questions, in order"; document 02, E1, E4, E6, E7, E10.
+//! The calls: document 01, "The calls", "Flush" and "The questions, in order"; document 02, E1, E4, E6, E7, E10,
+//! E11.
 //!
 //! Each call asks its questions in the order of their numbers and returns the first that is answered no; "a call
 //! passes over what it doesn't use". Numbers come as wide as a caller may write them and are never cut.
 
 use crate::entry::{Change, Entry};
+use crate::free::Order;
 use crate::limits::{
     ALLOWANCE, BLOCKS, BLOCK_BYTES, JOURNAL, JOURNAL_BYTES, LISTS, QUEUE_BYTES, RACES, SEGMENT_BYTES, UNITS, WINDOWS,
 };
@@ -125,11 +127,11 @@ impl Lent<'_> {
         Ok(stores)
     }
 
-    /// Mounting. Asks 1, 2.
+    /// Mounting: "the log's order of freeing counts and holds that no acting entry shows are forgotten". Asks 1, 2.
     pub fn mount(&mut self) -> Result<(), MountRefusal> {
         self.lengths().map_err(|_| MountRefusal::Lengths)?;
-        Log::read(self.card).map_err(MountRefusal::Log)?;
-        *self.record = Record::FRESH;
+        let log = Log::read(self.card).map_err(MountRefusal::Log)?;
+        *self.record = Record::over(log.reading.state.free);
         Ok(())
     }
 
@@ -139,18 +141,15 @@ impl Lent<'_> {
     ///
     /// "NewList inside a unit is journalled like everything else [..], the number is held by the unit".
     pub fn new_list(&mut self, stream: u64) -> Result<u8, Refusal> {
-        let versions = self.versions()?;
+        self.versions()?;
         let to = self.stream(stream)?;
-        let held = self.record.held_lists();
-        let list = first_free(self.record.list_given, LISTS, |list| {
-            !versions.committed.is_taken(list) && !held.has(list)
-        })?;
+        let list = longest_free(&self.record.free.lists)?;
         self.takes_change(to)?;
+        self.record.free.lists.remove(list);
         self.add(to, Change::TakeList { list });
         if let Stream::Unit(unit) = to {
             self.record.unit_mut(unit).held_lists.add(list);
         }
-        self.record.list_given = list;
         Ok(list)
     }
 
@@ -164,11 +163,9 @@ impl Lent<'_> {
         let view = self.view(&versions, stream)?;
         list_is_taken(&view, list)?;
         predecessor_is_on(&view, list, predecessor)?;
-        let held = self.record.held_blocks();
-        let block = first_free(self.record.block_given, BLOCKS, |block| {
-            !versions.committed.is_on_a_list(block) && !held.has(block)
-        })?;
+        let block = longest_free(&self.record.free.blocks)?;
         self.takes_change(to)?;
+        self.record.free.blocks.remove(block);
         let change = if predecessor == 0 {
             Change::PutFirst { block, list }
         } else {
@@ -182,7 +179,6 @@ impl Lent<'_> {
         if let Stream::Unit(unit) = to {
             self.record.unit_mut(unit).held_blocks.add(block);
         }
-        self.record.block_given = block;
         Ok(block)
     }
 
@@ -200,7 +196,7 @@ impl Lent<'_> {
         Ok(())
     }
 
-    /// DeleteBlock. Asks 1, 3, 4, 5, 8, then 11 or 13.
+    /// DeleteBlock. Its number is free from now on, or once its unit's End is accepted. Asks 1, 3, 4, 5, 8, then 11 or 13.
     pub fn delete_block(&mut self, stream: u64, block: u64) -> Result<(), Refusal> {
         let versions = self.versions()?;
         let to = self.stream(stream)?;
@@ -208,10 +204,13 @@ impl Lent<'_> {
         block_is_on_a_list(&self.view(&versions, stream)?, block)?;
         self.takes_change(to)?;
         self.add(to, Change::DeleteBlock { block });
+        if let Stream::Simple = to {
+            self.record.free.blocks.add(block);
+        }
         Ok(())
     }
 
-    /// DeleteList. Asks 1, 3, 4, 5, 7, then 11 or 13.
+    /// DeleteList: "Blocks freed by one list deletion count in list order". Asks 1, 3, 4, 5, 7, then 11 or 13.
     pub fn delete_list(&mut self, stream: u64, list: u64) -> Result<(), Refusal> {
         let versions = self.versions()?;
         let to = self.stream(stream)?;
@@ -219,6 +218,12 @@ impl Lent<'_> {
         list_is_taken(&self.view(&versions, stream)?, list)?;
         self.takes_change(to)?;
         self.add(to, Change::DeleteList { list });
+        if let Stream::Simple = to {
+            for block in versions.committed.blocks_on(list) {
+                self.record.free.blocks.add(block);
+            }
+            self.record.free.lists.add(list);
+        }
         Ok(())
     }
 
@@ -239,7 +244,8 @@ impl Lent<'_> {
     }
 
     /// EndARU: queues the journal as members, then a commit. Asks 1, 3, 4, 12, 13; refusal 12 closes the unit too, and
-    /// "raises the count of the window its unit's Begin named and no other".
+    /// "raises the count of the window its unit's Begin named and no other". The numbers that the commit frees become free as its
+    /// members act, and "numbers released by a closing unit" after them.
     pub fn end(&mut self, unit: u64) -> Result<(), Refusal> {
         let versions = self.versions()?;
         let Stream::Unit(number) = self.stream(unit)? else {
@@ -247,8 +253,10 @@ impl Lent<'_> {
         };
         let unit = *self.record.unit(number);
         let mut committed = versions.committed;
+        committed.free = self.record.free;
         if !unit.replay(number, &mut committed) {
             *self.record.unit_mut(number) = Unit::CLOSED;
+            self.record.release(&unit, &versions.committed);
             self.record.count_conflict(unit.window);
             return Err(Refusal::Conflict);
         }
@@ -264,6 +272,8 @@ impl Lent<'_> {
         }
         self.record.enqueue(Entry::Commit { members: members as u8 });
         *self.record.unit_mut(number) = Unit::CLOSED;
+        self.record.free = committed.free;
+        self.record.release(&unit, &committed);
         Ok(())
     }
 
@@ -516,10 +526,7 @@ fn predecessor_is_on(view: &State, list: u8, predecessor: u8) -> Result<(), Refu
     }
 }
 
-/// Question 10: "the first free number after the one given last", 1 following the greatest.
-fn first_free(given: u8, greatest: u8, is_free: impl Fn(u8) -> bool) -> Result<u8, Refusal> {
-    (given + 1..=greatest)
-        .chain(1..=given)
-        .find(|&number| is_free(number))
-        .ok_or(Refusal::NoneFree)
+/// Question 10, and "the number that has been free longest".
+fn longest_free<const GREATEST: usize>(order: &Order<GREATEST>) -> Result<u8, Refusal> {
+    order.first().ok_or(Refusal::NoneFree)
 }

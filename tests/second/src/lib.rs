@@ -2,13 +2,14 @@
 //! the two can be compared on long random runs.
 //!
 //! It is plain: every call walks the log again, and every state is a handful of fixed tables. Reading order:
-//! [`entry`] (entries and their bytes), [`state`] (what they act on), [`log`] (how they stand on the card),
-//! [`record`] (queue, journals, question 3), [`disk`] (the calls), then the programs' parts, [`lister`], [`page`] and
+//! [`entry`] (entries and their bytes), [`free`] (free numbers in their order), [`state`] (what entries act on), [`log`] (how
+//! they stand on the card), [`record`] (queue, journals, question 3), [`disk`] (the calls), then the programs' parts, [`lister`], [`page`] and
 //! [`shell`].
 //! [`generator`] writes random scripts for both shells.
 
 pub mod disk;
 pub mod entry;
+pub mod free;
 pub mod generator;
 pub mod limits;
 pub mod lister;

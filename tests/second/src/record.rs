@@ -1,6 +1,7 @@
-//! The record that is lent to every call: the queue, the journals, the numbers held and given, the windows' conflicts.
+//! The record that is lent to every call: the queue, the journals, the numbers held and free, the windows' conflicts.
 
 use crate::entry::{Change, Entry};
+use crate::free::{Free, Order};
 use crate::limits::{BLOCKS, BLOCK_BYTES, JOURNAL, LISTS, QUEUE, SEGMENT_BYTES, UNITS, WINDOWS};
 use crate::log::{stores_of, Log, Stores};
 use crate::state::{Content, Reading, State};
@@ -139,10 +140,8 @@ pub struct Record {
     /// Stores of the head that are done.
     done: u16,
     units: [Unit; UNITS as usize],
-    /// The block number given last.
-    pub block_given: u8,
-    /// The list number given last.
-    pub list_given: u8,
+    /// The free numbers: in no use in the committed state, and held by no unit.
+    pub free: Free,
     /// Of windows 1 to 16: "Each window has its own count, which stops at 65,535 and is 0 after mounting."
     pub conflicts: [u16; WINDOWS as usize],
 }
@@ -157,24 +156,27 @@ pub struct Versions {
 }
 
 impl Record {
-    /// As mounting and formatting set it: "queue empty, units closed, nothing held".
-    pub const FRESH: Record = Record {
-        queue: [Entry::Commit { members: 0 }; QUEUE],
-        queue_length: 0,
-        head: 0,
-        done: 0,
-        units: [Unit::CLOSED; UNITS as usize],
-        block_given: BLOCKS,
-        list_given: LISTS,
-        conflicts: [0; WINDOWS as usize],
-    };
+    /// As formatting sets it.
+    pub const FRESH: Record = Record::over(Free::NEVER_USED);
 
-    /// A record that question 3 refuses on every card: no number 0 is ever given.
-    pub const UNSOUND: Record = Record {
-        block_given: 0,
-        list_given: 0,
-        ..Record::FRESH
-    };
+    /// A record that question 3 refuses on every card: a number is listed twice.
+    pub const UNSOUND: Record = Record::over(Free {
+        blocks: Order::listing(&[1, 1]),
+        lists: Order::listing(&[1, 1]),
+    });
+
+    /// As mounting sets it over a log that shows these free numbers: "queue empty, units closed, nothing held".
+    pub const fn over(free: Free) -> Record {
+        Record {
+            queue: [Entry::Commit { members: 0 }; QUEUE],
+            queue_length: 0,
+            head: 0,
+            done: 0,
+            units: [Unit::CLOSED; UNITS as usize],
+            free,
+            conflicts: [0; WINDOWS as usize],
+        }
+    }
 
     /// Unit `number`, 1 to 4.
     pub fn unit(&self, number: u8) -> &Unit {
@@ -207,6 +209,21 @@ impl Record {
     pub fn held_lists(&self) -> NumberSet {
         let held = self.units.iter().map(|unit| unit.held_lists);
         held.fold(NumberSet::EMPTY, NumberSet::union)
+    }
+
+    /// A unit has closed: the numbers that it held become free "ascending", but those that the committed state uses now and
+    /// those that are listed already: "one that its commit put or took and also freed counts as freed there".
+    pub fn release(&mut self, unit: &Unit, committed: &State) {
+        for block in (1..=BLOCKS).filter(|&block| unit.held_blocks.has(block)) {
+            if !committed.is_on_a_list(block) && !self.free.blocks.has(block) {
+                self.free.blocks.add(block);
+            }
+        }
+        for list in (1..=LISTS).filter(|&list| unit.held_lists.has(list)) {
+            if !committed.is_taken(list) && !self.free.lists.has(list) {
+                self.free.lists.add(list);
+            }
+        }
     }
 
     /// Entries in the queue.
@@ -271,16 +288,15 @@ impl Record {
         }
         let log = Log::read(card).ok()?;
         let committed = self.read_queue(log.reading)?;
-        let is_sound = self.done_stands(card, queue_data, &log) && self.has_sound_holders(&committed);
+        let is_sound = self.done_stands(card, queue_data, &log)
+            && self.has_sound_holders(&committed)
+            && self.lists_what_is_free(&committed);
         is_sound.then_some(Versions { log, committed })
     }
 
     /// "Counts and numbers in range."
     fn has_sound_numbers(&self) -> bool {
-        self.queue_length() <= QUEUE
-            && usize::from(self.head) < QUEUE
-            && (1..=BLOCKS).contains(&self.block_given)
-            && (1..=LISTS).contains(&self.list_given)
+        self.queue_length() <= QUEUE && usize::from(self.head) < QUEUE
     }
 
     /// "Card acceptable followed by the queue": the committed state, if it is.
@@ -327,5 +343,13 @@ impl Record {
         };
         (1..=BLOCKS).all(|block| !(blocks.has(block) && committed.is_on_a_list(block)))
             && (1..=LISTS).all(|list| !(lists.has(list) && committed.is_taken(list)))
+    }
+
+    /// "Question 3 wants each free number and no other listed, once, and believes their order."
+    fn lists_what_is_free(&self, committed: &State) -> bool {
+        let (held_blocks, held_lists) = (self.held_blocks(), self.held_lists());
+        let is_free_block = |block| !committed.is_on_a_list(block) && !held_blocks.has(block);
+        let is_free_list = |list| !committed.is_taken(list) && !held_lists.has(list);
+        self.free.blocks.lists_what_is_free(is_free_block) && self.free.lists.lists_what_is_free(is_free_list)
     }
 }

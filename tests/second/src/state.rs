@@ -1,8 +1,9 @@
 //! What a state is and how entries act on it: document 01, "What a state is", and document 02, E4: a block has a content
 //! only if it was "written since its present put"; E10: with it stands the race "for which [..] a pool block was last
-//! written".
+//! written"; E11: the order in which numbers came to be free.
 
 use crate::entry::{Change, Entry};
+use crate::free::Free;
 use crate::limits::{BLOCKS, JOURNAL, LISTS};
 
 /// Where the 256 bytes that a write brings stand.
@@ -57,6 +58,8 @@ pub struct State {
     list_of: [u8; BLOCKS as usize + 1],
     /// What was last written to a block that is on a list, none if it was not written since its put.
     written: [Option<Written>; BLOCKS as usize + 1],
+    /// The numbers that it doesn't use, in the order of their freeing as the entries that made it show it.
+    pub free: Free,
 }
 
 impl State {
@@ -69,6 +72,7 @@ impl State {
         next: [0; BLOCKS as usize + 1],
         list_of: [0; BLOCKS as usize + 1],
         written: [None; BLOCKS as usize + 1],
+        free: Free::NEVER_USED,
     };
 
     /// The lists taken, in the order of their taking.
@@ -176,6 +180,7 @@ impl State {
         self.taken_count += 1;
         self.is_taken[usize::from(list)] = true;
         self.first[usize::from(list)] = 0;
+        self.free.lists.remove(list);
     }
 
     fn put(&mut self, block: u8, list: u8, predecessor: u8) {
@@ -183,6 +188,7 @@ impl State {
         self.set_block_after(list, predecessor, block);
         self.list_of[usize::from(block)] = list;
         self.written[usize::from(block)] = None;
+        self.free.blocks.remove(block);
     }
 
     fn delete_block(&mut self, block: u8, list: u8) {
@@ -192,16 +198,19 @@ impl State {
         }
         self.set_block_after(list, predecessor, self.next[usize::from(block)]);
         self.list_of[usize::from(block)] = 0;
+        self.free.blocks.add(block);
     }
 
-    /// "Deleting a list frees its blocks too."
+    /// "Deleting a list frees its blocks too"; they "count in list order".
     fn delete_list(&mut self, list: u8) {
         let mut block = self.first[usize::from(list)];
         while block != 0 {
             self.list_of[usize::from(block)] = 0;
+            self.free.blocks.add(block);
             block = self.next[usize::from(block)];
         }
         self.is_taken[usize::from(list)] = false;
+        self.free.lists.add(list);
         if let Some(position) = self.lists().iter().position(|&taken| taken == list) {
             let count = usize::from(self.taken_count);
             self.taken.copy_within(position + 1..count, position);

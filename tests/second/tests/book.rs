@@ -1,19 +1,24 @@
 //! The book of document 01 ("Flush", demand 3), kept beside random scripts: the committed state is what the history
 //! makes, the persistent one what its longest prefix makes whose closing stores are on the card, and a mount gives
 //! that state, whatever was cut. Which blocks are unwritten is part of a state (document 02, E4), and so is the race of each
-//! that is written (E10). A NewList in a unit joins its unit's batch (E6).
+//! that is written (E10). A NewList in a unit joins its unit's batch (E6). Since when each number has been free
+//! follows from the book too, and which number is given (E11).
 //!
 //! The book is fed the lines of a script, which calls are accepted, which are refused 12, and the numbers given. It
-//! shares nothing with the library but the sizes: states are lists of lists here.
+//! shares nothing with the library but the sizes: states are lists of lists here, and a free number has a time.
 
-use std::collections::VecDeque;
+use std::collections::{BTreeMap, VecDeque};
 use std::fmt::Write;
 
 use second::generator::generate;
-use second::limits::{BLOCK_BYTES, ENTRY_BYTES, JOURNAL_BYTES, QUEUE_BYTES, SEGMENT_BYTES, SLOTS};
+use second::limits::{BLOCKS, BLOCK_BYTES, ENTRY_BYTES, JOURNAL_BYTES, LISTS, QUEUE_BYTES, SEGMENT_BYTES, SLOTS};
 use second::shell::Shell;
 
-const SEEDS: u64 = 100;
+mod reached;
+
+use reached::Reached;
+
+const SEEDS: u64 = 180;
 /// States are compared after calls that may change them all at once, and after every so many lines.
 const LINES_BETWEEN_LOOKS: u64 = 5;
 
@@ -65,6 +70,15 @@ impl Model {
     fn blocks_on(&mut self, list: u8) -> &mut Vec<Block> {
         let found = self.lists.iter_mut().find(|(taken, _)| *taken == list);
         &mut found.expect("the list is taken").1
+    }
+
+    fn has_list(&self, list: u8) -> bool {
+        self.lists.iter().any(|&(taken, _)| taken == list)
+    }
+
+    fn has_block(&self, block: u8) -> bool {
+        let mut blocks = self.lists.iter().flat_map(|(_, blocks)| blocks);
+        blocks.any(|&(other, _)| other == block)
     }
 
     fn apply(&mut self, change: &Change) {
@@ -136,6 +150,132 @@ impl Model {
     }
 }
 
+/// Since when a number has been free, and how it came to be.
+#[derive(Clone, Copy)]
+struct Freed {
+    /// Numbers that came to be free at one time count ascending.
+    time: u64,
+    how: &'static str,
+    is_before_mount: bool,
+}
+
+/// The free numbers of a kind.
+type Resting = BTreeMap<u8, Freed>;
+
+/// "The number that has been free longest."
+fn longest(resting: &Resting) -> Option<u8> {
+    let times = resting.iter().map(|(&number, freed)| (freed.time, number));
+    times.min().map(|(_, number)| number)
+}
+
+fn how_deleted(is_in_unit: bool, is_own: bool) -> &'static str {
+    match (is_in_unit, is_own) {
+        (false, _) => "deleted",
+        (true, false) => "deleted in a unit",
+        (true, true) => "made and deleted in a unit",
+    }
+}
+
+/// Since when the numbers have been free that are in no use and held by no unit.
+#[derive(Clone)]
+struct Rest {
+    time: u64,
+    blocks: Resting,
+    lists: Resting,
+}
+
+impl Rest {
+    /// "Numbers never used come first, ascending."
+    fn new() -> Rest {
+        let never = Freed {
+            time: 0,
+            how: "never used",
+            is_before_mount: false,
+        };
+        Rest {
+            time: 0,
+            blocks: (1..=BLOCKS).map(|block| (block, never)).collect(),
+            lists: (1..=LISTS).map(|list| (list, never)).collect(),
+        }
+    }
+
+    fn now(&mut self, how: &'static str) -> Freed {
+        self.time += 1;
+        Freed {
+            time: self.time,
+            how,
+            is_before_mount: false,
+        }
+    }
+
+    /// A change acts on `state`, a simple one or one of these that an End makes; then `state` is what it makes.
+    fn follow(&mut self, change: &Change, state: &mut Model, of_end: Option<&[Change]>) {
+        let is_in_unit = of_end.is_some();
+        let makes = |makes: &dyn Fn(&Change) -> bool| of_end.is_some_and(|changes| changes.iter().any(makes));
+        match *change {
+            Change::TakeList { list } => {
+                self.lists.remove(&list);
+            }
+            Change::Put { block, .. } => {
+                self.blocks.remove(&block);
+            }
+            Change::DeleteBlock { block } => {
+                let is_own = makes(&|made| matches!(*made, Change::Put { block: own, .. } if own == block));
+                let freed = self.now(how_deleted(is_in_unit, is_own));
+                assert!(self.blocks.insert(block, freed).is_none());
+            }
+            Change::DeleteList { list } => {
+                let numbers: Vec<u8> = state.blocks_on(list).iter().map(|&(block, _)| block).collect();
+                let how = match (numbers.is_sorted(), is_in_unit) {
+                    (true, false) => "deleted with its list",
+                    (true, true) => "deleted with its list in a unit",
+                    (false, false) => "deleted with its list, not ascending",
+                    (false, true) => "deleted with its list in a unit, not ascending",
+                };
+                for block in numbers {
+                    let freed = self.now(how);
+                    assert!(self.blocks.insert(block, freed).is_none());
+                }
+                let is_own = makes(&|made| matches!(*made, Change::TakeList { list: own } if own == list));
+                let freed = self.now(how_deleted(is_in_unit, is_own));
+                assert!(self.lists.insert(list, freed).is_none());
+            }
+            Change::Write { .. } => {}
+        }
+        state.apply(change);
+    }
+
+    /// "Numbers released by a closing unit ascending": all at one time, but those that are free already, or in use.
+    fn release(&mut self, changes: &[Change], state: &Model, how: &'static str) {
+        let freed = self.now(how);
+        for change in changes {
+            match *change {
+                Change::TakeList { list } if !state.has_list(list) => {
+                    self.lists.entry(list).or_insert(freed);
+                }
+                Change::Put { block, .. } if !state.has_block(block) => {
+                    self.blocks.entry(block).or_insert(freed);
+                }
+                _ => {}
+            }
+        }
+    }
+
+    /// After mounting: what this history shows.
+    fn of<'a>(history: impl Iterator<Item = &'a Accepted>) -> (Rest, Model) {
+        let (mut rest, mut model) = (Rest::new(), Model::default());
+        for accepted in history {
+            let of_end = accepted.is_end.then_some(&accepted.changes[..]);
+            for change in &accepted.changes {
+                rest.follow(change, &mut model, of_end);
+            }
+        }
+        let freed = rest.blocks.values_mut().chain(rest.lists.values_mut());
+        freed.for_each(|freed| freed.is_before_mount = true);
+        (rest, model)
+    }
+}
+
 /// As the shell prints bytes.
 fn digits(data: &[u8; BLOCK_BYTES]) -> String {
     let length = data.iter().rposition(|&byte| byte != 0).map_or(0, |last| last + 1);
@@ -148,6 +288,7 @@ fn digits(data: &[u8; BLOCK_BYTES]) -> String {
 /// One entry of the serial history: a simple change, or the changes of an End.
 struct Accepted {
     changes: Vec<Change>,
+    is_end: bool,
     /// The segment that holds its closing store.
     closed_in: Option<usize>,
 }
@@ -182,6 +323,9 @@ struct Book {
     done: u64,
     batches: [Vec<Change>; 4],
     segments: Vec<Segment>,
+    /// What the whole history makes, and the numbers that are free then.
+    committed: Model,
+    rest: Rest,
 }
 
 impl Book {
@@ -192,16 +336,25 @@ impl Book {
             done: 0,
             batches: Default::default(),
             segments: vec![Segment::default(); segments],
+            committed: Model::default(),
+            rest: Rest::new(),
         }
     }
 
     fn change(&mut self, stream: usize, change: Change) {
         if stream > 0 {
+            match change {
+                Change::TakeList { list } => self.rest.lists.remove(&list),
+                Change::Put { block, .. } => self.rest.blocks.remove(&block),
+                _ => None,
+            };
             return self.batches[stream - 1].push(change);
         }
+        self.rest.follow(&change, &mut self.committed, None);
         self.wait(&change, Some(self.history.len()));
         self.history.push(Accepted {
             changes: vec![change],
+            is_end: false,
             closed_in: None,
         });
     }
@@ -218,7 +371,9 @@ impl Book {
         let changes = std::mem::take(&mut self.batches[unit - 1]);
         for change in &changes {
             self.wait(change, None);
+            self.rest.follow(change, &mut self.committed, Some(&changes));
         }
+        self.rest.release(&changes, &self.committed, "released by an End");
         self.line.push_back(Waiting {
             length: 2,
             is_write: false,
@@ -226,8 +381,15 @@ impl Book {
         });
         self.history.push(Accepted {
             changes,
+            is_end: true,
             closed_in: None,
         });
+    }
+
+    /// An End is refused 12.
+    fn drop_batch(&mut self, unit: usize) {
+        let changes = std::mem::take(&mut self.batches[unit - 1]);
+        self.rest.release(&changes, &self.committed, "released by refusal 12");
     }
 
     /// Goes along the line for at most so many stores; returns how many there were, and the ending.
@@ -285,6 +447,7 @@ impl Book {
         self.done = 0;
         self.batches = Default::default();
         self.history.truncate(self.prefix());
+        (self.rest, self.committed) = Rest::of(self.history.iter());
     }
 
     fn prefix(&self) -> usize {
@@ -309,12 +472,72 @@ impl Book {
 /// starts right after an accepted formatting.
 struct Keeper {
     book: Option<Book>,
+    reached: Reached,
+    /// How often each number was given since the book began, blocks and lists apart.
+    given: BTreeMap<(&'static str, u8), u64>,
     lines: u64,
     mounts: u64,
     looks: u64,
 }
 
 impl Keeper {
+    /// "NewBlock and NewList now give the number that has been free longest"; 10 if there is none.
+    fn check_given(&mut self, kind: &'static str, stream: u64, answer: &str, given: u8) {
+        let Some(book) = &self.book else { return };
+        let resting = if kind == "list" {
+            &book.rest.lists
+        } else {
+            &book.rest.blocks
+        };
+        let held = book.batches.iter().flatten().any(|change| match change {
+            Change::TakeList { .. } => kind == "list",
+            Change::Put { .. } => kind == "block",
+            _ => false,
+        });
+        let deleted = book.batches.iter().flatten().any(|change| match change {
+            Change::DeleteList { .. } => kind == "list",
+            Change::DeleteBlock { .. } => kind == "block",
+            _ => false,
+        });
+        let place = if stream == 0 { "stream 0" } else { "a unit" };
+        match answer {
+            "0" => {
+                assert_eq!(longest(resting), Some(given), "the {kind} given on {place}");
+                let freed = resting[&given];
+                let when = if freed.is_before_mount { ", before a mount" } else { "" };
+                self.reached.add(format!("a {kind} given: {}{when}", freed.how));
+                self.reached.add(format!("a {kind} given on {place}"));
+                self.reached
+                    .add_if(held, &format!("a {kind} given on {place}, others held"));
+                let is_lowest = resting.keys().next() == Some(&given);
+                self.reached
+                    .add_if(!is_lowest, &format!("a {kind} given on {place}, a lower one free"));
+                self.reached
+                    .add_if(deleted, &format!("a {kind} given on {place}, others deleted in units"));
+                let same = resting.values().filter(|other| other.time == freed.time).count();
+                self.reached.add_if(
+                    same > 1 && freed.time > 0,
+                    &format!("a {kind} given: one of several released"),
+                );
+                *self.given.entry((kind, given)).or_default() += 1;
+                let greatest = if kind == "list" { LISTS } else { BLOCKS };
+                let is_often = |number| self.given.get(&(kind, number)).is_some_and(|&count| count >= 3);
+                let all_often = (1..=greatest).all(is_often);
+                self.reached.add_if(all_often, &format!("every {kind} given 3 times"));
+            }
+            "10" => {
+                assert!(resting.is_empty());
+                self.reached
+                    .add_if(held, &format!("10 for a {kind} on {place}, others held"));
+            }
+            "11" | "13" => {
+                assert!(!resting.is_empty());
+                self.reached.add(format!("{answer} for a {kind}"));
+            }
+            _ => {}
+        }
+    }
+
     fn observe(&mut self, line: &[u8], printed: &str, shell: &mut Shell) {
         let text = String::from_utf8_lossy(line);
         let words: Vec<&str> = text.split(' ').filter(|word| !word.is_empty()).collect();
@@ -331,8 +554,13 @@ impl Keeper {
                 let is_whole = shell.lengths_lent() == [shell.card().len(), QUEUE_BYTES, JOURNAL_BYTES];
                 let segments = shell.card().len() / SEGMENT_BYTES;
                 self.book = is_whole.then(|| Book::new(segments));
+                self.given.clear();
             }
             _ => {}
+        }
+        if let ("newlist" | "newblock", Some(&answer), Some(&given)) = (words[0], printed.first(), printed.get(1)) {
+            let kind = if words[0] == "newlist" { "list" } else { "block" };
+            self.check_given(kind, number(1), answer, given.parse().expect("a number"));
         }
         let Some(book) = &mut self.book else { return };
         match (words[0], is_accepted) {
@@ -367,7 +595,7 @@ impl Keeper {
                 book.change(number(1) as usize, Change::DeleteList { list });
             }
             ("end", true) => book.end(number(1) as usize),
-            ("end", false) if printed[0] == "12" => book.batches[number(1) as usize - 1].clear(),
+            ("end", false) if printed[0] == "12" => book.drop_batch(number(1) as usize),
             ("flush", true) => {
                 let (stores, ending) = book.flush(number(1));
                 assert_eq!(printed, ["0", &stores.to_string(), ending], "{text}");
@@ -402,6 +630,8 @@ impl Keeper {
 fn states_are_what_the_book_says() {
     let mut keeper = Keeper {
         book: None,
+        reached: Reached::default(),
+        given: BTreeMap::new(),
         lines: 0,
         mounts: 0,
         looks: 0,
@@ -417,4 +647,41 @@ fn states_are_what_the_book_says() {
         keeper.lines, keeper.looks, keeper.mounts
     );
     assert!(keeper.mounts > 300 && keeper.looks > 5_000);
+    let reached = &keeper.reached;
+    for what in &reached.0 {
+        println!("{what}");
+    }
+    for kind in ["block", "list"] {
+        for how in [
+            "never used",
+            "deleted",
+            "deleted in a unit",
+            "made and deleted in a unit",
+        ] {
+            reached.demand(&format!("a {kind} given: {how}"));
+            reached.demand(&format!("a {kind} given: {how}, before a mount"));
+        }
+        reached.demand(&format!("a {kind} given: released by refusal 12"));
+        reached.demand(&format!("a {kind} given: one of several released"));
+        for place in ["stream 0", "a unit"] {
+            reached.demand(&format!("a {kind} given on {place}"));
+            reached.demand(&format!("a {kind} given on {place}, others held"));
+            reached.demand(&format!("a {kind} given on {place}, a lower one free"));
+            reached.demand(&format!("a {kind} given on {place}, others deleted in units"));
+            reached.demand(&format!("10 for a {kind} on {place}, others held"));
+        }
+        for refusal in [11, 13] {
+            reached.demand(&format!("{refusal} for a {kind}"));
+        }
+    }
+    for how in [
+        "deleted with its list",
+        "deleted with its list, not ascending",
+        "deleted with its list in a unit",
+        "deleted with its list in a unit, not ascending",
+    ] {
+        reached.demand(&format!("a block given: {how}"));
+        reached.demand(&format!("a block given: {how}, before a mount"));
+    }
+    reached.demand_each(&["every block given 3 times", "every list given 3 times"]);
 }

@@ -1,9 +1,10 @@
 //! The "Runs with known outcome" of document 01, in their order; those that it marks P are named so. Then what document 02
-//! says of blocks that nobody wrote (E4), of printed pages (E1), of windows (E7), of races (E10) and of lists taken in units
-//! (E6).
+//! says of blocks that nobody wrote (E4), of printed pages (E1), of windows (E7), of races (E10), of lists taken in units
+//! (E6) and of numbers that rest (E11).
 
 use second::disk::{Ending, Flushed, Lent, MountRefusal, Refusal};
 use second::entry::{Cause, Change};
+use second::free::Order;
 use second::limits::{BLOCK_BYTES, JOURNAL_BYTES, QUEUE_BYTES, SEGMENT_BYTES, SUMMARY_AT};
 use second::lister;
 use second::page;
@@ -446,7 +447,7 @@ fn a_block_deleted_and_put_again_is_unwritten_again() {
     assert_eq!(owner.read(0, 1), Ok(seven()));
 }
 
-/// The same by deleting the list, and mounting before the put: numbers begin with 1 again.
+/// The same by deleting the list, and mounting before the put: 2 to 64 come before 1.
 #[test]
 fn a_block_of_a_deleted_list_is_unwritten_when_put_again() {
     let mut owner = Owner::begun_and_flushed();
@@ -454,13 +455,10 @@ fn a_block_of_a_deleted_list_is_unwritten_when_put_again() {
     assert_eq!(owner.lend().new_list(0), Ok(2));
     assert_eq!(owner.flush(65_535), flushed(6, Ending::Drained));
     owner.remount();
-    assert_eq!(owner.lend().new_block(0, 2, 0), Ok(1));
+    assert_eq!(owner.put(2, 64), (2..=64).chain([1]).collect::<Vec<u8>>());
     assert_eq!(owner.read(0, 1), Err(Refusal::Unwritten));
-    assert_eq!(owner.flush(65_535), flushed(4, Ending::Drained));
-    assert_eq!(
-        lister::lines(&owner.card),
-        "segments 1 used 1 entries 6\nlist 2: 1\nblock 1: unwritten\n"
-    );
+    assert!(owner.flush(65_535).is_ok());
+    assert!(lister::lines(&owner.card).contains(" 63 64 1\nblock 1: unwritten\n"));
 }
 
 /// "By that view's state": a unit's write is in its view alone until its End.
@@ -647,12 +645,12 @@ fn blocks_of_a_page_in_their_order() {
 #[test]
 fn lists_of_a_page_ascend() {
     let mut owner = Owner::formatted(1);
-    for list in 1..=3 {
-        assert_eq!(owner.lend().new_list(0), Ok(list));
-    }
-    assert_eq!(owner.lend().delete_list(0, 1), Ok(()));
+    owner.take_all_lists();
     assert!(owner.flush(65_535).is_ok());
-    owner.remount();
+    for list in [1].into_iter().chain(4..=16) {
+        assert_eq!(owner.lend().delete_list(0, list), Ok(()));
+    }
+    assert!(owner.flush(65_535).is_ok());
     assert_eq!(owner.lend().new_list(0), Ok(1));
     assert_eq!(owner.put(1, 1), [1]);
     let mut lists = [0; 16];
@@ -985,7 +983,8 @@ fn the_last_write_has_the_race() {
     assert_eq!(owner.lend().delete_block(0, 1), Ok(()));
     assert_eq!(owner.flush(65_535), flushed(3, Ending::Drained));
     owner.remount();
-    assert_eq!(owner.lend().new_block(0, 1, 0), Ok(1));
+    assert_eq!(owner.put(1, 64).last(), Some(&1));
+    assert!(owner.flush(65_535).is_ok());
     assert_eq!(owner.race(0, 1), Err(Refusal::Unwritten));
     assert_eq!(owner.lend().write(0, 1, &seven(), 0), Ok(()));
     assert_eq!(owner.race(0, 1), Ok(0));
@@ -1219,7 +1218,7 @@ fn a_mounting_takes_the_list_with_its_unit() {
     assert!(owner.card == card);
 }
 
-/// Refusal 12 leaves it in no view and releases its number; "given last" stays where it came to.
+/// Refusal 12 leaves it in no view and releases its number, which comes after those never used.
 #[test]
 fn a_conflict_takes_the_list_with_its_unit() {
     let mut owner = Owner::with_list_in_unit();
@@ -1264,10 +1263,10 @@ fn held_lists_are_given_to_nobody() {
     assert_eq!(owner.lend().end(1), Ok(()));
     assert_eq!(owner.lend().new_list(2), Ok(1));
     assert_eq!(owner.lend().new_list(0), Err(Refusal::NoneFree));
-    // The other is refused 12: 1 and 3 are free.
+    // The other is refused 12: 1 and 3 are free, after 5.
     assert_eq!(owner.lend().delete_list(0, 5), Ok(()));
     assert_eq!(owner.lend().end(2), Err(Refusal::Conflict));
-    for list in [3, 5, 1] {
+    for list in [5, 1, 3] {
         assert_eq!(owner.lend().new_list(0), Ok(list));
     }
     assert_eq!(owner.lend().new_list(0), Err(Refusal::NoneFree));
@@ -1341,7 +1340,7 @@ fn the_order_of_a_units_lists() {
     assert_eq!(owner.inventory(5), [1, 3, 6, 4, 7, 2, 5, 8]);
 }
 
-/// In journal order, not by number: 1 follows 16.
+/// In journal order, not by number: 16 was never used.
 #[test]
 fn a_units_lists_are_not_sorted() {
     let mut owner = Owner::formatted(1);
@@ -1380,7 +1379,8 @@ fn a_list_taken_and_deleted_in_a_unit() {
     assert_eq!(owner.summary(0)[..10], [4, 130, 1, 131, 1, 1, 162, 1, 16, 3]);
     owner.remount();
     assert_eq!(owner.inventory(5), []);
-    assert_eq!(owner.lend().new_list(0), Ok(1));
+    // The log shows that 1 was used.
+    assert_eq!(owner.lend().new_list(0), Ok(2));
 }
 
 /// A list deleted under one unit and taken by another satisfies the first once that other has ended.
@@ -1415,25 +1415,33 @@ fn question_3_judges_held_lists() {
         owner.lend().conflicts(1).is_ok()
     };
     let take = |list| Change::TakeList { list };
+    // Held by a unit, and so no more listed as free.
+    let hold = |record: &mut Record, unit, list| {
+        record.unit_mut(unit).held_lists.add(list);
+        record.free.lists.remove(list);
+    };
     assert!(is_sound(&|_| {}));
     // A held number that no journal takes.
-    assert!(is_sound(&|record| record.unit_mut(1).held_lists.add(16)));
-    assert!(is_sound(&|record| record.unit_mut(2).held_lists.add(3)));
+    assert!(is_sound(&|record| hold(record, 1, 16)));
+    assert!(is_sound(&|record| hold(record, 2, 3)));
     // Taken in the committed state, by the queue.
-    assert!(!is_sound(&|record| record.unit_mut(2).held_lists.add(1)));
+    assert!(!is_sound(&|record| hold(record, 2, 1)));
     // Held twice.
-    assert!(!is_sound(&|record| record.unit_mut(2).held_lists.add(2)));
+    assert!(!is_sound(&|record| hold(record, 2, 2)));
     // Held by a unit that is closed.
-    assert!(!is_sound(&|record| record.unit_mut(3).held_lists.add(3)));
+    assert!(!is_sound(&|record| hold(record, 3, 3)));
     // Taken by a journal and held by nobody, or by another unit.
-    assert!(!is_sound(&|record| record.unit_mut(1).held_lists = NumberSet::EMPTY));
+    assert!(!is_sound(&|record| {
+        record.unit_mut(1).held_lists = NumberSet::EMPTY;
+        record.free.lists.add(2);
+    }));
     assert!(!is_sound(&|record| record.unit_mut(2).add(take(3))));
     assert!(!is_sound(&|record| {
-        record.unit_mut(1).held_lists.add(3);
+        hold(record, 1, 3);
         record.unit_mut(2).add(take(3));
     }));
     assert!(is_sound(&|record| {
-        record.unit_mut(2).held_lists.add(3);
+        hold(record, 2, 3);
         record.unit_mut(2).add(take(3));
     }));
     // An entry that doesn't apply is no fault of a journal.
@@ -1526,4 +1534,395 @@ fn a_take_leaves_the_data_buffers() {
         .iter()
         .chain(&owner.queue_data)
         .all(|&byte| byte == 165));
+}
+
+// ---- Document 02, E11 -----------------------------------------------------------------------------------------------
+
+impl Owner {
+    /// List 1 with blocks 1 to `blocks`, the last first: each is put at the beginning.
+    fn with_blocks(blocks: u8) -> Owner {
+        let mut owner = Owner::formatted(4);
+        assert_eq!(owner.lend().new_list(0), Ok(1));
+        for block in 1..=blocks {
+            assert_eq!(owner.lend().new_block(0, 1, 0), Ok(block));
+        }
+        assert!(owner.flush(65_535).is_ok());
+        owner
+    }
+
+    /// The lists that NewList would give, up to 10.
+    fn lists_to_come(&self) -> Vec<u8> {
+        let mut owner = self.clone();
+        let mut given = Vec::new();
+        loop {
+            match owner.lend().new_list(0) {
+                Ok(list) => given.push(list),
+                Err(Refusal::QueueFull) => assert_ne!(owner.flush(65_535), flushed(0, Ending::Full)),
+                answer => {
+                    assert_eq!(answer, Err(Refusal::NoneFree));
+                    return given;
+                }
+            }
+        }
+    }
+
+    /// The blocks that NewBlock would give, up to 10. Some list is taken.
+    fn blocks_to_come(&self) -> Vec<u8> {
+        let mut owner = self.clone();
+        let list = u64::from(owner.inventory(0)[0]);
+        let mut given = Vec::new();
+        loop {
+            match owner.lend().new_block(0, list, 0) {
+                Ok(block) => given.push(block),
+                Err(Refusal::QueueFull) => assert_ne!(owner.flush(65_535), flushed(0, Ending::Full)),
+                answer => {
+                    assert_eq!(answer, Err(Refusal::NoneFree));
+                    return given;
+                }
+            }
+        }
+    }
+
+    /// The same, without those never used.
+    fn used_blocks_to_come(&self, used: u8) -> Vec<u8> {
+        let given = self.blocks_to_come();
+        let never = given.iter().position(|&block| block <= used).unwrap_or(given.len());
+        assert!(given[..never].iter().copied().eq(used + 1..=64));
+        given[never..].to_vec()
+    }
+}
+
+/// "Numbers never used come first, ascending."
+#[test]
+fn numbers_never_used_come_first() {
+    let mut owner = Owner::formatted(2);
+    assert_eq!(owner.lists_to_come(), (1..=16).collect::<Vec<u8>>());
+    assert_eq!(owner.lend().new_list(0), Ok(1));
+    assert_eq!(owner.blocks_to_come(), (1..=64).collect::<Vec<u8>>());
+    // A refusal after question 10 gives nothing: the queue is full.
+    for block in 1..=31 {
+        assert_eq!(owner.lend().new_block(0, 1, 0), Ok(block));
+    }
+    assert_eq!(owner.lend().new_block(0, 1, 0), Err(Refusal::QueueFull));
+    assert_eq!(owner.lend().new_list(0), Err(Refusal::QueueFull));
+    assert_eq!(owner.blocks_to_come(), (32..=64).collect::<Vec<u8>>());
+    assert_eq!(owner.lists_to_come(), (2..=16).collect::<Vec<u8>>());
+}
+
+/// "NewBlock and NewList now give the number that has been free longest", whatever its number.
+#[test]
+fn the_number_that_has_been_free_longest() {
+    let mut owner = Owner::with_blocks(5);
+    for block in [4, 1, 3] {
+        assert_eq!(owner.lend().delete_block(0, block), Ok(()));
+    }
+    assert_eq!(owner.used_blocks_to_come(5), [4, 1, 3]);
+    // 4 comes once the others are in use; freed again it is the last.
+    while owner.lend().new_block(0, 1, 0) != Ok(4) {
+        assert!(owner.flush(65_535).is_ok());
+    }
+    assert_eq!(owner.lend().delete_block(0, 4), Ok(()));
+    assert_eq!(owner.blocks_to_come(), [1, 3, 4]);
+    owner.take_all_lists();
+    for list in [9, 2, 16] {
+        assert!(owner.flush(65_535).is_ok());
+        assert_eq!(owner.lend().delete_list(0, list), Ok(()));
+    }
+    assert_eq!(owner.lists_to_come(), [9, 2, 16]);
+    assert_eq!(owner.blocks_to_come(), [1, 3, 4]);
+}
+
+/// "Blocks freed by one list deletion count in list order."
+#[test]
+fn blocks_of_a_deleted_list_in_list_order() {
+    let mut owner = Owner::with_blocks(3);
+    assert_eq!(owner.lend().new_block(0, 1, 2), Ok(4));
+    assert_eq!(owner.lend().new_list(0), Ok(2));
+    assert_eq!(owner.lend().new_block(0, 2, 0), Ok(5));
+    assert_eq!(owner.lend().delete_block(0, 2), Ok(()));
+    assert_eq!(owner.lend().new_block(0, 1, 0), Ok(6));
+    assert_eq!(owner.lend().delete_list(0, 1), Ok(()));
+    assert_eq!(owner.used_blocks_to_come(6), [2, 6, 3, 4, 1]);
+    assert_eq!(owner.lists_to_come().last(), Some(&1));
+    assert!(owner.flush(65_535).is_ok());
+    owner.remount();
+    assert_eq!(owner.used_blocks_to_come(6), [2, 6, 3, 4, 1]);
+}
+
+/// A number given in a unit is free for no stream; a deletion in a unit frees nothing until its End.
+#[test]
+fn numbers_in_a_unit() {
+    let mut owner = Owner::with_blocks(3);
+    assert_eq!(owner.lend().begin(1, 1), Ok(()));
+    assert_eq!(owner.lend().begin(2, 1), Ok(()));
+    assert_eq!(owner.lend().delete_block(1, 2), Ok(()));
+    assert_eq!(owner.lend().new_block(1, 1, 0), Ok(4));
+    assert_eq!(owner.lend().new_block(2, 1, 0), Ok(5));
+    assert_eq!(owner.lend().new_block(0, 1, 0), Ok(6));
+    assert_eq!(owner.lend().delete_block(1, 4), Ok(()));
+    assert_eq!(owner.blocks_to_come(), (7..=64).collect::<Vec<u8>>());
+    assert_eq!(owner.lend().delete_list(1, 1), Ok(()));
+    assert_eq!(owner.lend().new_list(1), Ok(2));
+    assert_eq!(owner.blocks_to_come(), (7..=64).collect::<Vec<u8>>());
+    assert_eq!(owner.lists_to_come(), (3..=16).collect::<Vec<u8>>());
+}
+
+/// An accepted End frees numbers as its members act; "one that its commit put or took and also freed counts as freed there".
+#[test]
+fn an_end_frees_as_its_members_act() {
+    let mut owner = Owner::with_blocks(4);
+    assert_eq!(owner.lend().begin(1, 1), Ok(()));
+    for block in [5, 6] {
+        assert_eq!(owner.lend().new_block(1, 1, 0), Ok(block));
+    }
+    for block in [3, 6, 1, 5] {
+        assert_eq!(owner.lend().delete_block(1, block), Ok(()));
+    }
+    assert_eq!(owner.lend().new_list(1), Ok(2));
+    assert_eq!(owner.lend().new_list(1), Ok(3));
+    for list in [3, 2] {
+        assert_eq!(owner.lend().delete_list(1, list), Ok(()));
+    }
+    // Freed before the End, though after the unit's own deletions.
+    assert_eq!(owner.lend().delete_block(0, 4), Ok(()));
+    assert_eq!(owner.lend().end(1), Ok(()));
+    assert_eq!(owner.used_blocks_to_come(6), [4, 3, 6, 1, 5]);
+    assert_eq!(owner.lists_to_come(), (4..=16).chain([3, 2]).collect::<Vec<u8>>());
+    assert!(owner.flush(65_535).is_ok());
+    owner.remount();
+    assert_eq!(owner.used_blocks_to_come(6), [4, 3, 6, 1, 5]);
+    assert_eq!(owner.lists_to_come(), (4..=16).chain([3, 2]).collect::<Vec<u8>>());
+}
+
+/// A list that a unit deletes has the unit's own blocks too, in list order.
+#[test]
+fn an_end_frees_a_lists_blocks_in_list_order() {
+    let mut owner = Owner::with_blocks(3);
+    assert_eq!(owner.lend().begin(4, 1), Ok(()));
+    assert_eq!(owner.lend().new_block(4, 1, 3), Ok(4));
+    assert_eq!(owner.lend().new_block(4, 1, 1), Ok(5));
+    assert_eq!(owner.lend().delete_block(4, 2), Ok(()));
+    assert_eq!(owner.lend().delete_list(4, 1), Ok(()));
+    assert_eq!(owner.lend().new_list(0), Ok(2));
+    assert_eq!(owner.lend().end(4), Ok(()));
+    assert_eq!(owner.used_blocks_to_come(5), [2, 3, 4, 1, 5]);
+}
+
+/// "Numbers released by a closing unit ascending": at refusal 12, in whatever order the unit was given them.
+#[test]
+fn refusal_12_releases_ascending() {
+    let mut owner = Owner::with_blocks(3);
+    while owner.lend().new_block(0, 1, 0).is_ok() {
+        assert!(owner.flush(65_535).is_ok());
+    }
+    for block in [30, 20, 10, 40] {
+        assert_eq!(owner.lend().delete_block(0, block), Ok(()));
+    }
+    assert_eq!(owner.lend().begin(1, 1), Ok(()));
+    for block in [30, 20, 10] {
+        assert_eq!(owner.lend().new_block(1, 1, 0), Ok(block));
+    }
+    assert_eq!(owner.lend().delete_block(1, 20), Ok(()));
+    assert_eq!(owner.lend().delete_block(1, 64), Ok(()));
+    assert_eq!(owner.lend().new_list(1), Ok(2));
+    assert_eq!(owner.blocks_to_come(), [40]);
+    assert_eq!(owner.lend().delete_block(0, 64), Ok(()));
+    assert_eq!(owner.lend().end(1), Err(Refusal::Conflict));
+    assert_eq!(owner.blocks_to_come(), [40, 64, 10, 20, 30]);
+    assert_eq!(owner.lists_to_come(), (3..=16).chain([2]).collect::<Vec<u8>>());
+    // "Holds that no acting entry shows are forgotten."
+    assert!(owner.flush(65_535).is_ok());
+    owner.remount();
+    assert_eq!(owner.blocks_to_come(), [30, 20, 10, 40, 64]);
+    assert_eq!(owner.lists_to_come(), (2..=16).collect::<Vec<u8>>());
+}
+
+/// Refusal 13 changes nothing; then the End is accepted.
+#[test]
+fn refusal_13_frees_nothing() {
+    let mut owner = Owner::with_blocks(2);
+    assert_eq!(owner.lend().begin(1, 1), Ok(()));
+    assert_eq!(owner.lend().new_block(1, 1, 0), Ok(3));
+    assert_eq!(owner.lend().delete_block(1, 3), Ok(()));
+    assert_eq!(owner.lend().delete_block(1, 1), Ok(()));
+    for _ in 0..29 {
+        assert_eq!(owner.lend().write(0, 2, &seven(), 0), Ok(()));
+    }
+    let record = owner.record;
+    assert_eq!(owner.lend().end(1), Err(Refusal::QueueFull));
+    assert_eq!(owner.record, record);
+    assert!(owner.flush(65_535).is_ok());
+    assert_eq!(owner.lend().end(1), Ok(()));
+    assert_eq!(owner.used_blocks_to_come(3), [3, 1]);
+}
+
+/// "After mounting, the log's order of freeing counts": what the queue held is forgotten, and so are units.
+#[test]
+fn mounting_goes_by_the_log() {
+    let mut owner = Owner::with_blocks(4);
+    assert_eq!(owner.lend().delete_block(0, 3), Ok(()));
+    assert_eq!(owner.lend().delete_block(0, 2), Ok(()));
+    assert!(owner.flush(65_535).is_ok());
+    assert_eq!(owner.lend().new_block(0, 1, 0), Ok(5));
+    assert_eq!(owner.lend().delete_block(0, 1), Ok(()));
+    assert_eq!(owner.lend().begin(2, 1), Ok(()));
+    assert_eq!(owner.lend().new_block(2, 1, 0), Ok(6));
+    assert_eq!(owner.used_blocks_to_come(6), [3, 2, 1]);
+    let mut drained = owner.clone();
+    owner.remount();
+    assert_eq!(owner.used_blocks_to_come(4), [3, 2]);
+    // The put of 5 and the deletion of 1 are on the card, the unit's put is not.
+    assert!(drained.flush(65_535).is_ok());
+    drained.remount();
+    assert_eq!(drained.used_blocks_to_come(5), [3, 2, 1]);
+}
+
+/// Cards byte by byte: numbers never used ascend, and then come those freed.
+#[test]
+fn the_order_that_a_log_shows() {
+    /// The count and the entries; the blocks freed, and the lists freed, that come last.
+    type Card = (&'static [u8], &'static [u8], &'static [u8]);
+    let cards: &[Card] = &[
+        (&[1, 2, 1], &[], &[]),
+        (&[3, 2, 1, 3, 9, 1, 33, 9], &[9], &[]),
+        // 9 and 7 in the order of their deletion; then 9 is put again, and freed again.
+        (&[5, 2, 1, 3, 9, 1, 3, 7, 1, 33, 9, 33, 7], &[9, 7], &[]),
+        (&[6, 2, 1, 3, 9, 1, 3, 7, 1, 33, 9, 33, 7, 3, 9, 1], &[7], &[]),
+        (&[7, 2, 1, 3, 9, 1, 3, 7, 1, 33, 9, 33, 7, 3, 9, 1, 33, 9], &[7, 9], &[]),
+        // In list order, 2 behind 8; the list among the lists.
+        (&[5, 2, 5, 2, 1, 3, 8, 5, 7, 2, 5, 8, 34, 5], &[8, 2], &[5]),
+        (&[5, 2, 5, 2, 1, 34, 1, 34, 5, 2, 2], &[], &[1, 5]),
+        (&[6, 2, 5, 2, 1, 34, 1, 34, 5, 2, 2, 2, 1], &[], &[5]),
+        // Members act with their commit, in their order.
+        (&[6, 2, 1, 3, 4, 1, 131, 3, 1, 161, 3, 161, 4, 16, 3], &[3, 4], &[]),
+        (&[7, 2, 1, 3, 4, 1, 3, 3, 1, 161, 3, 33, 4, 2, 2, 33, 3], &[4, 3], &[]),
+        // Dead members free nothing and use nothing: at the end, before a plain entry, before a commit's own.
+        (&[3, 2, 1, 131, 3, 1, 161, 3], &[], &[]),
+        (&[5, 2, 1, 131, 3, 1, 3, 4, 1, 33, 4, 16, 0], &[4], &[]),
+        (&[5, 2, 1, 131, 3, 1, 131, 4, 1, 161, 4, 16, 2], &[4], &[]),
+        (&[5, 2, 1, 130, 3, 130, 2, 162, 2, 16, 2], &[], &[2]),
+    ];
+    for &(summary, blocks, lists) in cards {
+        let mut owner = Owner::formatted(2);
+        owner.card[SUMMARY_AT..][..summary.len()].copy_from_slice(summary);
+        assert_eq!(owner.lend().mount(), Ok(()), "{summary:?}");
+        for (to_come, freed) in [(owner.blocks_to_come(), blocks), (owner.lists_to_come(), lists)] {
+            let never = to_come.strip_suffix(freed).expect("those freed come last");
+            assert!(never.is_sorted(), "{summary:?}");
+        }
+    }
+}
+
+/// A lost unit leaves no trace: its members on the card are dead.
+#[test]
+fn a_lost_units_numbers_are_never_used() {
+    let mut owner = Owner::with_blocks(2);
+    assert_eq!(owner.lend().begin(1, 1), Ok(()));
+    assert_eq!(owner.lend().new_block(1, 1, 0), Ok(3));
+    assert_eq!(owner.lend().delete_block(1, 1), Ok(()));
+    assert_eq!(owner.lend().end(1), Ok(()));
+    // 4 + 3 + 3 stores; without the last the commit is not there.
+    assert_eq!(owner.flush(9), flushed(9, Ending::Spent));
+    owner.remount();
+    assert_eq!(owner.blocks_to_come(), (3..=64).collect::<Vec<u8>>());
+}
+
+/// "Numbers released by a closing unit ascending, after those its commit freed": a held number that no journal puts, which
+/// no call leaves and question 3 lets be.
+#[test]
+fn an_end_releases_after_what_its_commit_freed() {
+    let mut owner = Owner::with_blocks(3);
+    assert_eq!(owner.lend().begin(1, 1), Ok(()));
+    for block in [9, 5] {
+        owner.record.unit_mut(1).held_blocks.add(block);
+        owner.record.free.blocks.remove(block);
+    }
+    owner.record.unit_mut(1).held_lists.add(7);
+    owner.record.free.lists.remove(7);
+    assert_eq!(owner.lend().new_block(1, 1, 0), Ok(4));
+    assert_eq!(owner.lend().new_block(1, 1, 0), Ok(6));
+    for block in [6, 2] {
+        assert_eq!(owner.lend().delete_block(1, block), Ok(()));
+    }
+    let mut refused = owner.clone();
+    assert_eq!(owner.lend().end(1), Ok(()));
+    let never: Vec<u8> = [7, 8].into_iter().chain(10..=64).collect();
+    assert_eq!(owner.blocks_to_come(), [&never[..], &[6, 2, 5, 9]].concat());
+    assert_eq!(
+        owner.lists_to_come(),
+        (2..=6).chain(8..=16).chain([7]).collect::<Vec<u8>>()
+    );
+    assert_eq!(refused.lend().delete_block(0, 2), Ok(()));
+    assert_eq!(refused.lend().end(1), Err(Refusal::Conflict));
+    assert_eq!(refused.blocks_to_come(), [&never[..], &[2, 4, 5, 6, 9]].concat());
+}
+
+/// A journal that puts a number twice, freed in between: the second put takes it out again.
+#[test]
+fn a_put_takes_its_number_out_wherever_it_stands() {
+    let mut owner = Owner::with_blocks(3);
+    assert_eq!(owner.lend().begin(1, 1), Ok(()));
+    assert_eq!(owner.lend().new_block(1, 1, 0), Ok(4));
+    for block in [4, 1] {
+        assert_eq!(owner.lend().delete_block(1, block), Ok(()));
+    }
+    let unit = owner.record.unit_mut(1);
+    unit.add(Change::PutFirst { block: 4, list: 1 });
+    assert_eq!(owner.lend().delete_block(1, 3), Ok(()));
+    let mut freed = owner.clone();
+    assert_eq!(owner.lend().end(1), Ok(()));
+    assert_eq!(owner.used_blocks_to_come(4), [1, 3]);
+    assert_eq!(freed.lend().delete_block(1, 4), Ok(()));
+    assert_eq!(freed.lend().end(1), Ok(()));
+    assert_eq!(freed.used_blocks_to_come(4), [1, 3, 4]);
+}
+
+/// "Question 3 wants each free number and no other listed, once, and believes their order."
+#[test]
+fn question_3_judges_what_is_listed() {
+    let is_sound = |change: &dyn Fn(&mut Record)| {
+        let mut owner = Owner::begun(1);
+        assert_eq!(owner.lend().begin(1, 1), Ok(()));
+        assert_eq!(owner.lend().new_list(1), Ok(2));
+        assert_eq!(owner.lend().new_block(1, 2, 0), Ok(2));
+        assert_eq!(owner.lend().delete_block(1, 1), Ok(()));
+        change(&mut owner.record);
+        owner.lend().conflicts(1).is_ok()
+    };
+    let blocks = |listed: &[u8]| is_sound(&|record| record.free.blocks = Order::listing(listed));
+    let lists = |listed: &[u8]| is_sound(&|record| record.free.lists = Order::listing(listed));
+    let (free_blocks, free_lists): (Vec<u8>, Vec<u8>) = ((3..=64).collect(), (3..=16).collect());
+    assert!(blocks(&free_blocks) && lists(&free_lists));
+    // Any order is believed.
+    let turned = |free: &[u8]| free.iter().rev().copied().collect::<Vec<u8>>();
+    assert!(blocks(&turned(&free_blocks)) && lists(&turned(&free_lists)));
+    assert!(blocks(&[&free_blocks[9..], &free_blocks[..9]].concat()));
+    // A free number missing: the first, the last, one between.
+    for missing in [3, 30, 64] {
+        let mut listed = free_blocks.clone();
+        listed.retain(|&block| block != missing);
+        assert!(!blocks(&listed), "{missing}");
+        // And another listed twice in its place.
+        listed.push(40);
+        assert!(!blocks(&listed), "{missing}");
+    }
+    assert!(!lists(&free_lists[1..]) && !lists(&free_lists[..13]));
+    assert!(!blocks(&[]) && !lists(&[]));
+    // Listed twice.
+    assert!(!blocks(&[&free_blocks[..], &[64]].concat()));
+    assert!(!lists(&[&[3], &free_lists[..]].concat()));
+    // In use, though a unit deletes it; held by a unit; no number.
+    for number in [1, 2, 0, 65, 255] {
+        assert!(!blocks(&[&free_blocks[..], &[number]].concat()), "{number}");
+        assert!(!blocks(&[&[number], &free_blocks[1..]].concat()), "{number}");
+    }
+    for number in [1, 2, 0, 17, 255] {
+        assert!(!lists(&[&free_lists[..], &[number]].concat()), "{number}");
+        assert!(!lists(&[&[number], &free_lists[1..]].concat()), "{number}");
+    }
+    // A number that is held and not listed is held by nobody any more.
+    assert!(!is_sound(&|record| {
+        record.unit_mut(1).held_blocks = NumberSet::EMPTY;
+        record.unit_mut(1).held_lists = NumberSet::EMPTY;
+    }));
 }

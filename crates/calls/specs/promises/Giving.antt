@@ -7,26 +7,26 @@ use Prim.Native.Nat.{ℕ}
 use lib.Dec.{leb, eqb}
 use Rattle.lists.specs.Basic.{isSome, orElse}
 use Rattle.lists.specs.InUse.{listNumber}
-use Rattle.lists.specs.State.{Row, State, taken, placed, onList, overlay}
-use Rattle.lists.specs.promises.Tables.{Tables, Shows, ShowsAll}
+use Rattle.lists.specs.State.{Row, State, taken, onList, overlay}
+use Rattle.lists.specs.promises.Tables.{Tables, ShowsAll}
 use Rattle.log.specs.declared.entry.LogEntry.{LogEntry}
 use Rattle.log.specs.declared.entry.LogEntry.the-variants.{Take, PutFirst, PutAfter}
 use Rattle.log.specs.Entry.{isList}
-use Rattle.disk.specs.Record.{Record, unitAt, holderOf, holding, withLastBlock, withLastList}
+use Rattle.disk.specs.Record.{Record, unitAt, listedIn, holding}
 use Rattle.disk.specs.declared.answer.NumberReply.{NumberReply}
 use Rattle.disk.specs.declared.answer.NumberReply.the-variants.{Number, Refused}
 use Rattle.disk.specs.Disk.{Disk}
-use Rattle.disk.specs.Questions.{freeFrom, firstNo}
+use Rattle.disk.specs.Questions.{firstFree, firstNo}
 use Rattle.disk.specs.Answers.{number}
+use Rattle.disk.specs.promises.Listing.{unlisted}
 use Rattle.inspect.specs.promises.Located.{journalHere}
 use Rattle.calls.specs.promises.Adds.{added, rooms}
 
--- of committed lists rs
-abbrev pub freeListIn : {D : Type 0} → Record → List (Row D) → Option ℕ
-freeListIn r rs = freeFrom (λ l. taken l rs || not (eqb (holderOf r (listNumber l)) 0)) 16 16 (r .tally .lastList)
+abbrev pub freeListIn : Record → Option ℕ
+freeListIn r = firstFree 64 16 (listedIn r)
 
-abbrev pub freeBlockIn : {D : Type 0} → Record → List (Row D) → Option ℕ
-freeBlockIn r rs = freeFrom (λ b. placed b rs || not (eqb (holderOf r b) 0)) 64 64 (r .tally .lastBlock)
+abbrev pub freeBlockIn : Record → Option ℕ
+freeBlockIn r = firstFree 0 64 (listedIn r)
 
 -- number n held by unit s, by none on stream 0
 abbrev pub heldBy : ℕ → ℕ → Record → Record
@@ -34,18 +34,18 @@ heldBy s n r = cond (eqb s 0) r (holding n s r)
 
 -- NewList behind question 4: list l taken on stream s
 abbrev pub takenList : ℕ → ℕ → Record → Record
-takenList s l r = withLastList (heldBy s (listNumber l) (added s (Take l) r)) l
+takenList s l r = unlisted (listNumber l) (heldBy s (listNumber l) (added s (Take l) r))
 
-abbrev pub Takes : ℕ → Record → List (Row ℕ) → NumberReply → Record → Type 0
-Takes s r rs (Refused x) r′ = (r′ ≡ r) × ((d : Disk) → d .rec ≡ r → firstNo ((10, isSome (freeListIn r rs)) ∷ rooms d s) ≡ number x)
-Takes s r rs (Number l) r′ = (r′ ≡ takenList s l r) × (freeListIn r rs ≡ some l) × ((d : Disk) → d .rec ≡ r → firstNo (rooms d s) ≡ 0)
+abbrev pub Takes : ℕ → Record → NumberReply → Record → Type 0
+Takes s r (Refused x) r′ = (r′ ≡ r) × ((d : Disk) → d .rec ≡ r → firstNo ((10, isSome (freeListIn r)) ∷ rooms d s) ≡ number x)
+Takes s r (Number l) r′ = (r′ ≡ takenList s l r) × (freeListIn r ≡ some l) × ((d : Disk) → d .rec ≡ r → firstNo (rooms d s) ≡ 0)
 
 -- NewBlock: block b put on list l behind block p, first if p is 0, and held by unit s
 abbrev pub putEntry : ℕ → ℕ → ℕ → LogEntry
 putEntry b l p = cond (eqb p 0) (PutFirst b l) (PutAfter b l p)
 
 unfoldable pub putBlock : ℕ → ℕ → ℕ → ℕ → Record → Record
-putBlock s l p b r = withLastBlock (heldBy s b (added s (putEntry b l p) r)) b
+putBlock s l p b r = unlisted b (heldBy s b (added s (putEntry b l p) r))
 
 -- after questions qs
 abbrev pub Gives : List (ℕ × Bool) → ℕ → ℕ → ℕ → ℕ → Record → NumberReply → Record → Type 0
@@ -66,13 +66,8 @@ viewHere r s st = cond (eqb s 0) st (overlay (journalHere (unitAt r s) s) st)
 abbrev pub Lays : Tables → Record → ℕ → Tables → Type 0
 Lays t r s t′ = (st : State ℕ) → ShowsAll t st → ShowsAll t′ (viewHere r s st)
 
--- the tables show some lists
-pub record Shown (t : Tables) : Type 0 where
-  pub lists : List (Row ℕ)
-  pub shows : Shows t lists
-
 -- the tables show the committed state
 abbrev pub PutsFree : Tables → ℕ → ℕ → ℕ → Record → NumberReply → Record → Type 0
 PutsFree t s l p r a r′ =
     (st : State ℕ) → ShowsAll t st
-    → (let b = orElse 0 (freeBlockIn r (st .lists)) in Gives (rangedPutQuestions l p b (viewHere r s st .lists)) s l p b r a r′)
+    → (let b = orElse 0 (freeBlockIn r) in Gives (rangedPutQuestions l p b (viewHere r s st .lists)) s l p b r a r′)

@@ -3,14 +3,14 @@ use mathlib.Core.Path.{_≡_}
 use mathlib.Core.Bool.{Bool, true, false, cond}
 use mathlib.Core.List.{[], _∷_}
 use Prim.Native.Nat.{ℕ}
-use Rattle.lists.specs.Basic.{isSome, all, each, from}
-use Rattle.lists.specs.InUse.{numberCount}
+use Rattle.lists.specs.Basic.{isSome, all, each}
+use Rattle.lists.specs.Numbers.{allNumbers}
 use Rattle.lists.specs.promises.Tables.{Tables}
 use Rattle.log.specs.Entry.{raw, legal}
 use Rattle.log.specs.Store.{tail}
 use Rattle.log.specs.declared.place.Place.{Place}
 use Rattle.disk.specs.Disk.{Disk, queued, committedReader, view}
-use Rattle.disk.specs.Sound.{lengthsRight, holderSound, headStanding, recordSound}
+use Rattle.disk.specs.Sound.{lengthsRight, holderSound, listedSound, headStanding, recordSound}
 use Rattle.disk.specs.Questions.{streamOpen, viewOpen, firstNo}
 use Rattle.disk.specs.Answers.{number}
 use Rattle.inspect.specs.promises.Located.{Located}
@@ -32,7 +32,8 @@ behindLog d =
     each
     (all (λ e. legal (raw 0 e)) (queued d)
     ∷ isSome (committedReader d)
-    ∷ all (holderSound d) (from (λ n. n) 1 numberCount)
+    ∷ all (holderSound d) allNumbers
+    ∷ all (listedSound d) allNumbers
     ∷ headStanding (d .card) (d .rec .ring .done) (queued d)
     ∷ [])
 

@@ -14,7 +14,7 @@ use lib.ListN.{length, getD, set, replicate}
 use Rattle.lists.specs.Basic.{from}
 unfoldable pub use Rattle.lists.specs.Basic.{times}
 use Rattle.lists.specs.Change.{Change, takeList, putFirst, putAfter, write, delBlock, delList}
-use Rattle.lists.specs.Numbers.{numberCount}
+use Rattle.lists.specs.Numbers.{numberCount, isNumber}
 use Rattle.lists.specs.State.{Block, Row, State, blocksOf}
 use Rattle.lists.specs.Clearing.{firstOff, stepsOff, stepsFree}
 
@@ -187,7 +187,7 @@ chain rs fs = nodes rs ++ ends fs
 
 -- each number, and the nodes 254 and 255, stand in the chain once, and nothing else does
 abbrev pub isNode : ℕ → Bool
-isNode n = (leb 1 n && leb n numberCount) || (eqb n 254 || eqb n 255)
+isNode n = isNumber n || (eqb n 254 || eqb n 255)
 
 abbrev pub Whole : List ℕ → Type 0
 Whole ns = (n : ℕ) → times n ns ≡ cond (isNode n) 1 0
@@ -316,7 +316,28 @@ behindNode l p = cond (eqb p 0) (listNode l) p
 abbrev pub behindList : ℕ → ℕ
 behindList l = cond (eqb l 0) 0 (listNode l)
 
--- What the look-ups answer, whatever stands in the tables; what that says of the lists that tables show are laws (`Lookup` in proofs).
+-- the node behind which the free number after n stands; 0 is before the first
+abbrev pub behindFree : ℕ → ℕ
+behindFree n = cond (eqb n 0) 254 n
+
+-- n, or 0 where it is node e, at which the free numbers end
+abbrev pub unless : ℕ → ℕ → ℕ
+unless e n = cond (eqb n e) 0 n
+
+-- the last of a ∷ xs
+abbrev pub last : ℕ → List ℕ → ℕ
+last a [] = a
+last a (x ∷ xs) = last x xs
+
+-- the first and the last of some numbers, 0 where there is none
+abbrev pub firstOr0 : List ℕ → ℕ
+firstOr0 [] = 0
+firstOr0 (x ∷ xs) = x
+
+abbrev pub lastOr0 : List ℕ → ℕ
+lastOr0 xs = last 0 xs
+
+-- What the look-ups answer, whatever stands in the tables; what that says of the lists that tables show are laws (`Lookup` and `FreeRow` in proofs).
 pub record SaysTaken (t : Tables) (l : ℕ) (r : Bool) : Type 0 where
   pub answer : r ≡ not (eqb (ownerOf t (listNode l)) 0)
 
@@ -334,3 +355,9 @@ pub record SaysBlockAfter (t : Tables) (l p r : ℕ) : Type 0 where
 
 pub record SaysListAfter (t : Tables) (l r : ℕ) : Type 0 where
   pub answer : r ≡ listWithin 256 (t .next) (behindList l)
+
+pub record SaysFreeAfter (t : Tables) (n r : ℕ) : Type 0 where
+  pub answer : r ≡ unless 255 (nextOf t (behindFree n))
+
+pub record SaysLastFree (t : Tables) (r : ℕ) : Type 0 where
+  pub answer : r ≡ unless 254 (prevOf t 255)

@@ -117,10 +117,15 @@ impl Generator<'_> {
         let blocks = state.map(blocks_of).unwrap_or_default();
         match self.random.below(100) {
             0..=89 if !blocks.is_empty() => u64::from(self.random.pick(&blocks)),
-            0..=94 => u64::from(self.shell.record().block_given.max(1)),
+            0..=94 => u64::from(self.block_freed_last()),
             95..=97 => self.random.between(1, u64::from(BLOCKS)),
             _ => self.strange_number(),
         }
+    }
+
+    /// The free block that comes last.
+    fn block_freed_last(&self) -> u8 {
+        self.shell.record().free.blocks.listed().last().copied().unwrap_or(1)
     }
 
     /// A block, now and then one that is unwritten in the view.

@@ -320,11 +320,13 @@ impl Generator<'_> {
         made.number.filter(|_| made.is_accepted())
     }
 
-    /// A block deleted, or its list, and put again: after mounting the lowest free number is the first that is given.
+    /// A block deleted, or its list, and put again: it comes after those that have been free longer.
     fn put_again(&mut self) -> Option<u64> {
+        if self.random.chance(20) {
+            self.leave_few_blocks();
+        }
         let state = self.state(0)?;
         let mut blocks = blocks_of(&state);
-        blocks.retain(|&block| (1..block).all(|lower| state.is_on_a_list(lower)));
         if self.random.chance(70) {
             blocks.retain(|&block| state.written(block).is_some());
         }
@@ -335,9 +337,11 @@ impl Generator<'_> {
         } else {
             self.run(format_args!("dellist 0 {list}"));
         }
-        self.run(format_args!("flush 65535"));
-        self.run(format_args!("mount"));
-        self.put_on(0)
+        if self.random.chance(50) {
+            self.run(format_args!("flush 65535"));
+            self.run(format_args!("mount"));
+        }
+        self.until_given(u64::from(block))
     }
 
     /// Reads `block` in view 0, in the views of open units and in view 5, each most of the time.

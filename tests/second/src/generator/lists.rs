@@ -2,9 +2,8 @@
 
 use super::arguments::stores_of_queue;
 use super::Generator;
-use crate::entry::{Change, Entry};
-use crate::limits::{JOURNAL, LISTS};
-use crate::log::{entries_at, Log};
+use crate::entry::Change;
+use crate::limits::{BLOCKS, JOURNAL, LISTS};
 
 const NONE_FREE: Option<u64> = Some(10);
 const JOURNAL_FULL: Option<u64> = Some(11);
@@ -41,7 +40,7 @@ impl Generator<'_> {
     }
 
     /// Lists that `unit` has taken, in the order of its journal; some may be deleted again.
-    fn lists_taken_in(&self, unit: u64) -> Vec<u8> {
+    pub(super) fn lists_taken_in(&self, unit: u64) -> Vec<u8> {
         let journal = self.shell.record().unit(unit as u8).journal();
         let taken = journal.iter().filter_map(|&change| match change {
             Change::TakeList { list } => Some(list),
@@ -121,17 +120,15 @@ impl Generator<'_> {
         }
     }
 
-    /// The number given last comes near the greatest, and low numbers are free: numbers that a unit is given don't ascend.
+    /// Every list is taken, and some go in any order: numbers that a unit is given don't ascend.
     fn come_to_the_last_list(&mut self) {
-        for _ in 0..LISTS {
-            if self.shell.record().list_given % LISTS >= LISTS - 3 {
-                break;
-            }
-            let answer = self.run(format_args!("newlist 0")).answer;
+        self.fill_lists();
+        let Some(state) = self.state(0) else { return };
+        let mut lists = state.lists().to_vec();
+        for _ in 0..self.random.between(2, 6).min(lists.len() as u64) {
+            let list = lists.swap_remove(self.random.below(lists.len() as u64) as usize);
+            let answer = self.run(format_args!("dellist 0 {list}")).answer;
             self.make_room(answer);
-        }
-        for list in 1..=self.random.between(1, 4) {
-            self.run(format_args!("dellist 0 {list}"));
         }
     }
 
@@ -181,24 +178,23 @@ impl Generator<'_> {
         self.run(format_args!("newlist 0"));
     }
 
-    /// Someone else makes the last entry on the card take a list that `unit` holds: the record is not sound then.
+    /// Someone else adds an entry to the card that takes a list which `unit` holds, or puts a block which it holds: the record
+    /// is not sound then, though it lists the free numbers and no other.
     fn take_a_held_list_on_the_card(&mut self, unit: u64) {
-        let Some(held) = self.random.pick_if_any(&self.lists_taken_in(unit)) else {
-            return self.new_list(unit);
-        };
-        let Some(list) = self.run(format_args!("newlist 0")).number.filter(|&list| list > 0) else {
-            return self.delete_list(0);
-        };
         self.run(format_args!("flush 65535"));
-        let Ok(log) = Log::read(self.shell.lent().card) else {
-            return;
+        let list = self.random.pick_if_any(&self.lists_taken_in(unit));
+        let held = self.shell.record().unit(unit as u8).held_blocks;
+        let blocks: Vec<u8> = (1..=BLOCKS).filter(|&block| held.has(block)).collect();
+        let committed = self.state(0).and_then(|state| self.random.pick_if_any(state.lists()));
+        let change = match (list, self.random.pick_if_any(&blocks), committed) {
+            (_, Some(block), Some(list)) if self.random.chance(50) => Change::PutFirst { block, list },
+            (Some(list), _, _) => Change::TakeList { list },
+            _ => return self.new_list(unit),
         };
-        let end = entries_at(log.end.segment) + log.end.bytes;
-        let take = Entry::Plain(Change::TakeList { list: list as u8 }).encode(0);
-        if self.shell.record().queue_length() > 0 || !self.shell.card()[..end].ends_with(take.bytes()) {
+        if self.shell.record().queue_length() > 0 {
             return;
         }
-        self.poke(end - 1, held);
+        self.add_on_the_card(change);
         for _ in 0..self.random.between(1, 3) {
             self.any_call();
         }

@@ -91,8 +91,11 @@ impl Generator<'_> {
         }
     }
 
-    /// Adds a few entries behind the log and mounts what is left.
+    /// Adds a few entries behind the log, or asks for many numbers, and mounts what is left.
     fn go_on(&mut self) {
+        if self.random.chance(40) {
+            self.ask_for_numbers();
+        }
         for _ in 0..self.random.between(1, 4) {
             if self.random.chance(70) {
                 self.change_on(0);

@@ -10,6 +10,7 @@ mod cards;
 mod damage;
 mod lists;
 mod logs;
+mod numbers;
 mod pages;
 mod power;
 mod races;
@@ -60,6 +61,8 @@ enum Action {
     Races,
     /// Lists taken in units.
     Lists,
+    /// Numbers freed and given again.
+    Numbers,
     /// Stores, cuts, and what comes after them.
     Flush,
     CutFlush,
@@ -101,6 +104,7 @@ const COMMON: &[(Action, u64)] = &[
     (Action::Windows, 1),
     (Action::Races, 1),
     (Action::Lists, 1),
+    (Action::Numbers, 1),
     (Action::CutFlush, 1),
     (Action::Cut, 1),
     (Action::Mount, 1),
@@ -325,6 +329,22 @@ const PROFILES: &[Profile] = &[
         segments: (1, 9),
         lines: (400, 1_200),
     },
+    // Numbers that rest: every one comes several times.
+    Profile {
+        actions: &[
+            (Action::Numbers, 60),
+            (Action::Conflict, 3),
+            (Action::Lists, 3),
+            (Action::FillBlocks, 2),
+            (Action::End, 6),
+            (Action::Flush, 8),
+            (Action::CutFlush, 3),
+            (Action::Mount, 3),
+            (Action::Format, 1),
+        ],
+        segments: (3, 24),
+        lines: (1_500, 4_000),
+    },
     // Formattings and remounts.
     Profile {
         actions: &[
@@ -389,19 +409,19 @@ pub fn generate<'a>(seed: u64, lines: Option<usize>, observer: &'a mut Observer<
 }
 
 /// A script in which the conflict count of window 16 stops at 65,535, and those of its neighbours go on. Four units at a
-/// time delete the only list; then someone else takes it off the card, so that none of them applies, and puts it back. So
-/// the log doesn't grow.
+/// time put a block after the only one of list 1; then someone else puts that one on list 2 on the card, so that none of them
+/// applies, and puts it back. So the log doesn't grow, and no number comes to be free or in use behind the record's back.
 pub fn conflicts_script() -> String {
     const ROUNDS: usize = 65_580 / 4;
-    let mut script = "card 4096 0\nformat\nnewlist 0\nflush 65535\n".to_string();
+    let mut script = "card 4096 0\nformat\nnewlist 0\nnewlist 0\nnewblock 0 1 0\nflush 65535\n".to_string();
     for round in 0..ROUNDS {
         let looks = round % 1_000 == 0 || round + 5 > ROUNDS;
         let others = if looks { (15, 1) } else { (16, 16) };
         script += &format!("begin 1 {}\nbegin 2 16\nbegin 3 16\nbegin 4 {}\n", others.0, others.1);
-        script += "dellist 1 1\ndellist 2 1\ndellist 3 1\ndellist 4 1\n";
-        script += "poke 3584 0\n";
+        script += "newblock 1 1 1\nnewblock 2 1 1\nnewblock 3 1 1\nnewblock 4 1 1\n";
+        script += "poke 3591 2\n";
         script += "end 1\nend 2\nend 3\nend 4\n";
-        script += "poke 3584 1\n";
+        script += "poke 3591 1\n";
         if looks {
             script += "conflicts 16\nconflicts 15\nconflicts\n";
         }
@@ -459,6 +479,7 @@ impl Generator<'_> {
             Action::Windows => self.windows(),
             Action::Races => self.races(),
             Action::Lists => self.lists(),
+            Action::Numbers => self.numbers(),
             Action::Flush => self.flush(),
             Action::CutFlush => self.cut_flush(),
             Action::Cut => self.cut(),

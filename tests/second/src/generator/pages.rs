@@ -85,10 +85,12 @@ impl Generator<'_> {
         }
     }
 
-    /// Lists are deleted and taken again, so that they don't stand in the order of their numbers: after mounting the lowest
-    /// free number is the first that is given.
+    /// Lists are deleted and taken again, so that they don't stand in the order of their numbers: that comes once all have been
+    /// used.
     fn retake_lists(&mut self) {
-        for _ in 0..self.random.between(1, 5) {
+        if self.random.chance(50) {
+            self.fill_lists();
+        } else {
             self.new_list(0);
         }
         for _ in 0..self.random.between(1, 3) {

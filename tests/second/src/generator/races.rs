@@ -100,20 +100,15 @@ impl Generator<'_> {
         self.read_in_views(block);
     }
 
-    /// A block is deleted; blocks are put until its number is given again, a few at most. Its race went with it.
+    /// A block is deleted; blocks are put until its number is given again, where few are free. Its race went with it.
     fn put_block_again(&mut self, block: u64) {
-        let Some(list) = self.state(0).and_then(|state| state.list_of(block as u8)) else {
-            return;
-        };
+        self.leave_few_blocks();
         self.run(format_args!("delblock 0 {block}"));
         self.run(format_args!("flush 65535"));
-        self.run(format_args!("mount"));
-        for _ in 0..8 {
-            let made = self.run(format_args!("newblock 0 {list} 0"));
-            if !made.is_accepted() || made.number == Some(block) {
-                break;
-            }
+        if self.random.chance(50) {
+            self.run(format_args!("mount"));
         }
+        self.until_given(block);
         self.read_in_views(block);
         self.run(format_args!("write 0 {block} 07"));
     }

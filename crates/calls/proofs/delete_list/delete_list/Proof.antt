@@ -5,8 +5,8 @@ use Rattle.disk.specs.Record.{recordIn}
 use Rattle.disk.specs.Disk.{diskIn}
 use Rattle.disk.specs.Call.{deleteList}
 use Rattle.disk.specs.Answers.{replyAnswer}
-use Rattle.calls.proofs.Refusing.{edit-unseen, seen-ranges}
-use Rattle.calls.proofs.Adding.{deletes-list}
+use Rattle.calls.proofs.Refusing.{edit-unseen}
+use Rattle.calls.proofs.Adding.{seen-padded, deletes-list}
 use Rattle.calls.proofs.delete_list.delete_list.Tie as tie
 
 look-stream-requires : tie.Need-look-stream-requires
@@ -26,7 +26,7 @@ enum-told : tie.Need-enum-told
 enum-told c = search needs
 
 delete-taken-requires : tie.Need-delete-taken-requires
-delete-taken-requires c κs = seen-ranges (rw (c .before .before .enum-told .given .1) at (c .before .before .before .before .look-stream .ensures))
+delete-taken-requires c κs = seen-padded (rw (c .before .before .enum-told .given .1) at (c .before .before .before .before .look-stream .ensures))
 
 returns-2 : tie.Need-returns-2
 returns-2 c =

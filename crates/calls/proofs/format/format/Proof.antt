@@ -1,9 +1,13 @@
--- Question 1 alone decides, and the stores are the definition's. Assumes nothing.
-use mathlib.Core.Path.{_≡_, refl, sym, _∙_}
+-- Question 1 alone decides, the stores are the definition's, and cleared tables show the empty state. Assumes nothing.
+use mathlib.Core.Path.{_≡_, refl, sym, _∙_, subst}
 use mathlib.Core.Bool.{true, false}
 use mathlib.Core.List.{[]}
 use borrow.Author.Needs.{needs}
 use borrow.Author.Tests.{not-true, not-false}
+use Rattle.lists.specs.Numbers.{allNumbers}
+use Rattle.lists.specs.State.{empty}
+use Rattle.lists.specs.promises.Tables.{Tables, ShowsAll}
+use Rattle.lists.proofs.Emptied.{shows-emptied}
 use Rattle.log.specs.Card.{segmentsIn}
 use Rattle.disk.specs.declared.answer.Refusal.the-variants.{WrongLength}
 use Rattle.disk.specs.declared.answer.Reply.the-variants.{Accepted, Refused}
@@ -24,7 +28,7 @@ unfolding refusal questions destination replyAnswer number
 format-refused d h = usual-performs-refused format d WrongLength tt (ask-no 1 _ [] h)
 
 format-accepted : (d : Disk) → lengthsRight d ≡ true
-    → Performs format d (disk (formatted (segmentsIn (d .card)) (d .card)) (d .queueData) (d .journalData) freshRecord) (replyAnswer Accepted) []
+    → Performs format d (disk (formatted (segmentsIn (d .card)) (d .card)) (d .queueData) (d .journalData) (freshRecord allNumbers)) (replyAnswer Accepted) []
 unfolding refusal questions firstNo ask accepted replyAnswer
 format-accepted d h = performs-accepted format d _ (rw h) refl
 
@@ -40,8 +44,11 @@ returns c = format-refused _ (sym (c .before .lengths-right .ensures (recordIn (
 format-stores-requires : tie.Need-format-stores-requires
 format-stores-requires c κs = search needs
 
-renew-requires : tie.Need-renew-requires
-renew-requires c κs = search needs
+clear-requires : tie.Need-clear-requires
+clear-requires c κs = search needs
+
+renew-from-requires : tie.Need-renew-from-requires
+renew-from-requires c κs = search needs
 
 same-length-2 : tie.Need-same-length-2
 same-length-2 c = search needs
@@ -49,8 +56,11 @@ same-length-2 c = search needs
 returns-2 : tie.Need-returns-2
 unfolding formatted
 returns-2 c =
-    let l = c .before .before .before .before .before .before .before .lengths-right in
-    rw (c .before .before .before .before .format-stores .ensures, c .renew .ensures) (format-accepted _ (sym (l .ensures (recordIn (c .before .before .before .before .before .before .before .before .before .before .before .before .args .rec .now))) ∙ not-false (l .result) (c .before .before .before .before .before .before .if1 .left)))
+    let k = c .before .before .before .clear in
+    let l = c .before .before .before .before .before .before .before .before .before .before .lengths-right in
+    let a = c .before .before .before .before .before .before .before .before .before .before .before .before .before .before .before .args in
+    rw (c .before .before .before .before .before .before .before .format-stores .ensures, c .renew-from .ensures [] allNumbers (subst (λ (t : Tables). ShowsAll t empty) (sym (k .ensures)) shows-emptied))
+    (format-accepted _ (sym (l .ensures (recordIn (a .rec .now))) ∙ not-false (l .result) (c .before .before .before .before .before .before .before .before .before .if1 .left)))
 
 pub format-spec : {M : Type 1} → statement M
 format-spec =
@@ -60,6 +70,7 @@ format-spec =
     same-length
     returns
     format-stores-requires
-    renew-requires
+    clear-requires
+    renew-from-requires
     same-length-2
     returns-2)

@@ -1,7 +1,8 @@
--- The change is added, then the block held and counted as given last. Assumes nothing.
+-- The change is added, then the block held and taken out of the order. Assumes nothing.
 use mathlib.Core.Path.{ap, _∙_}
-use Rattle.disk.specs.Record.{Record, recordIn, withLastBlock}
-use Rattle.calls.proofs.Giving.{puts-full, puts-block}
+use Rattle.disk.specs.Record.{Record, recordIn}
+use Rattle.disk.specs.promises.Listing.{unlisted}
+use Rattle.calls.proofs.Giving.{puts-full, puts-block, padded-given}
 use borrow.Author.Needs.{needs}
 use Rattle.calls.proofs.give.put_block.Statement.{statement}
 use Rattle.calls.proofs.give.put_block.Tie as tie
@@ -21,8 +22,11 @@ enum-told c = search needs
 held-requires : tie.Need-held-requires
 held-requires c κs = search needs
 
-gave-block-requires : tie.Need-gave-block-requires
-gave-block-requires c κs = search needs
+withdraw-requires : tie.Need-withdraw-requires
+withdraw-requires c κs =
+    let o = c .before .before .before .before .before .before .before .before in
+    let y = c .before .before .before .before .before .add in
+    padded-given (o .args .s) _ _ (recordIn (o .args .rec .now)) (recordIn (y .last .0)) _ (rw (c .before .before .before .enum-told .given .1) at (y .ensures)) (c .before .held .ensures) (o .pre .4)
 
 returns : tie.Need-returns
 returns c =
@@ -33,7 +37,7 @@ returns-2 : tie.Need-returns-2
 returns-2 c =
     let x = c .before .before .before .before .before .before .before .before .before .args in
     puts-block (x .s) (x .l) (x .p) (x .b) (recordIn (x .rec .now)) (recordIn (c .before .before .before .before .before .before .add .last .0)) _ (rw (c .before .before .before .before .enum-told .given .1, c .before .before .before .before .before .before .before .entry-of .ensures) at (c .before .before .before .before .before .before .add .ensures))
-    (c .gave-block .ensures ∙ ap (λ (r : Record). withLastBlock r (x .b)) (c .before .before .held .ensures))
+    (c .withdraw .ensures ∙ ap (λ (r : Record). unlisted (x .b) r) (c .before .before .held .ensures))
 
 pub put-block-spec : {M : Type 1} → statement M
 put-block-spec =
@@ -44,6 +48,6 @@ put-block-spec =
     enum-known-x
     enum-told
     held-requires
-    gave-block-requires
+    withdraw-requires
     returns
     returns-2)

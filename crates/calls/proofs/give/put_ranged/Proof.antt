@@ -27,7 +27,7 @@ put-on-requires : tie.Need-put-on-requires
 put-on-requires c κs =
     let p = c .before .before .before .pre in
     let (l, q) = position-range (c .before .before .before .args .l) (c .before .before .before .args .p) (sym (c .before .before .is-position .ensures) ∙ not-false (c .before .before .is-position .result) (c .before .if1 .left)) in
-    (p .0, p .1, l, q, p .2)
+    (p .0, p .1, l, q, p .2, p .3)
 
 returns-2 : tie.Need-returns-2
 returns-2 c rs sh =

@@ -1,4 +1,4 @@
--- Questions 1 and 2 are those of the log's mounting. Assumes nothing.
+-- Questions 1 and 2 are those of the log's mounting, and the tables show the free numbers of the state mounted. Assumes nothing.
 use mathlib.Core.Path.{_≡_, sym, ap, _∙_}
 use mathlib.Core.Bool.{Bool, true, false, _&&_, and-false}
 use mathlib.Core.List.{[]}
@@ -10,10 +10,11 @@ use borrow.Author.Tests.{not-true, not-false}
 use Rattle.lists.specs.Basic.{isSome}
 use Rattle.log.specs.Reader.{Reader}
 use Rattle.log.specs.Card.{Written, cardLength, sound, fault, mounted}
+use Rattle.log.proofs.Mounting.{mounted-shown}
 use Rattle.disk.specs.declared.answer.Refusal.the-variants.{WrongLength}
 use Rattle.disk.specs.declared.answer.MountReply.the-variants.{Accepted, Fault, Refused}
 use Rattle.disk.specs.Record.{freshRecord}
-use Rattle.disk.specs.Disk.{Disk, withRecord, readerOf}
+use Rattle.disk.specs.Disk.{Disk, withRecord, readerOf, stateOf, persistent}
 use Rattle.disk.specs.Sound.{lengthsRight}
 use Rattle.disk.specs.Call.{mount, ends, destination}
 use Rattle.disk.specs.Questions.{mountable, questions, refusal, firstNo, ask}
@@ -37,9 +38,9 @@ unfolding refusal questions firstNo ask mountable readerOf isSome refused ends r
 mount-fault d g i h m = perform-refused mount d 1 (rw (h, m)) ∙ rw m
 
 mount-accepted : (d : Disk) (r : Reader Written) → lengthsRight d ≡ true → mounted (d .card) ≡ sound r
-    → Performs mount d (withRecord d freshRecord) (mountAnswer Accepted) []
-unfolding refusal questions firstNo ask mountable readerOf isSome accepted mountAnswer
-mount-accepted d r h m = perform-accepted mount d (rw (h, m))
+    → Performs mount d (withRecord d (freshRecord (r .state .free))) (mountAnswer Accepted) []
+unfolding refusal questions firstNo ask mountable readerOf isSome persistent stateOf accepted mountAnswer
+mount-accepted d r h m = perform-accepted mount d (rw (h, m)) ∙ rw m
 
 -- the three lengths, of which the card's is asked last
 lengths-data : (d : Disk) → DataRight d ≡ false → lengthsRight d ≡ false
@@ -60,8 +61,8 @@ data-right-requires c κs = search needs
 returns : tie.Need-returns
 returns c = mount-refused _ (lengths-data _ (sym (c .before .data-right .ensures) ∙ not-true (c .before .data-right .result) (c .if1 .taken)))
 
-mount-requires : tie.Need-mount-requires
-mount-requires c κs = search needs
+mount-on-requires : tie.Need-mount-on-requires
+mount-on-requires c κs = search needs
 
 enum-told : tie.Need-enum-told
 enum-told c = search needs
@@ -72,23 +73,26 @@ enum-known-segment c = search needs
 enum-told-2 : tie.Need-enum-told-2
 enum-told-2 c = search needs
 
-renew-requires : tie.Need-renew-requires
-renew-requires c κs = search needs
+renew-from-requires : tie.Need-renew-from-requires
+renew-from-requires c κs = search needs
 
 returns-2 : tie.Need-returns-2
-returns-2 c = mount-refused _ (lengths-card _ (rw (c .enum-told .given .1) at (c .before .before .mount .ensures)))
+returns-2 c = mount-refused _ (lengths-card _ (rw (c .enum-told .given .1) at (c .before .before .mount-on .ensures)))
 
 returns-3 : tie.Need-returns-3
 returns-3 c =
-    let l = c .before .before .before .before .before .data-right in
-    let w = rw (c .before .segment .given .1) at (c .before .before .before .mount .ensures) in
-    mount-fault _ _ _ (lengths-all _ (sym (l .ensures) ∙ not-false (l .result) (c .before .before .before .before .if1 .left)) (w .0)) (w .1)
+    let l = c .before .before .before .before .before .before .data-right in
+    let w = rw (c .before .segment .given .1) at (c .before .before .before .mount-on .ensures) in
+    mount-fault _ _ _ (lengths-all _ (sym (l .ensures) ∙ not-false (l .result) (c .before .before .before .before .before .if1 .left)) (w .0)) (w .1)
 
 returns-4 : tie.Need-returns-4
 returns-4 c =
-    let l = c .before .before .before .before .before .before .data-right in
-    let w = rw (c .before .before .enum-told2 .given .1) at (c .before .before .before .before .mount .ensures) in
-    rw (c .renew .ensures) (mount-accepted _ (w .reader) (lengths-all _ (sym (l .ensures) ∙ not-false (l .result) (c .before .before .before .before .before .if1 .left)) (w .right)) (w .walked))
+    let l = c .before .before .before .before .before .before .before .before .data-right in
+    let w = rw (c .before .before .before .enum-told2 .given .1) at (c .before .before .before .before .before .mount-on .ensures) in
+    let r = w .accepts .reader in
+    let (rs, s) = mounted-shown _ _ _ r w (w .accepts .walked) in
+    rw (c .renew-from .ensures rs (r .state .free) s)
+    (mount-accepted _ r (lengths-all _ (sym (l .ensures) ∙ not-false (l .result) (c .before .before .before .before .before .before .before .if1 .left)) (w .accepts .right)) (w .accepts .walked))
 
 pub mount-spec : {M : Type 1} → statement M
 mount-spec =
@@ -96,11 +100,11 @@ mount-spec =
     (tie.spec
     data-right-requires
     returns
-    mount-requires
+    mount-on-requires
     enum-told
     enum-known-segment
     enum-told-2
-    renew-requires
+    renew-from-requires
     returns-2
     returns-3
     returns-4)

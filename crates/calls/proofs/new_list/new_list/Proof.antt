@@ -1,5 +1,4 @@
 -- Questions 1, 3 and 4 are those of `enter`; behind them the tables show the committed state. Assumes nothing.
-use Rattle.lists.proofs.Lookup.{lists-shown}
 use Rattle.disk.specs.Record.{recordIn}
 use Rattle.disk.specs.Disk.{diskIn}
 use Rattle.disk.specs.Call.{newList}
@@ -29,16 +28,16 @@ enum-told c = search needs
 
 take-list-requires : tie.Need-take-list-requires
 take-list-requires c κs =
-    let a = c .before .before .before .before .before .before .before .before .before .before .args in
+    let a = c .before .before .before .before .before .before .before .before .before .args in
     let d = diskIn (a .card .now) (a .queue-data .now) (a .journal-data .now) (a .rec .now) in
-    stands-take (a .stream) d _ (rw (c .before .before .enum-told .given .1) at (c .before .before .before .before .enter .ensures))
+    stands-take (a .stream) d _ (rw (c .before .enum-told .given .1) at (c .before .before .before .enter .ensures))
 
 returns-2 : tie.Need-returns-2
 returns-2 c =
-    let a = c .before .before .before .before .before .before .before .before .before .before .before .args in
+    let a = c .before .before .before .before .before .before .before .before .before .before .args in
     let d = diskIn (a .card .now) (a .queue-data .now) (a .journal-data .now) (a .rec .now) in
-    let k = rw (c .before .before .before .enum-told .given .1) at (c .before .before .before .before .before .enter .ensures) in
-    takes-performs (a .stream) d _ k (c .take-list .result) (recordIn (c .take-list .last .1 .0)) (c .take-list .ensures (k .located .here .lists) (lists-shown _ (k .located .here) (k .located .shows)))
+    let k = rw (c .before .before .enum-told .given .1) at (c .before .before .before .before .enter .ensures) in
+    takes-performs (a .stream) d _ k (c .take-list .result) (recordIn (c .take-list .last .0)) (c .take-list .ensures)
 
 pub new-list-spec : {M : Type 1} → statement M
 new-list-spec =

@@ -13,6 +13,7 @@ use Rattle.log.specs.Entry.{isBlock, isRace}
 use Rattle.disk.specs.Record.{recordIn}
 use Rattle.disk.specs.declared.answer.Refusal.the-variants.{OutOfRange, BlockNotPlaced}
 use Rattle.disk.specs.Answers.{number}
+use Rattle.calls.specs.promises.Adds.{added}
 use Rattle.calls.proofs.Adding.{first-no, second-no, both-yes}
 use Rattle.calls.proofs.Writing.{write-range}
 use Rattle.calls.proofs.write.write_placed.Tie as tie
@@ -35,7 +36,7 @@ returns c = λ rs h.
     let q = c .before in
     let a = q .before .before .before .before .args in
     let r = rw (q .before .both .ensures, q .before .before .is-race .ensures, q .before .before .before .is-block .ensures) at (q .both2 .ensures) in
-    first-no 5 8 (isBlock (a .b) && isRace (a .race) && eqb (a .n) 256) (placed (a .b) rs) (a .s) (Write (a .b) 0 (a .race)) (recordIn (a .rec .now)) OutOfRange refl (sym r ∙ not-true (q .both2 .result) (c .if1 .taken))
+    first-no 5 8 (isBlock (a .b) && isRace (a .race) && eqb (a .n) 256) (placed (a .b) rs) (a .s) (recordIn (a .rec .now)) OutOfRange refl (sym r ∙ not-true (q .both2 .result) (c .if1 .taken))
 
 cast-block : tie.Need-cast-block
 cast-block c =
@@ -62,7 +63,7 @@ returns-2 c = λ rs h.
     let a = q .before .before .before .before .args in
     let r = rw (q .before .both .ensures, q .before .before .is-race .ensures, q .before .before .before .is-block .ensures) at (q .both2 .ensures) in
     let w = sym r ∙ not-false (q .both2 .result) (i .if1 .left) in
-    second-no 5 8 (isBlock (a .b) && isRace (a .race) && eqb (a .n) 256) (placed (a .b) rs) (a .s) (Write (a .b) 0 (a .race)) (recordIn (a .rec .now)) BlockNotPlaced refl w
+    second-no 5 8 (isBlock (a .b) && isRace (a .race) && eqb (a .n) 256) (placed (a .b) rs) (a .s) (recordIn (a .rec .now)) BlockNotPlaced refl w
     (sym (placed-said (c .before .is-placed .ensures) rs h (write-range (a .b) (a .race) (a .n) w .0)) ∙ not-true (c .before .is-placed .result) (c .if2 .taken))
 
 add-requires : tie.Need-add-requires
@@ -76,7 +77,7 @@ returns-3 c = λ rs h.
     let a = q .before .before .before .before .args in
     let r = rw (q .before .both .ensures, q .before .before .is-race .ensures, q .before .before .before .is-block .ensures) at (q .both2 .ensures) in
     let w = sym r ∙ not-false (q .both2 .result) (i .if1 .left) in
-    both-yes 5 8 (isBlock (a .b) && isRace (a .race) && eqb (a .n) 256) (placed (a .b) rs) (a .s) (Write (a .b) 0 (a .race)) (recordIn (a .rec .now)) (c .add .result) (recordIn (c .add .last .0)) w
+    both-yes 5 8 (isBlock (a .b) && isRace (a .race) && eqb (a .n) 256) (placed (a .b) rs) (a .s) (recordIn (a .rec .now)) (added (a .s) (Write (a .b) 0 (a .race)) (recordIn (a .rec .now))) (c .add .result) (recordIn (c .add .last .0)) w
     (sym (placed-said (p .is-placed .ensures) rs h (write-range (a .b) (a .race) (a .n) w .0)) ∙ not-false (p .is-placed .result) (c .before .before .if2 .left))
     (c .add .ensures)
 

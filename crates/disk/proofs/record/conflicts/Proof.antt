@@ -33,7 +33,7 @@ returns : tie.Need-returns
 unfolding recordIn
 returns c =
     let a = c .before .before .before .args in
-    c .of-bytes .ensures ∙ sym (pair-read (a .rec .now) 462 16 (a .w - 1) (omega arith))
+    c .of-bytes .ensures ∙ sym (pair-read (a .rec .now) 461 16 (a .w - 1) (omega arith))
 
 pub conflicts-spec : {M : Type 1} → statement M
 conflicts-spec =

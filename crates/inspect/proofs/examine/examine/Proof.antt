@@ -50,8 +50,8 @@ examine-log-requires c κs =
     let ls = sym (c .before .before .before .before .before .before .lengths-right .ensures (recordIn (s .rec .now))) ∙ not-false _ (c .before .before .before .before .before .if1 .left) in
     let ns = sym (c .before .before .before .before .numbers-right .ensures) ∙ not-false _ (c .before .before .before .if2 .left) in
     let (a, b) = lengths-asked d ls in
-    let (k, h) = numbers-asked (recordIn (s .rec .now)) ns in
-    (a, b, k, h)
+    let (k, h, o) = numbers-asked (recordIn (s .rec .now)) ns in
+    (a, b, k, h, o)
 
 returns-4 : tie.Need-returns-4
 returns-4 c =

@@ -33,7 +33,7 @@ settle-apart-requires c κs =
     let m = memory (w .last .1 .0) (w .last .1 .1 .0) in
     let e = rw (g .1) at (w .ensures) in
     let (i, k) = place-asked (s .card .now) (g .0 .0) (g .0 .1 .0) m (z .pre .0) e in
-    (z .pre .0, z .pre .1, z .pre .2, z .pre .3, e .place, i, k, e .short)
+    (z .pre .0, z .pre .1, z .pre .2, z .pre .3, z .pre .4, e .place, i, k, e .short)
 
 returns-2 : tie.Need-returns-2
 returns-2 c =
@@ -64,7 +64,7 @@ settle-requires c κs =
     let m = memory (w .last .1 .0) (w .last .1 .1 .0) in
     let e = rw (g .1) at (w .ensures) in
     let (i, k) = place-asked (s .card .now) (g .0 .0) (g .0 .1 .0) m (z .pre .0) e in
-    (z .pre .0, z .pre .1, z .pre .2, z .pre .3, e .place, i, k, e .short)
+    (z .pre .0, z .pre .1, z .pre .2, z .pre .3, z .pre .4, e .place, i, k, e .short)
 
 returns-4 : tie.Need-returns-4
 returns-4 c =

@@ -1,4 +1,4 @@
--- The four tests are the definition's. Assumes nothing.
+-- The three tests are the definition's. Assumes nothing.
 use Rattle.disk.specs.Record.{recordIn}
 use Rattle.inspect.proofs.Judging.{numbers-all}
 use borrow.Author.Needs.{needs}
@@ -14,45 +14,18 @@ head-requires c κs = search needs
 both-requires : tie.Need-both-requires
 both-requires c κs = search needs
 
-last-block-requires : tie.Need-last-block-requires
-last-block-requires c κs = search needs
-
-is-block-requires : tie.Need-is-block-requires
-is-block-requires c κs = search needs
-
-last-list-requires : tie.Need-last-list-requires
-last-list-requires c κs = search needs
-
-is-list-requires : tie.Need-is-list-requires
-is-list-requires c κs = search needs
+order-right-requires : tie.Need-order-right-requires
+order-right-requires c κs = search needs
 
 both-requires-2 : tie.Need-both-requires-2
 both-requires-2 c κs = search needs
 
-both-requires-3 : tie.Need-both-requires-3
-both-requires-3 c κs = search needs
-
 returns : tie.Need-returns
 returns c =
-    let k = c .before in
-    let b = k .before .before .before in
-    let h = b .before .before .before in
-    rw (c .both3 .ensures, b .before .before .both .ensures, k .both2 .ensures)
-    (rw (b .is-block .ensures, k .before .is-list .ensures, h .before .len .ensures, h .head .ensures)
-    (rw (b .before .last-block .ensures, k .before .before .last-list .ensures)
-    (numbers-all (recordIn (h .before .before .args .rec .now)))))
+    let b = c .before .before in
+    let h = b .before in
+    rw (c .both2 .ensures, b .both .ensures, c .before .order-right .ensures, h .head .ensures, h .before .len .ensures)
+    (numbers-all (recordIn (h .before .before .args .rec .now)))
 
 pub numbers-right-spec : {M : Type 1} → statement M
-numbers-right-spec =
-    tie.close
-    (tie.spec
-    len-requires
-    head-requires
-    both-requires
-    last-block-requires
-    is-block-requires
-    last-list-requires
-    is-list-requires
-    both-requires-2
-    both-requires-3
-    returns)
+numbers-right-spec = tie.close (tie.spec len-requires head-requires both-requires order-right-requires both-requires-2 returns)

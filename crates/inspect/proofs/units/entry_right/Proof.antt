@@ -4,7 +4,8 @@ use borrow.Author.Tests.{not-true, not-false}
 use Rattle.lists.specs.InUse.{listNumber}
 use Rattle.log.specs.Entry.{asChange}
 use Rattle.disk.specs.Record.{recordIn}
-use Rattle.inspect.proofs.Judging.{take-range, change-wrong, change-brings, change-brings-none}
+use Rattle.disk.proofs.Relisting.{take-range}
+use Rattle.inspect.proofs.Judging.{change-wrong, change-brings, change-brings-none}
 use borrow.Author.Needs.{needs}
 use Rattle.inspect.proofs.units.entry_right.Statement.{statement}
 use Rattle.inspect.proofs.units.entry_right.Tie as tie
