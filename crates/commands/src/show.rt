@@ -1,13 +1,13 @@
 // A view, shown by the look-ups.
 use disk::answer::NumberReply;
 use disk::answer::ReadReply;
+use disk::answer::number_of;
 use disk::record::RECORD;
 use log::entry::LogEntry;
 use script::lines::put_block;
 use script::lines::put_list;
 use script::lines::put_number;
 use script::lines::put_unwritten;
-use script::replies::number_of;
 use text::line::part;
 ghost use mathlib.Core.Path.{_≡_};
 ghost use lib.ListN.{length};

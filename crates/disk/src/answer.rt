@@ -1,4 +1,6 @@
 // What the calls answer. The definition `Answers` gives the number and the values of each case.
+ghost use mathlib.Core.Path.{_≡_};
+ghost use Rattle.disk.specs.Answers.{number};
 
 // The questions, as what a no to each means.
 pub enum Refusal {
@@ -50,4 +52,27 @@ pub enum FlushReply {
     Full(usize),
     Spent(usize),
     Refused(Refusal),
+}
+
+// The question's number.
+pub fn number_of(x: Refusal) -> u64
+    ensures { λ r. ⌜ r ≡ number x ⌝ }
+{
+    match x {
+        Refusal::WrongLength => 1,
+        Refusal::LogFault => 2,
+        Refusal::RecordUnsound => 3,
+        Refusal::StreamClosed => 4,
+        Refusal::OutOfRange => 5,
+        Refusal::UnitOpen => 6,
+        Refusal::ListNotTaken => 7,
+        Refusal::BlockNotPlaced => 8,
+        Refusal::PredecessorElsewhere => 9,
+        Refusal::NoNumberFree => 10,
+        Refusal::JournalFull => 11,
+        Refusal::Conflict => 12,
+        Refusal::QueueFull => 13,
+        Refusal::BufferTooShort => 14,
+        Refusal::Unwritten => 15,
+    }
 }

@@ -9,15 +9,15 @@ use disk::answer::FlushReply;
 use disk::answer::MountReply;
 use disk::answer::NumberReply;
 use disk::answer::ReadReply;
-use disk::answer::Refusal;
 use disk::answer::Reply;
+use disk::answer::number_of;
 use text::decimal::put_decimal;
 use text::line::part;
 use text::put::put_byte;
 use text::put::put_bytes;
 ghost use mathlib.Core.Path.{_≡_};
 ghost use Rattle.text.specs.Written.{Puts};
-ghost use Rattle.disk.specs.Answers.{number, replyAnswer, numberAnswer, readAnswer, mountAnswer, flushAnswer};
+ghost use Rattle.disk.specs.Answers.{replyAnswer, numberAnswer, readAnswer, mountAnswer, flushAnswer};
 ghost use Rattle.script.specs.Lines.{answerLine, numberedLine, mountLine, flushLine, endedLine, readLine, contentLine, inventoryLine, countedLine, lengthAndText, pageReply};
 
 // `A`
@@ -127,27 +127,4 @@ fn put_text(out: &mut [u8], at: usize, n: u64, text: &[u8]) -> usize
 {
     let position = put_pair(out, at, 0, n);
     put_bytes(out, position, text)
-}
-
-// The question's number.
-pub fn number_of(x: Refusal) -> u64
-    ensures { λ r. ⌜ r ≡ number x ⌝ }
-{
-    match x {
-        Refusal::WrongLength => 1,
-        Refusal::LogFault => 2,
-        Refusal::RecordUnsound => 3,
-        Refusal::StreamClosed => 4,
-        Refusal::OutOfRange => 5,
-        Refusal::UnitOpen => 6,
-        Refusal::ListNotTaken => 7,
-        Refusal::BlockNotPlaced => 8,
-        Refusal::PredecessorElsewhere => 9,
-        Refusal::NoNumberFree => 10,
-        Refusal::JournalFull => 11,
-        Refusal::Conflict => 12,
-        Refusal::QueueFull => 13,
-        Refusal::BufferTooShort => 14,
-        Refusal::Unwritten => 15,
-    }
 }
