@@ -74,7 +74,7 @@ extern "C" {
 }
 
 /// What is written.
-const CONTENT: [u8; BLOCK_BYTES] = [165; BLOCK_BYTES];
+pub const CONTENT: [u8; BLOCK_BYTES] = [165; BLOCK_BYTES];
 
 /// A call, with the record that it is repeated from.
 #[derive(Clone, Copy, PartialEq, Eq)]
@@ -121,11 +121,12 @@ impl Call {
 /// What the calls are lent, but for the record.
 #[derive(Clone, PartialEq, Eq)]
 pub struct Disk {
-    card: Vec<u8>,
-    queue_data: Vec<u8>,
-    journal_data: Vec<u8>,
-    destination: Vec<u8>,
-    tail: usize,
+    pub card: Vec<u8>,
+    pub queue_data: Vec<u8>,
+    pub journal_data: Vec<u8>,
+    pub destination: Vec<u8>,
+    /// Where the count byte of the last segment in use stands.
+    pub tail: usize,
 }
 
 impl Disk {
@@ -252,14 +253,19 @@ pub extern "Rust" fn second_calls(call: Call, disk: &mut Disk, times: usize) -> 
     accepted.count() as u64
 }
 
-/// Both must accept every call, and leave the same bytes everywhere.
-pub fn check() {
+/// A way of making a call so many times; how many are accepted.
+pub type Way = fn(Call, &mut Disk, usize) -> u64;
+
+/// Both ways must accept every call, and leave the same bytes everywhere.
+pub fn check(calls: &[Call], ways: [Way; 2]) {
     for is_full in [false, true] {
-        for call in Call::ALL {
-            let (mut one, mut other) = (Disk::new(is_full), Disk::new(is_full));
-            assert_eq!(proved(call, &mut one, 3), 3, "proved, {}", call.name());
-            assert_eq!(second_calls(call, &mut other, 3), 3, "second, {}", call.name());
-            assert!(one == other, "{}: the bytes differ", call.name());
+        for &call in calls {
+            let disks = ways.map(|way| {
+                let mut disk = Disk::new(is_full);
+                assert_eq!(way(call, &mut disk, 3), 3, "{}", call.name());
+                disk
+            });
+            assert!(disks[0] == disks[1], "{}: the bytes differ", call.name());
         }
     }
 }
@@ -275,17 +281,18 @@ pub fn card_name(is_full: bool) -> &'static str {
     }
 }
 
-/// Prints the best times. A batch is timed with one call and with many: the difference is free of the set-up.
-pub fn times() {
-    check();
-    let configurations = Call::ALL.into_iter().flat_map(|call| [(call, false), (call, true)]);
+/// The best times of each call in two ways, in ns, on a card that is full or not. A batch is timed with one call and
+/// with many: the difference is free of the set-up.
+pub fn best_times(calls: &[Call], ways: [Way; 2]) -> Vec<(Call, bool, [f64; 2])> {
+    check(calls, ways);
+    let configurations = calls.iter().flat_map(|&call| [(call, false), (call, true)]);
     let mut disks: Vec<(Call, bool, Disk)> = configurations
         .map(|(call, is_full)| (call, is_full, Disk::new(is_full)))
         .collect();
     let mut best = vec![[[f64::INFINITY; 2]; 2]; disks.len()];
     for _ in 0..ROUNDS {
         for ((call, is_full, disk), best) in disks.iter_mut().zip(&mut best) {
-            for (way, best) in [proved, second_calls].into_iter().zip(best) {
+            for (way, best) in ways.into_iter().zip(best) {
                 for (times, best) in [1, 1 + many(*is_full)].into_iter().zip(best) {
                     let begun = Instant::now();
                     way(*call, disk, times);
@@ -294,14 +301,22 @@ pub fn times() {
             }
         }
     }
+    let times = |is_full, best: [[f64; 2]; 2]| best.map(|[one, all]| (all - one) / many(is_full) as f64);
+    let measured = disks.into_iter().zip(best);
+    measured
+        .map(|((call, is_full, _), best)| (call, is_full, times(is_full, best)))
+        .collect()
+}
+
+/// Prints the times of all calls, proved and by the second implementation.
+pub fn times() {
     println!("| call | card | proved, ns | second, ns | proved / second |");
     println!("|---|---|---|---|---|");
-    for ((call, is_full, _), best) in disks.iter().zip(best) {
-        let [proved, second] = best.map(|[one, all]| (all - one) / many(*is_full) as f64);
+    for (call, is_full, [proved, second]) in best_times(&Call::ALL, [proved, second_calls]) {
         println!(
             "| {} | {} | {proved:.0} | {second:.0} | {:.2} |",
             call.name(),
-            card_name(*is_full),
+            card_name(is_full),
             proved / second
         );
     }

@@ -1,13 +1,16 @@
 //! Times three ways over the summaries of full cards: the proved walk, the walk of the second implementation, and a
-//! plain sum of the bytes that both read. Times the calls, proved and of the second implementation.
+//! plain sum of the bytes that both read. Times the calls, proved and of the second implementation, and over the border
+//! to C.
 //!
 //! `bench` prints the times. `bench --once WAY KIND SEGMENTS` goes one way once, for a tool that counts its
 //! instructions, and prints the number of entries; `bench --long WAY kept|deleted` goes over a card with a list of all
 //! blocks, which its last entry deletes or not. `bench --calls WAY CALL CARD TIMES` repeats a call.
 
+mod border;
 mod calls;
 mod cards;
 
+use border::border_calls;
 use calls::{card_name, proved, second_calls, Call, Disk};
 use cards::{full, long, Card, Kind};
 use second::limits::BLOCKS;
@@ -200,6 +203,7 @@ fn repeat(way: &str, call: &str, card: &str, times: &str) -> Option<()> {
     match way {
         "proved" => proved(call, &mut disk, times),
         "second" => second_calls(call, &mut disk, times),
+        "border" => border_calls(call, &mut disk, times),
         _ => return None,
     };
     Some(())
@@ -215,12 +219,14 @@ fn main() {
             deletion_times();
             println!();
             calls::times();
+            println!();
+            border::times();
         }
         ["--once", way, kind, size] if once(way, kind, size).is_some() => (),
         ["--long", way, end] if once_long(way, end).is_some() => (),
         ["--calls", way, call, card, times] if repeat(way, call, card, times).is_some() => (),
         _ => {
-            eprintln!("bench [--calls proved|second CALL CARD TIMES]");
+            eprintln!("bench [--calls proved|second|border CALL CARD TIMES]");
             eprintln!("bench [--long proved|second kept|deleted]");
             eprintln!("bench [--once proved|second|sum lists|blocks|chains|long|writes|races|units SEGMENTS]");
             std::process::exit(2);

@@ -1,0 +1,4 @@
+pub mod Making
+pub mod Listing
+pub mod Queueing
+pub mod Few
