@@ -34,7 +34,7 @@ use Rattle.disk.specs.Perform.{reply, accepted, change, relisted, freed, noted,
 use Rattle.disk.specs.Answers.{number, replyAnswer}
 use Rattle.disk.proofs.Changes.{Makes, edit-makes}
 use Rattle.disk.proofs.Clauses.{Right, OrderRight, committed-is, right, order-right}
-use Rattle.disk.proofs.KeepsOrder.{made-order}
+use Rattle.disk.proofs.ChangeOrder.{made-order}
 use Rattle.disk.proofs.Listing.{padded-places, pushed-all}
 use Rattle.calls.specs.Performs.{Performs}
 use Rattle.inspect.specs.promises.Located.{contents}

@@ -1,27 +1,29 @@
 -- The record that a unit's end leaves, number by number as the functions make it, is the one that the definition has: each step of a sound record has room,
 -- and contents do not matter.
 use mathlib.Core.Path.{_≡_, refl, sym, ap, _∙_, subst}
-use mathlib.Core.Bool.{Bool, _&&_, not, cond}
+use mathlib.Core.Bool.{Bool, _&&_, not}
 use mathlib.Core.Option.{some, Option·map}
 use mathlib.Core.List.{List, [], _∷_, _++_, map}
 use Prim.Native.Nat.{ℕ, _-_, _≤_}
 use native.Mathlib.Omega.{arith}
-use lib.Dec.{leb, eqb}
+use lib.Dec.{eqb}
 use lib.ListN.{length, take, length-append}
-use Rattle.lists.specs.Basic.{keep, times}
+use Rattle.lists.specs.Basic.{times}
 use Rattle.lists.specs.Change.{Change, takeList, putFirst, putAfter, write, delBlock, delList, mapChange}
 use Rattle.lists.specs.State.{Row, State, state, changed, frees, freeAfter, applyAll, overlay, mapRow, mapState}
 use Rattle.lists.specs.InUse.{inUse, brings}
 use Rattle.lists.specs.Numbers.{allNumbers}
+use Rattle.lists.proofs.Times.{keep-alike}
 use Rattle.lists.proofs.Naturality.{taken-map, placed-map, changed-map, freeAfter-map, applyAll-map}
 use Rattle.log.specs.Card.{Written}
-use Rattle.disk.specs.Record.{Record, Tally, holderOf, listedIn, padded, withListed, unitTurned, releasing}
+use Rattle.disk.specs.Record.{Record, Tally, holderOf, listedIn, withListed, unitTurned, releasing}
 use Rattle.disk.specs.Disk.{Disk, journalOf, committed, listing}
 use Rattle.disk.specs.Perform.{relisted, givenUp, closing}
 use Rattle.disk.specs.promises.Listing.{Padded, pushedAll, relistedBy, relistedAll}
 use Rattle.disk.proofs.Clauses.{Right, OrderRight, committed-is}
-use Rattle.disk.proofs.Listing.{padded-places, listed-with, with-again, with-same, padded-with, pushed-all}
-use Rattle.disk.proofs.KeepsOrder.{reader-reached, all-good-numbered, held, to-listed, ended-lists, ended-order, dropped-order}
+use Rattle.disk.proofs.Listing.{padded-places, padded-same, listed-with, with-again, with-same, padded-with, pushed-all}
+use Rattle.disk.proofs.ListedOnce.{reader-reached, held, to-listed}
+use Rattle.disk.proofs.ClosingOrder.{all-good-numbered, ended-lists, ended-order, dropped-order}
 use Rattle.disk.proofs.Relisting.{relisted-all}
 use Rattle.calls.specs.promises.Ending.{closedOver}
 
@@ -56,14 +58,10 @@ module _ {D E : Type 0} (h : D → E) where
   unfolding inUse
   used-map n rs = rw (taken-map h (n - 64) rs, placed-map h n rs)
 
-keep-ext : (p q : ℕ → Bool) (xs : List ℕ) → ((n : ℕ) → p n ≡ q n) → keep p xs ≡ keep q xs
-keep-ext p q [] e = refl
-keep-ext p q (x ∷ xs) e = λ i. cond (e x i) (x ∷ keep-ext p q xs e i) (keep-ext p q xs e i)
-
 pub given-up-map : {D E : Type 0} (h : D → E) (u : ℕ) (rs : List (Row D)) (fs : List ℕ) (r : Record) → givenUp u (state (map (mapRow h) rs) fs) r ≡ givenUp u (state rs fs) r
 unfolding givenUp
 given-up-map h u rs fs r =
-    keep-ext _ _ allNumbers (λ n. ap (λ (b : Bool). eqb (holderOf r n) u && not b && eqb (times n fs) 0) (used-map h n rs))
+    keep-alike _ _ allNumbers (λ n k. ap (λ (b : Bool). eqb (holderOf r n) u && not b && eqb (times n fs) 0) (used-map h n rs))
 
 -- A record with as much room as the definition's.
 module _ {D : Type 0} (u : ℕ) (rs : List (Row D)) (os : List ℕ) (r : Record) (p : Padded (withListed os r)) (l : length (os ++ givenUp u (state rs os) r) ≤ 80) where
@@ -129,19 +127,14 @@ module _ (u : ℕ) (d : Disk) (k : Right d) (o : OrderRight d (k .reader .state)
     unfolding listedIn
     listed-same = ap (λ (t : Tally). take (t .listed) (t .order)) ts
 
-    padded-x : Padded (x .rec)
-    unfolding listedIn
-    padded-x =
-        let (b, c) = subst (λ (t : Tally). (t .listed ≤ 80) × (t .order ≡ padded (take (t .listed) (t .order)))) (sym ts) (o .many, o .behind) in
-        record { many = b; behind = c }
-
     followed : relistedAll cs (here .lists) (x .rec) ≡ withListed (end .free) (x .rec)
     unfolding listing
     followed =
         sym (relistedAll-map h cs (here .lists) (x .rec))
         ∙ ap (λ (es : List (Change Written)). relistedAll es (mapState h here .lists) (x .rec)) j
         ∙ ap (λ (s : State Written). relistedAll (journalOf d u) (s .lists) (x .rec)) (sym m ∙ committed-is d (k .reader) (k .log .replays))
-        ∙ relisted-all (journalOf d u) (k .reader .state) (mapState h v) (x .rec) (all-good-numbered (journalOf d u) (d .rec) u (k .units .units u p q .sound)) (reader-reached d k) acts padded-x
+        ∙ relisted-all (journalOf d u) (k .reader .state) (mapState h v) (x .rec) (all-good-numbered (journalOf d u) (d .rec) u (k .units .units u p q .sound)) (reader-reached d k) acts
+        (padded-same (d .rec) (x .rec) ts padded-here)
         (rw listed-same (o .range)) (λ n b c. rw listed-same (held d n, to-listed d (k .reader .state) (k .units) o n b c))
         ∙ ap (λ (fs : List ℕ). withListed (overlay (journalOf d u) (state (k .reader .state .lists) fs) .free) (x .rec)) listed-same
         ∙ ap (λ (s : State Written). withListed (overlay (journalOf d u) (state (s .lists) (listedIn (d .rec))) .free) (x .rec)) (sym (committed-is d (k .reader) (k .log .replays)))

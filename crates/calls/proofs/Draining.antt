@@ -70,23 +70,23 @@ module _ (c q : List ℕ) (r : Record) where
   unfoldable pub rest : ℕ → List (Entry Written)
   rest i = from (queuedAt (disk c q [] r)) i (r .ring .len - i)
 
-  entry-here : (i : ℕ) → queuedAt (disk c q [] r) i ≡ entryHere q r i
+  pub entry-here : (i : ℕ) → queuedAt (disk c q [] r) i ≡ entryHere q r i
   unfolding queuedAt slot
   entry-here i = let e : 256 * ringPlace r i + 256 - 256 * ringPlace r i ≡ 256 = omega arith in rw e
 
-  rest-step : (i : ℕ) → i < r .ring .len → rest i ≡ entryHere q r i ∷ rest (i + 1)
+  pub rest-step : (i : ℕ) → i < r .ring .len → rest i ≡ entryHere q r i ∷ rest (i + 1)
   unfolding rest
   rest-step i l = from-step (queuedAt (disk c q [] r)) i (r .ring .len) l ∙ rw (entry-here i)
 
-  rest-none : r .ring .len ≤ 0 → rest 0 ≡ []
+  pub rest-none : (i : ℕ) → r .ring .len ≤ i → rest i ≡ []
   unfolding rest
-  rest-none l = from-none (queuedAt (disk c q [] r)) 0 (r .ring .len) l
+  rest-none i l = from-none (queuedAt (disk c q [] r)) i (r .ring .len) l
 
   rest-length : (i : ℕ) → length (rest i) ≡ r .ring .len - i
   unfolding rest
   rest-length i = from-length (queuedAt (disk c q [] r)) i (r .ring .len - i)
 
-  queue-whole : (j : List ℕ) → queued (disk c q j r) ≡ rest 0
+  pub queue-whole : (j : List ℕ) → queued (disk c q j r) ≡ rest 0
   unfolding queued rest
   queue-whole j =
       let e : r .ring .len ≡ r .ring .len - 0 = omega arith in
@@ -136,7 +136,7 @@ module _ (c q : List ℕ) (r : Record) where
         go (yes l) = omega (arith, rw (entry-here 0) at (f .begun l), few-here q r 0 p (f .queueData))
         go (no n) =
             let d = disk c q (f .journalData) r in
-            let z = rw (queue-whole (f .journalData), rest-none (omega arith)) at (flow-ready d (right d (f .lengths) (f .sound))) in
+            let z = rw (queue-whole (f .journalData), rest-none 0 (omega arith)) at (flow-ready d (right d (f .lengths) (f .sound))) in
             omega arith
 
     module _ (c′ : List ℕ) (p′ : Place) (k left gone : ℕ) (g : Going c′ p′ k left gone) where
@@ -188,10 +188,10 @@ module _ (c q : List ℕ) (r : Record) where
 
     module _ (f : Flushable c q r p) (c′ : List ℕ) (p′ : Place) (k left gone : ℕ) (g : Going c′ p′ k left gone) where
       pub flushes-drained : r .ring .len ≤ gone → Flushes a c q r c′ (withFlow r ((r .ring .head + gone) % 32) (r .ring .len - gone) k) (reply.the-variants.Drained (a - left))
-      unfolding flushAnswer rest nextStore
+      unfolding flushAnswer nextStore
       flushes-drained l j =
           ends j c′ p′ gone k (a - left) drained (f .place) (g .among)
-          (sym (g .onward) ∙ stopped-flush (segmentsIn c) left (a - left) (flow c′ p′ (rest gone) k) drained (rw (from-none (queuedAt (disk c q [] r)) gone (r .ring .len) l)))
+          (sym (g .onward) ∙ stopped-flush (segmentsIn c) left (a - left) (flow c′ p′ (rest gone) k) drained (rw (rest-none gone l)))
 
       module _ (l : gone < r .ring .len) where
         whole-ends : (c″ : List ℕ) (k″ s : ℕ) (x : Ending)

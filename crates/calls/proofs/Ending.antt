@@ -36,6 +36,7 @@ use Rattle.disk.specs.Answers.{number, refusedAnswer, replyAnswer}
 use Rattle.disk.specs.promises.Listing.{Padded, relistedAll}
 use Rattle.disk.proofs.Queue.{Beside, beside-all}
 use Rattle.disk.proofs.Journal.{journal-size}
+use Rattle.disk.proofs.Listing.{padded-same}
 use Rattle.disk.proofs.Questions.{unit-range}
 use Rattle.disk.proofs.Clauses.{OrderRight, right, open-window}
 use Rattle.disk.proofs.AcceptedOrder.{reader-order}
@@ -50,7 +51,6 @@ use Rattle.calls.proofs.Refusing.{ask-yes, ask-no, last-yes, refused-mo
 use Rattle.inspect.proofs.Locating.{journal-here, applies-here}
 use Rattle.inspect.proofs.Looking.{unit-lawful}
 use Rattle.calls.proofs.Entering.{entering, entered}
-use Rattle.calls.proofs.Giving.{padded-same}
 use Rattle.calls.proofs.Adding.{sound-padded}
 use Rattle.calls.proofs.Closing.{dropped-closed, ended-closed}
 

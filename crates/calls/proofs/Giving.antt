@@ -7,7 +7,6 @@ use mathlib.Core.List.{List, [], _∷_}
 use Prim.Native.Nat.{ℕ, zero, suc, _≤_}
 use native.Mathlib.Omega.{arith}
 use lib.Dec.{leb, eqb, eqb·suc-zero}
-use lib.ListN.{take}
 use Rattle.lists.specs.Basic.{isSome, orElse}
 use Rattle.lists.specs.Change.{takeList, mapChange, carriedBy}
 use Rattle.lists.specs.State.{Row, taken, onList}
@@ -18,7 +17,7 @@ use Rattle.log.specs.declared.entry.LogEntry.{LogEntry}
 use Rattle.log.specs.declared.entry.LogEntry.the-variants.{Take}
 use Rattle.log.specs.Entry.{mapEntry, raw, isList, asEntry}
 use Rattle.log.specs.Cell.{cellOf}
-use Rattle.disk.specs.Record.{Record, Tally, listedIn, padded, holding}
+use Rattle.disk.specs.Record.{Record, listedIn, holding}
 use Rattle.disk.specs.declared.answer.Refusal.{Refusal}
 use Rattle.disk.specs.declared.answer.Refusal.the-variants.{OutOfRange, ListNotTaken, PredecessorElsewhere, NoNumberFree}
 use Rattle.disk.specs.declared.answer.NumberReply.{NumberReply}
@@ -31,6 +30,7 @@ use Rattle.disk.specs.Perform.{accepted, hold, relisted, given as givenOut, not
 use Rattle.disk.specs.Answers.{number, numberAnswer}
 use Rattle.disk.specs.promises.Listing.{Padded, unlisted}
 use Rattle.disk.proofs.Questions.{first-free}
+use Rattle.disk.proofs.Listing.{padded-same}
 use Rattle.calls.specs.Performs.{Performs}
 use Rattle.calls.specs.promises.Entering.{Admitted}
 use Rattle.calls.specs.promises.Adds.{added, rooms, Adds}
@@ -83,12 +83,6 @@ module _ (s : ℕ) (r : Record) (n : ℕ) (h : n ≡ orElse 0 (freeListIn r)) wh
     takes r′ r″ a e = (e ∙ ap (λ (x : Record). unlisted (listNumber n) (heldBy s (listNumber n) x)) (a .0), given, λ d k. rooms-yes d s (a .1 d k))
 
 -- What is held leaves the order alone, as what is added does.
-pub padded-same : (r r′ : Record) → r′ .tally ≡ r .tally → Padded r → Padded r′
-unfolding listedIn
-padded-same r r′ e p =
-    let (a, b) = subst (λ (t : Tally). (t .listed ≤ 80) × (t .order ≡ padded (take (t .listed) (t .order)))) (sym e) (p .many, p .behind) in
-    record { many = a; behind = b }
-
 padded-held : (s n : ℕ) (r : Record) → Padded r → Padded (heldBy s n r)
 padded-held s n r p = padded-same r (heldBy s n r) (go (eqb s 0)) p
   where

@@ -6,17 +6,16 @@ use Prim.Native.Nat.{ℕ, zero, suc, _+_}
 use native.Mathlib.Omega.{arith}
 use lib.Dec.{leb, eqb·suc-zero}
 use Rattle.lists.specs.Basic.{any}
-use Rattle.lists.specs.Change.{Change, carriedBy}
+use Rattle.lists.specs.Change.{Change}
 use Rattle.lists.specs.State.{Row, applies, applyAll, overlay}
 use Rattle.lists.specs.InUse.{listNumber}
 use Rattle.lists.proofs.Basic.{and-true, not-false, leb-true, some-of}
 use Rattle.lists.proofs.Count.{takes}
 use Rattle.lists.proofs.InUse.{brought, takes-brings}
 use Rattle.lists.proofs.Takings.{once-more}
-use Rattle.log.specs.Entry.{plain, carried}
+use Rattle.log.specs.Entry.{plain}
 use Rattle.log.specs.Card.{Written}
-use Rattle.log.proofs.Segment.{Sized}
-use Rattle.log.proofs.Places.{Good}
+use Rattle.log.proofs.Places.{Good, plain-sized}
 use Rattle.disk.specs.Record.{isOpen, holderOf, withListed}
 use Rattle.disk.specs.Disk.{Disk, unitOf, queued, journalOf, committed, listing}
 use Rattle.disk.specs.Sound.{isOpenUnit}
@@ -50,10 +49,6 @@ held zero n d b i = i
 held (suc u) n d b i = same-inv d (hold (suc u) n d) b refl (queued-hold (suc u) n d) refl (journal-hold (suc u) n d) i
 
 -- A change on a stream.
-plain-sized : (c : Change Written) → Good (plain c) → Sized (carriedBy c)
-unfolding carried
-plain-sized c g = g .sized
-
 record Streams (s : ℕ) (d : Disk) : Type 0 where
   sound : Right d
   isOpen : streamOpen d s ≡ true

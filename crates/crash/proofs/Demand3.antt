@@ -1,9 +1,9 @@
 -- Demand 3, proved: the invariant holds at the start, each event that may happen keeps it, and it says what mounting shows.
 use mathlib.Core.Path.{_≡_, refl, sym, subst}
 use mathlib.Core.Logic.{_⊎_, inl, inr}
-use mathlib.Core.Bool.{Bool, true, false, _&&_, _||_, not, true≢false, and-false, and-true as and-right}
+use mathlib.Core.Bool.{Bool, true, false, _&&_, _||_, not, true≢false, and-false, and-true as and-yes}
 use mathlib.Core.List.{List, [], _∷_}
-use Prim.Native.Nat.{ℕ, zero, suc, _*_, _%_, _≤_, _<_}
+use Prim.Native.Nat.{ℕ, zero, suc, _*_, _<_}
 use native.Mathlib.Omega.{arith}
 use lib.Dec.{leb, eqb, eqb·suc-zero}
 use lib.ListN.{length, take, length-replicate}
@@ -11,7 +11,7 @@ use Rattle.lists.proofs.Basic.{and-true, not-false, leb-true}
 use Rattle.lists.specs.Numbers.{allNumbers}
 use Rattle.log.specs.Card.{cardLength, segmentsIn}
 use Rattle.log.specs.Store.{doStores, formatStores}
-use Rattle.log.proofs.CardLength.{card-size}
+use Rattle.log.proofs.CardLength.{card-size, card-small}
 use Rattle.disk.specs.Record.{freshRecord}
 use Rattle.disk.specs.Disk.{Disk}
 use Rattle.disk.specs.Call.{Call, format, mount, conflictCount, onStream, inView, begin, end, flush, resets}
@@ -88,7 +88,7 @@ refused-step : (c : Call) (m : ℕ) (p : Parts) (w : World) (b : Book) → refus
 refused-step c m p w b q i =
     let a = refusalAnswer (suc m) (lend p (w .disk)) in
     let k : a .code ≡ suc m = refusal-code (suc m) (lend p (w .disk)) in
-    rw (refused-test a m k) (rw (and-right (w .down)) (rw (book-refused c a b m k) (refused-inv c m p w b q i)))
+    rw (refused-test a m k) (rw (and-yes (w .down)) (rw (book-refused c a b m k) (refused-inv c m p w b q i)))
 
 called-inv : (c : Call) (p : Parts) (w : World) (b : Book) → mayHappen w (called c p) ≡ true → Inv w b
     → Inv (step w (called c p)) (bookStep b (called c p) (answered w (called c p)))
@@ -118,10 +118,6 @@ event-inv (cutFormat k x) w b m i =
     cut-format w b k x (rw (segments-count (w .disk .card) b (i .sim .carries)) at (leb-true k (segmentsIn (w .disk .card)) l)) i
 
 -- The start: right after an accepted formatting, the book empty.
-card-few : (c : List ℕ) → cardLength c ≡ true → segmentsIn c ≤ 64
-unfolding cardLength
-card-few c h = leb-true (segmentsIn c) 64 (and-true (eqb (length c % 4096) 0 && leb 1 (segmentsIn c)) (leb (segmentsIn c) 64) h .1)
-
 start-sim : (n : ℕ) (c : List ℕ) → 0 < n → length c ≡ 4096 * n → Sim (doStores (take n (formatStores n)) c) (emptyBook n)
 unfolding emptyBook entriesOf
 start-sim n c p l = record { carries = empty-carries n c p l; good = tt; head = refl }
@@ -137,7 +133,7 @@ start-inv d h =
     let n = segmentsIn (d .card) in
     let (l, p) = card-size (d .card) k in
     live (accepted format d .disk) (emptyBook n) (start-sim n (d .card) p l) (empty-told n) (start-tied (accepted format d .disk) n allNumbers refl) refl
-    (omega (arith, card-few (d .card) k, length-replicate {A = List Waiting} n []))
+    (omega (arith, card-small (d .card) k, length-replicate {A = List Waiting} n []))
 
 pub begun-inv : (d : Disk) → refusal format d ≡ 0 → Inv (begun d .world) (begun d .book)
 unfolding begun

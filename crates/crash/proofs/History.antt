@@ -13,7 +13,8 @@ use lib.Seq.{drop-at}
 use Rattle.lists.specs.Basic.{bind, guard, any, joined}
 use Rattle.lists.specs.Change.{Change}
 use Rattle.lists.specs.State.{State, apply, applyAll}
-use Rattle.lists.proofs.Basic.{eqb-false, eqb-neq, any-joined, bind-bind, bind-ext}
+use Rattle.lists.proofs.Basic.{eqb-false, eqb-neq, any-joined}
+use Rattle.lists.proofs.Listed.{applyAll-append}
 use Rattle.log.specs.Entry.{Entry, plain, member, commit}
 use Rattle.log.specs.Reader.{Reader, reader, settled, lastOf, read, replay}
 use Rattle.log.specs.Card.{Written}
@@ -51,12 +52,6 @@ unguarded : (b : Bool) (o : Option (Reader Written)) (f : Reader Written → Opt
 unguarded true o f z h = h
 unguarded false o f z h = absurd (Option·none-ne-some _ h)
 
-all-append : (xs ys : List (Change Written)) (s : State Written) → applyAll (xs ++ ys) s ≡ bind (applyAll xs s) (λ t. applyAll ys t)
-unfolding applyAll
-all-append [] ys s = refl
-all-append (x ∷ xs) ys s =
-    bind-ext (apply x s) _ _ (λ t. all-append xs ys t) ∙ sym (bind-bind (apply x s) (λ t. applyAll xs t) (λ t. applyAll ys t))
-
 pub replay-acts : (es : List (Entry Written)) (r z : Reader Written) → replay r es ≡ some z → applyAll (joined (tell (r .run) es)) (r .state) ≡ some (z .state)
 unfolding replay tell joined applyAll read
 replay-acts [] r z h = ap {B = Option (State Written)} (λ o. bind o (λ (q : Reader Written). some (q .state))) h
@@ -64,7 +59,7 @@ replay-acts (plain c ∷ es) r z h =
     through (apply c (r .state)) (λ q. replay q es) (λ t. applyAll (joined (tell [] es)) t) z (λ t. replay-acts es (settled t) z) h
 replay-acts (member c ∷ es) r z h = replay-acts es (reader (r .run ++ c ∷ []) (r .state)) z h
 replay-acts (commit n ∷ es) r z h =
-    all-append (lastOf n (r .run)) (joined (tell [] es)) (r .state)
+    applyAll-append (lastOf n (r .run)) (joined (tell [] es)) (r .state)
     ∙ through (applyAll (lastOf n (r .run)) (r .state)) (λ q. replay q es) (λ t. applyAll (joined (tell [] es)) t) z (λ t. replay-acts es (settled t) z)
     (unguarded (leb n (length (r .run))) (bind (applyAll (lastOf n (r .run)) (r .state)) (λ s. some (settled s))) (λ q. replay q es) z h)
 

@@ -2,24 +2,22 @@
 -- and no other.
 use mathlib.Core.Path.{_≡_, refl, sym, ap, _∙_, subst}
 use mathlib.Core.Bool.{true}
-use mathlib.Core.Option.{Option, some, Option·some-injective}
+use mathlib.Core.Option.{Option, some}
 use mathlib.Core.List.{List, []}
-use Prim.Native.Nat.{ℕ, _+_, _≤_}
+use Prim.Native.Nat.{ℕ, _+_}
 use native.Mathlib.Omega.{arith}
-use lib.ListN.{length}
-use Rattle.lists.specs.State.{State, empty, applyAll, overlay}
+use Rattle.lists.specs.State.{State, applyAll, overlay}
 use Rattle.lists.specs.Numbers.{allNumbers}
 use Rattle.lists.proofs.Basic.{some-of}
-use Rattle.lists.proofs.Listed.{Reached, reached-empty}
 use Rattle.log.specs.Reader.{Reader, settled, start}
 use Rattle.log.specs.Card.{Written, segmentsIn, mounted}
 use Rattle.log.proofs.Reached.{mounted-reached}
-use Rattle.disk.specs.Record.{Record, freshRecord, withListed}
-use Rattle.disk.specs.Disk.{Disk, withRecord, unitOf, queued, journalOf, readerOf, stateOf, committedReader, persistent, committed, view, listing}
-use Rattle.disk.specs.Sound.{lengthsRight, recordSound}
+use Rattle.disk.specs.Record.{freshRecord}
+use Rattle.disk.specs.Disk.{Disk, withRecord, unitOf, queued, journalOf, readerOf, stateOf, persistent, committed, listing}
+use Rattle.disk.specs.Sound.{recordSound}
 use Rattle.disk.specs.Call.{Call, format, mount, conflictCount, onStream, inView, begin, end, flush, ends}
 use Rattle.disk.specs.Questions.{mountable, endApplies, questions, refusal}
-use Rattle.disk.specs.Perform.{enqueueAll, relisted, made, numberGiven, changeFor, opening, closing, conflicted, unitEntries, formatted, afterFlush, accepted, refused}
+use Rattle.disk.specs.Perform.{enqueueAll, relisted, numberGiven, changeFor, opening, closing, conflicted, unitEntries, formatted, afterFlush, accepted, refused}
 use Rattle.disk.proofs.Queue.{beside-all, queued-opening, queued-closing, queued-conflicted, reader-same}
 use Rattle.disk.proofs.Journal.{unit-entries, journal-size, unit-sized}
 use Rattle.disk.proofs.Questions.{yes-all, past, card-length, unit-range, queue-room}
@@ -27,10 +25,12 @@ use Rattle.disk.proofs.Fresh.{fresh-reader}
 use Rattle.disk.proofs.Clauses.{Right, OrderRight, committed-is, right, order-right}
 use Rattle.disk.proofs.Changes.{edit-makes, unit-good, replay-unit}
 use Rattle.disk.proofs.Growth.{enqueueAll-log}
-use Rattle.disk.proofs.Draining.{left, left-right}
+use Rattle.disk.proofs.Draining.{left}
 use Rattle.disk.proofs.Views.{committed-stays}
 use Rattle.disk.proofs.KeepsSound.{formatted-start}
-use Rattle.disk.proofs.KeepsOrder.{order-same, made-order, ended-order, dropped-order, fresh-order, sound-of}
+use Rattle.disk.proofs.ListedOnce.{order-same, fresh-order, sound-of}
+use Rattle.disk.proofs.ChangeOrder.{made-order}
+use Rattle.disk.proofs.ClosingOrder.{ended-order, dropped-order}
 
 -- the order of a sound disk, over the state of its reader
 pub reader-order : (d : Disk) (k : Right d) → recordSound d ≡ true → OrderRight d (k .reader .state)

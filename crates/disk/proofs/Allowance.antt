@@ -12,11 +12,11 @@ use Rattle.disk.specs.Record.{withFlow}
 use Rattle.disk.specs.Disk.{Disk, queued}
 use Rattle.disk.specs.Call.{flush}
 use Rattle.disk.specs.Questions.{questions, firstNo, ask, refusal}
-use Rattle.disk.specs.Perform.{flowOf, flushed, afterFlush, endingNumber, accepted, perform}
+use Rattle.disk.specs.Perform.{flowOf, flushed, afterFlush, endingNumber, accepted}
 use Rattle.disk.specs.Statements.{FlushSum}
 use Rattle.disk.proofs.Queue.{queue-length}
 use Rattle.disk.proofs.Questions.{yes-all}
-use Rattle.disk.proofs.KeepsOrder.{order-same}
+use Rattle.disk.proofs.ListedOnce.{order-same}
 use Rattle.disk.proofs.AcceptedOrder.{reader-order}
 use Rattle.disk.proofs.Clauses.{Right, right, right-lengths, right-sound, OrderRight}
 use Rattle.disk.proofs.Performing.{perform-accepted}

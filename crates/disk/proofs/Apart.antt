@@ -1,23 +1,20 @@
 -- Numbers stay held until their unit ends (`held-until-end`), and what comes in a unit shows in no other view (`unit-apart`).
 use mathlib.Core.Path.{_≡_, refl, sym, ap, _∙_}
 use mathlib.Core.Logic.{_≢_}
-use mathlib.Core.Bool.{Bool, true, false, cond, true≢false}
+use mathlib.Core.Bool.{Bool, true, false, true≢false}
 use mathlib.Core.Option.{Option, none, some}
-use mathlib.Core.List.{List, [], _∷_}
-use Prim.Native.Nat.{ℕ, zero, suc, _-_, _≤_}
+use mathlib.Core.List.{List, []}
+use Prim.Native.Nat.{ℕ, zero, suc, _-_}
 use native.Mathlib.Omega.{arith}
 use lib.Dec.{leb, eqb}
 use lib.ListN.{length, getD}
-use Rattle.lists.specs.Change.{Change, takeList, putFirst, putAfter, write, delBlock, delList, carriedBy}
-use Rattle.lists.specs.State.{Row, State, frees, overlay}
-use Rattle.lists.specs.InUse.{listNumber, inUse}
+use Rattle.lists.specs.Change.{Change, takeList, putFirst, putAfter, write, delBlock, delList}
+use Rattle.lists.specs.State.{Row, frees, overlay}
+use Rattle.lists.specs.InUse.{listNumber}
 use Rattle.lists.proofs.Basic.{and-true, eqb-same, leb-true}
 use Rattle.lists.proofs.InUse.{brought}
-use Rattle.log.specs.Entry.{Entry, plain, carried, isList}
-use Rattle.log.specs.Reader.{Reader}
 use Rattle.log.specs.Card.{Written, mounted}
-use Rattle.log.proofs.Segment.{Sized}
-use Rattle.log.proofs.Places.{Good}
+use Rattle.log.proofs.Places.{plain-sized}
 use Rattle.disk.specs.Record.{holderOf, withListed}
 use Rattle.disk.specs.Disk.{Disk, unitOf, queued, journalOf, readerOf, stateOf, persistent, committed, view, listing}
 use Rattle.disk.specs.Sound.{isOpenUnit}
@@ -30,7 +27,7 @@ use Rattle.disk.proofs.Journal.{journal-other, journal-hold, journal-re
 use Rattle.disk.proofs.Questions.{yes-all, past, unit-range, open-range, journal-room}
 use Rattle.disk.proofs.Given.{list-number}
 use Rattle.disk.proofs.Clauses.{Right, right}
-use Rattle.disk.proofs.Held.{closing-holder, hold-holder, hold-other, noted-by}
+use Rattle.disk.proofs.Held.{closing-holder, hold-holder, hold-other, hold-card, noted-by}
 use Rattle.disk.proofs.Changes.{Makes, edit-makes}
 use Rattle.disk.proofs.Performing.{perform-accepted, perform-refused}
 
@@ -128,36 +125,28 @@ views-same d e c q v j h = go (eqb v 5) refl (eqb v 0) refl
     go false x true y = rw (x, y) committed-same
     go false x false y = rw (x, y) (λ i. overlay (j (rw (x, y) at h) i) (committed-same i))
 
--- Beside the journal of its own unit, what comes in a unit leaves card, queue and journals.
-record Beside (d e : Disk) : Type 0 where
+-- The same entries: on the card, in the queue and in the journals. What is noted of a change leaves them.
+record SameEntries (d e : Disk) : Type 0 where
   card : e .card ≡ d .card
   queue : queued e ≡ queued d
   journals : (v : ℕ) → journalOf e v ≡ journalOf d v
 
-noted-beside : (s : ℕ) (c : Change Written) (rs : List (Row Written)) (d : Disk) → Beside d (noted s c rs d)
-unfolding hold relisted
-noted-beside s c rs d =
-    noted-by (Beside d) s held listed c rs d (record { card = refl; queue = refl; journals = λ v. refl })
+noted-entries : (s : ℕ) (c : Change Written) (rs : List (Row Written)) (d : Disk) → SameEntries d (noted s c rs d)
+unfolding relisted
+noted-entries s c rs d =
+    noted-by (SameEntries d) s held listed c rs d (record { card = refl; queue = refl; journals = λ v. refl })
   where
-    held-card : (s n : ℕ) (e : Disk) → hold s n e .card ≡ e .card
-    held-card zero n e = refl
-    held-card (suc u) n e = refl
+    held : (n : ℕ) (e : Disk) → SameEntries d e → SameEntries d (hold s n e)
+    held n e b = record { card = hold-card s n e ∙ b .card; queue = queued-hold s n e ∙ b .queue; journals = λ v. journal-hold s n e v ∙ b .journals v }
 
-    held : (n : ℕ) (e : Disk) → Beside d e → Beside d (hold s n e)
-    held n e b = record { card = held-card s n e ∙ b .card; queue = queued-hold s n e ∙ b .queue; journals = λ v. journal-hold s n e v ∙ b .journals v }
-
-    listed : (fs : List ℕ) (e : Disk) → Beside d e → Beside d (relisted fs e)
+    listed : (fs : List ℕ) (e : Disk) → SameEntries d e → SameEntries d (relisted fs e)
     listed fs e b = record { card = b .card; queue = queued-relisted fs e ∙ b .queue; journals = λ v. journal-relisted fs e v ∙ b .journals v }
-
-plain-sized : (c : Change Written) → Good (plain c) → Sized (carriedBy c)
-unfolding carried
-plain-sized c g = g .sized
 
 made-apart : (u : ℕ) (c : Change Written) (d : Disk) → streamOpen d (suc u) ≡ true → Right d → Makes (suc u) c d → (v : ℕ) → suc u ≢ v → viewOpen d v ≡ true → view (made (suc u) c d) v ≡ view d v
 unfolding made change journalAdd
 made-apart u c d o k m v n h =
     let x = journalAdd (suc u) c d in
-    let b = noted-beside (suc u) c (committed d .lists) x in
+    let b = noted-entries (suc u) c (committed d .lists) x in
     let (p, q, _) = open-range d u o in
     views-same d (noted (suc u) c (committed d .lists) x) (b .card) (b .queue ∙ queued-journal (suc u) c d) v
     (λ w. let (y, z, _) = unit-range d v w in

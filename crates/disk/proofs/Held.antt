@@ -55,6 +55,11 @@ unfolding hold
 hold-other zero b x d h n = refl
 hold-other (suc u) b x d h n = getD-set-other (d .rec .held .holder) (b - 1) (x - 1) (suc u) 0 (λ e. n (ap (λ (i : ℕ). getD (d .rec .held .holder) i 0) e ∙ h))
 
+pub hold-card : (s n : ℕ) (d : Disk) → hold s n d .card ≡ d .card
+unfolding hold
+hold-card zero n d = refl
+hold-card (suc u) n d = refl
+
 -- What is noted of a change: a number given is held, and the order of the free ones is another.
 freed-by : (P : Disk → Type 0) (s : ℕ) → ((fs : List ℕ) (d : Disk) → P d → P (relisted fs d)) → (ns : List ℕ) (d : Disk) → P d → P (freed s ns d)
 unfolding freed

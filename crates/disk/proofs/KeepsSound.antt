@@ -11,20 +11,20 @@ use lib.Dec.{leb, eqb, eqb·suc-zero}
 use lib.ListN.{length, length-set, length-replicate, getD-replicate}
 use lib.Seq.{take-all}
 use Rattle.lists.specs.Basic.{all, joined}
-use Rattle.lists.specs.Change.{Change, takeList, putFirst, putAfter, write, delBlock, delList, mapChange, carriedBy}
+use Rattle.lists.specs.Change.{Change, takeList, putFirst, putAfter, write, delBlock, delList, mapChange}
 use Rattle.lists.specs.State.{State, state, applies, changed, freeAfter, apply, applyAll, overlay}
 use Rattle.lists.specs.InUse.{listNumber, inUse, brings}
 use Rattle.lists.specs.Numbers.{allNumbers}
 use Rattle.lists.proofs.Basic.{and-true, not-false, eqb-same, eqb-true, leb-true, some-of, getD-same, joined-nils}
 use Rattle.lists.proofs.InUse.{brought, in-use-changed, in-use-all}
-use Rattle.log.specs.Entry.{Entry, plain, member, mapEntry, carried, raw, legal, legalChange, isBlock, isList}
+use Rattle.log.specs.Entry.{Entry, plain, member, mapEntry, raw, legal, legalChange, isBlock, isList}
 use Rattle.log.specs.Reader.{Reader, settled, start, read, replay}
 use Rattle.log.specs.Card.{Written, cardLength, segmentsIn, sound, mounted}
 use Rattle.log.specs.Store.{formatStores}
 use Rattle.log.proofs.CardLength.{card-size, same-length}
-use Rattle.log.proofs.Segment.{Sized, Carries, carries-walk}
+use Rattle.log.proofs.Segment.{Carries, carries-walk}
 use Rattle.log.proofs.Formatting.{nils, format-length, formatted-carries}
-use Rattle.log.proofs.Places.{Good}
+use Rattle.log.proofs.Places.{Good, plain-sized}
 use Rattle.log.proofs.Flows.{AllGood}
 use Rattle.disk.specs.Record.{noUnit, freshUnit, blankRecord, freshRecord, holderOf, listedIn, withListed, isOpen}
 use Rattle.disk.specs.Disk.{Disk, withRecord, unitOf, journalOf, readerOf, persistent, committed, listing}
@@ -99,10 +99,6 @@ hold-right (suc u) b d o x y z n k = record {
 member-legal : (c : Change Written) → Good (plain c) → legal (raw 0 (member c)) ≡ true
 unfolding legal raw mapEntry
 member-legal c g = g .lawful
-
-plain-sized : (c : Change Written) → Good (plain c) → Sized (carriedBy c)
-unfolding carried
-plain-sized c g = g .sized
 
 journal-right : (u : ℕ) (c : Change Written) (d : Disk) → isOpenUnit d u ≡ true → unitOf d u .len < 15 → Good (plain c)
     → ((b : ℕ) → brought c b ≡ true → holderOf (d .rec) b ≡ u) → Right d → Right (journalAdd u c d)

@@ -15,7 +15,9 @@ pub mod KnownRuns
 pub mod Growth
 pub mod Units
 pub mod KeepsSound
-pub mod KeepsOrder
+pub mod ListedOnce
+pub mod ChangeOrder
+pub mod ClosingOrder
 pub mod Relisting
 pub mod Standing
 pub mod Turns

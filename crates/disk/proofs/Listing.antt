@@ -9,7 +9,7 @@ use Prim.Native.Nat.{ℕ, suc, _+_, _-_, _≤_, _<_}
 use native.Mathlib.Omega.{arith}
 use native.Mathlib.Decide.{decLt}
 use lib.Dec.{eqb}
-use lib.ListN.{length, getD, set, replicate, length-take, length-append, length-replicate, replicate-append-replicate}
+use lib.ListN.{length, take, getD, set, replicate, length-take, length-append, length-replicate, replicate-append-replicate}
 use lib.Seq.{take-append-seam, set-append-seam, append-snoc, set-at, getD-at, slice, slice-empty, slice-cons}
 use Rattle.lists.specs.Basic.{all, keep, times}
 use Rattle.lists.specs.InUse.{isNumber}
@@ -20,7 +20,7 @@ use Rattle.lists.proofs.Times.{times-other, times-append, times-cons, none-away
 use Rattle.lists.proofs.Listed.{number-range}
 use Rattle.lists.proofs.Chain.{last-snoc}
 use Rattle.lists.proofs.FreeRow.{shown-numbers, shown-fits, free-after-shown}
-use Rattle.disk.specs.Record.{Record, listedIn, padded, withTally, withListed}
+use Rattle.disk.specs.Record.{Record, Tally, listedIn, padded, withTally, withListed}
 use Rattle.disk.specs.Questions.{firstFree}
 use Rattle.disk.specs.promises.Listing.{withPlace, withMany, Padded, Reorders, unlisted, listedLast, pushed, pushedAll, Moves, ListsFree}
 
@@ -42,6 +42,12 @@ listed-length r l m = omega (arith, length-take (r .tally .listed) (r .tally .or
 pub padded-places : (r : Record) → Padded r → length (r .tally .order) ≡ 80
 unfolding listedIn
 padded-places r p = ap length (p .behind) ∙ padded-length (listedIn r) (let m = p .many in omega (arith, length-take (r .tally .listed) (r .tally .order)))
+
+pub padded-same : (r r′ : Record) → r′ .tally ≡ r .tally → Padded r → Padded r′
+unfolding listedIn
+padded-same r r′ e p =
+    let (a, b) = subst (λ (t : Tally). (t .listed ≤ 80) × (t .order ≡ padded (take (t .listed) (t .order)))) (sym e) (p .many, p .behind) in
+    record { many = a; behind = b }
 
 -- Numbers listed.
 pub listed-with : (fs : List ℕ) (r : Record) → listedIn (withListed fs r) ≡ fs

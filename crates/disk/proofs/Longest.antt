@@ -9,7 +9,7 @@ use native.Mathlib.Decide.{ℕ-discrete, decLe}
 use lib.Dec.{leb, ltb, eqb·suc-zero}
 use Rattle.lists.specs.Basic.{all, keep, times, orElse}
 use Rattle.lists.specs.Numbers.{isNumber}
-use Rattle.lists.proofs.Basic.{and-true, not-false, le-true, lt-true, leb-true, ltb-true, gt-false, some-of}
+use Rattle.lists.proofs.Basic.{and-true, not-false, le-true, lt-true, leb-true, ltb-true, gt-false, some-of, keep-append}
 use Rattle.lists.proofs.Times.{standing, times-append, times-cons, times-here, times-other, times-keep, all-standing}
 use Rattle.lists.proofs.Listed.{number-range}
 use Rattle.disk.specs.Record.{listedIn}
@@ -23,7 +23,7 @@ use Rattle.disk.proofs.Questions.{yes-all, first-free}
 use Rattle.disk.proofs.Clauses.{order-right}
 use Rattle.disk.proofs.Performing.{perform-accepted}
 use Rattle.disk.proofs.Soundness.{stays-sound}
-use Rattle.disk.proofs.Rest.{keep-append, outside-true, listed-once, order-grows}
+use Rattle.disk.proofs.Rest.{outside-true, listed-once, order-grows}
 
 -- Numbers that stand in two lists, one behind the other, and those that stay.
 pub before-joined : (m n : ℕ) (xs ys : List ℕ) → 1 ≤ times m xs → 1 ≤ times n ys → Before m n (xs ++ ys)

@@ -2,16 +2,16 @@
 -- leaves alone.
 use mathlib.Core.Path.{_≡_, refl, sym, ap, _∙_, subst}
 use mathlib.Core.Logic.{_≢_, _⊎_, inl, inr, ⊎-elim}
-use mathlib.Core.Bool.{Bool, true, false, _&&_, _||_, not, cond, false≢true}
-use mathlib.Core.Option.{some, Option·some-injective}
+use mathlib.Core.Bool.{Bool, true, _&&_, not, false≢true}
+use mathlib.Core.Option.{some}
 use mathlib.Core.List.{List, [], _∷_, _++_}
 use Prim.Native.Nat.{ℕ, _≤_}
 use native.Mathlib.Omega.{arith}
-use lib.Dec.{leb, eqb}
+use lib.Dec.{leb}
 use lib.ListN.{length}
 use denote.Enum.Declared.{tagOf}
 use types.Run.{OneOf}
-use Rattle.lists.specs.Basic.{all, keep, times, orElse}
+use Rattle.lists.specs.Basic.{all, keep, orElse}
 use Rattle.lists.specs.Change.{Change, takeList, putFirst, putAfter, write, delBlock, delList, mapChange}
 use Rattle.lists.specs.State.{Row, State, state, changed, frees, freeAfter, apply, applyAll, overlay}
 use Rattle.lists.specs.InUse.{isNumber, isFree, brings, brought, AllNumbered}
@@ -24,11 +24,12 @@ use Rattle.log.specs.Entry.{asChange, member, raw, mapEntry, legal, legalChange
 use Rattle.log.specs.declared.entry.LogEntry.{LogEntry}
 use Rattle.log.specs.declared.entry.LogEntry.the-variants.{Take, PutFirst, PutAfter, Write, DeleteBlock, DeleteList, Commit}
 use Rattle.log.proofs.entry.LogEntry.{the-type}
-use Rattle.disk.specs.Record.{Record, Ring, Held, listedIn, withListed}
-use Rattle.disk.specs.promises.Listing.{Padded, unlisted, listedLast, pushedAll, relistedBy, relistedAll, ListsFree, Relists}
+use Rattle.disk.specs.Record.{Record, listedIn, withListed}
+use Rattle.disk.specs.promises.Listing.{Padded, unlisted, pushedAll, relistedBy, relistedAll, ListsFree, Relists}
 use Rattle.disk.proofs.Listing.{padded-places, listed-with, with-again, padded-with, with-same, with-ring, with-held, pushedAll-padded, pushedAll-ring, pushedAll-held, pushed-all, unlisted-padded}
 use Rattle.disk.proofs.Changes.{apply-applies}
-use Rattle.disk.proofs.KeepsOrder.{few-times, keep-out}
+use Rattle.disk.proofs.ListedOnce.{few-times}
+use Rattle.disk.proofs.ChangeOrder.{keep-out}
 
 module _ {D : Type 0} where
   -- the number brought into use goes

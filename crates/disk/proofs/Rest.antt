@@ -1,6 +1,5 @@
 -- "Longest free number first": how the order of the free numbers goes on (`order-grows`).
 use mathlib.Core.Path.{_≡_, refl, sym, ap, _∙_, subst}
-use mathlib.Core.Logic.{_≢_}
 use mathlib.Core.Bool.{Bool, true, false, _&&_, _||_, not, cond, true≢false}
 use mathlib.Core.Option.{some}
 use mathlib.Core.List.{List, [], _∷_, _++_, append-assoc, append-nil}
@@ -13,8 +12,8 @@ use Rattle.lists.specs.Change.{Change, takeList, putFirst, putAfter, write, del
 use Rattle.lists.specs.State.{Row, State, state, applies, changed, frees, freeAfter, apply, overlay}
 use Rattle.lists.specs.InUse.{inUse}
 use Rattle.lists.specs.Numbers.{isNumber, allNumbers, brings, brought}
-use Rattle.lists.proofs.Basic.{or-both, not-true, eqb-false, eq-true, keep-all}
-use Rattle.lists.proofs.Times.{times-append, times-cons, times-here, times-keep, all-standing}
+use Rattle.lists.proofs.Basic.{or-both, not-true, eqb-false, eq-true, keep-all, keep-append}
+use Rattle.lists.proofs.Times.{times-append, times-keep, keep-alike, all-standing}
 use Rattle.lists.proofs.Listed.{number-range, once-most}
 use Rattle.log.specs.Card.{Written}
 use Rattle.disk.specs.Record.{holderOf, listedIn, blankRecord, freshRecord}
@@ -29,7 +28,9 @@ use Rattle.disk.proofs.Questions.{yes-all, twelve-end, unit-range}
 use Rattle.disk.proofs.Clauses.{right, order-right}
 use Rattle.disk.proofs.Given.{listed-free}
 use Rattle.disk.proofs.Held.{journals-apart}
-use Rattle.disk.proofs.KeepsOrder.{listed-of, few-times, order-lists, listedAfter, made-lists, closing-lists}
+use Rattle.disk.proofs.ListedOnce.{listed-of, few-times, order-lists}
+use Rattle.disk.proofs.ChangeOrder.{listedAfter, made-lists}
+use Rattle.disk.proofs.ClosingOrder.{closing-lists}
 use Rattle.disk.proofs.Performing.{perform-accepted, perform-refused}
 use Rattle.disk.proofs.Soundness.{refused-same, stays-sound}
 
@@ -42,22 +43,7 @@ pub format-listed : FormatOrder
 unfolding accepted freshRecord
 format-listed d h = ap (λ (r : Result). listedIn (r .disk .rec)) (perform-accepted format d h) ∙ listed-with allNumbers blankRecord
 
--- The elements of a list that pass a test.
-pub keep-append : (p : ℕ → Bool) (xs ys : List ℕ) → keep p (xs ++ ys) ≡ keep p xs ++ keep p ys
-keep-append p [] ys = refl
-keep-append p (x ∷ xs) ys = go (p x) (keep-append p xs ys)
-  where
-    go : (b : Bool) → keep p (xs ++ ys) ≡ keep p xs ++ keep p ys → cond b (x ∷ keep p (xs ++ ys)) (keep p (xs ++ ys)) ≡ cond b (x ∷ keep p xs) (keep p xs) ++ keep p ys
-    go true ih = ap (λ (zs : List ℕ). x ∷ zs) ih
-    go false ih = ih
-
--- two tests that agree on what stands there
-pub keep-alike : (p q : ℕ → Bool) (xs : List ℕ) → ((n : ℕ) → 1 ≤ times n xs → p n ≡ q n) → keep p xs ≡ keep q xs
-keep-alike p q [] h = refl
-keep-alike p q (x ∷ xs) h =
-    rw (h x (omega (arith, times-here x xs)))
-    (ap (λ (zs : List ℕ). cond (q x) (x ∷ zs) zs) (keep-alike p q xs (λ n k. h n (omega (arith, times-cons n x xs)))))
-
+-- Numbers in a list, and outside it.
 keep-none : (xs : List ℕ) → keep (λ n. false) xs ≡ []
 keep-none [] = refl
 keep-none (x ∷ xs) = keep-none xs

@@ -10,8 +10,8 @@ use lib.Dec.{eqb}
 use Rattle.lists.specs.Basic.{all, keep, times}
 use Rattle.lists.specs.InUse.{inUse, isFree}
 use Rattle.lists.specs.Numbers.{isNumber}
-use Rattle.lists.proofs.Basic.{and-true, not-false, eqb-false, keep-all}
-use Rattle.lists.proofs.Times.{Standing, standing, times-append, times-cons, times-here, times-other, times-keep, all-standing}
+use Rattle.lists.proofs.Basic.{and-true, not-false, eqb-false, keep-all, keep-append}
+use Rattle.lists.proofs.Times.{Standing, standing, times-append, times-cons, times-here, times-other, times-keep, keep-alike, all-standing}
 use Rattle.lists.proofs.Listed.{number-range}
 use Rattle.disk.specs.Record.{holderOf, listedIn}
 use Rattle.disk.specs.Disk.{Disk, committed}
@@ -22,7 +22,7 @@ use Rattle.disk.specs.Rest.{outside, givenBy, freedBy, Before, noReset, 
 use Rattle.disk.proofs.Clauses.{order-right}
 use Rattle.disk.proofs.Soundness.{stays-sound}
 use Rattle.disk.proofs.Longest.{before-joined, before-kept, given-not, given-listed}
-use Rattle.disk.proofs.Rest.{keep-append, keep-alike, outside-true, listed-once, order-grows}
+use Rattle.disk.proofs.Rest.{outside-true, listed-once, order-grows}
 
 -- The elements of a list that pass two tests.
 keep-both : (p q : ℕ → Bool) (xs : List ℕ) → keep p (keep q xs) ≡ keep (λ n. q n && p n) xs

@@ -2,11 +2,11 @@
 -- leave what a flush with allowance k leaves (`driver-flush`).
 use mathlib.Core.Path.{_≡_, refl, sym, ap, _∙_}
 use mathlib.Core.List.{List, [], _∷_}
-use Prim.Native.Nat.{ℕ, zero, suc, _-_, _≤_}
+use Prim.Native.Nat.{ℕ, zero, suc, _≤_}
 use native.Mathlib.Omega.{arith}
-use lib.ListN.{length, take, length-take, length-drop}
+use lib.ListN.{length, length-take, length-drop}
 use lib.Seq.{take-all}
-use Rattle.lists.specs.Change.{Change, takeList, putFirst, putAfter, write, delBlock, delList}
+use Rattle.lists.specs.Change.{Change}
 use Rattle.lists.specs.State.{Row}
 use Rattle.lists.proofs.Basic.{leb-true, le-true}
 use Rattle.log.specs.Entry.{Entry}
@@ -16,9 +16,10 @@ use Rattle.log.proofs.Formatting.{format-length}
 use Rattle.disk.specs.Disk.{Disk, journalOf}
 use Rattle.disk.specs.Call.{Call, format, mount, conflictCount, onStream, inView, begin, end, flush}
 use Rattle.disk.specs.Questions.{questions, refusal}
-use Rattle.disk.specs.Perform.{Result, enqueue, enqueueAll, journalAdd, change, hold, relisted, given, freed, noted, made, numberGiven, changeFor, opening, closing, unitEntries, formatted, accepted, perform}
+use Rattle.disk.specs.Perform.{Result, enqueue, enqueueAll, journalAdd, change, relisted, noted, made, numberGiven, changeFor, opening, closing, unitEntries, formatted, accepted, perform}
 use Rattle.disk.specs.Statements.{todo}
 use Rattle.disk.proofs.Questions.{yes-all}
+use Rattle.disk.proofs.Held.{hold-card, noted-by}
 use Rattle.disk.proofs.Performing.{perform-accepted}
 use Rattle.disk.proofs.Flushing.{flushes, cut-after}
 use Rattle.calls.proofs.Refusing.{last-yes, sound-yes}
@@ -29,24 +30,9 @@ unfolding word
 word-says x l = (omega (arith, l), omega (arith, l))
 
 -- The calls that make no store.
-hold-card : (s n : ℕ) (d : Disk) → hold s n d .card ≡ d .card
-unfolding hold
-hold-card zero n d = refl
-hold-card (suc u) n d = refl
-
-freed-card : (s : ℕ) (ns : List ℕ) (d : Disk) → freed s ns d .card ≡ d .card
-unfolding freed relisted
-freed-card zero ns d = refl
-freed-card (suc u) ns d = refl
-
 noted-card : (s : ℕ) (c : Change Written) (rs : List (Row Written)) (d : Disk) → noted s c rs d .card ≡ d .card
-unfolding noted given relisted
-noted-card s (takeList l) rs d = hold-card s _ d
-noted-card s (putFirst b l) rs d = hold-card s b d
-noted-card s (putAfter b l p) rs d = hold-card s b d
-noted-card s (write b x) rs d = refl
-noted-card s (delBlock b) rs d = freed-card s _ d
-noted-card s (delList l) rs d = freed-card s _ d
+unfolding relisted
+noted-card s c rs d = noted-by (λ e. e .card ≡ d .card) s (λ n e p. hold-card s n e ∙ p) (λ fs e p. p) c rs d refl
 
 change-card : (s : ℕ) (c : Change Written) (d : Disk) → change s c d .card ≡ d .card
 unfolding change enqueue journalAdd

@@ -1,50 +1,38 @@
 -- The listing of a queue: what is listed of its head, and where the listing stands when some entries are listed (`Going`).
 use mathlib.Core.Path.{_≡_, refl, sym, ap, _∙_, subst}
-use mathlib.Core.Bool.{Bool, true, false, _&&_}
+use mathlib.Core.Bool.{Bool, false}
 use mathlib.Core.Option.{none, some}
 use mathlib.Core.List.{List, [], _∷_, _++_, map}
-use Prim.Native.Nat.{ℕ, _+_, _-_, _*_, _%_, _≤_, _<_}
+use Prim.Native.Nat.{ℕ, _+_, _-_, _≤_, _<_}
 use native.Mathlib.Omega.{arith}
-use lib.Dec.{leb, eqb}
 use lib.ListN.{length, take, drop}
 use lib.Seq.{sets, take-nil, drop-nil}
-use Rattle.lists.specs.Basic.{from}
-use Rattle.lists.proofs.Basic.{from-step, from-none, and-true, leb-true}
 use Rattle.log.specs.declared.entry.LogEntry.{LogEntry}
 use Rattle.log.specs.declared.place.Place.{Place}
 use Rattle.log.specs.declared.place.Home.{Home}
 use Rattle.log.specs.declared.place.Home.the-variants.{At, Full}
 use Rattle.log.specs.Entry.{Entry, asEntry}
-use Rattle.log.specs.Card.{Content, Written, slot, cardLength, segmentsIn}
+use Rattle.log.specs.Card.{Content, Written, segmentsIn}
 use Rattle.log.specs.Store.{Store, after, home, tail, entryStores}
 use Rattle.log.specs.Flush.{ahead, rest}
 use Rattle.log.specs.promises.Within.{Within, asPlace}
+use Rattle.log.proofs.CardLength.{card-small}
 use Rattle.log.proofs.EntryStores.{entry-stores-length}
 use Rattle.log.proofs.LogStores.{going, stores-many}
 use Rattle.log.proofs.Within.{within-home, within-after, home-of-entry, after-of-entry}
-use Rattle.disk.specs.Record.{Record, ringPlace}
-use Rattle.disk.specs.Disk.{Disk, disk, queuedAt, queued}
-use Rattle.disk.specs.Sound.{lengthsRight}
+use Rattle.disk.specs.Record.{Record}
+use Rattle.disk.specs.Disk.{disk}
 use Rattle.disk.specs.Perform.{flowOf}
 use Rattle.disk.specs.Statements.{todo}
-use Rattle.disk.proofs.Queue.{queued-same}
+use Rattle.disk.proofs.Questions.{card-length}
 use Rattle.calls.specs.promises.Flushing.{Flushable}
 use Rattle.calls.proofs.Storing.{several}
-use Rattle.calls.proofs.Draining.{entryHere}
+use Rattle.calls.proofs.Draining.{entryHere, rest as later, entry-here, rest-step, rest-none, queue-whole}
 use Rattle.driver.specs.Stores.{word}
 use Rattle.driver.specs.promises.Listing.{listed, Listable, HeadListable, HeadLists}
 use Rattle.driver.specs.declared.queue.Listed.{Listed}
 use Rattle.driver.specs.declared.queue.Listed.the-variants.{Ended, Behind}
 use Rattle.driver.proofs.Listing.{listed-none, head-ended, head-behind}
-
--- a card that question 1 accepts has 64 segments at most
-pub few-segments : (d : Disk) → lengthsRight d ≡ true → segmentsIn (d .card) ≤ 64
-unfolding lengthsRight cardLength
-few-segments d h =
-    let c = d .card in
-    let (a, _) = and-true (cardLength c && eqb (length (d .queueData)) 8192) (eqb (length (d .journalData)) 15360) h in
-    let (b, _) = and-true (cardLength c) (eqb (length (d .queueData)) 8192) a in
-    leb-true (segmentsIn c) 64 (and-true (eqb (length c % 4096) 0 && leb 1 (segmentsIn c)) (leb (segmentsIn c) 64) b .1)
 
 pub lists-met : (n : ℕ) (p : Place) (e f : Entry Written) (k m at : ℕ) (x : List ℕ) (l : Listed) (x′ : List ℕ) → e ≡ f → HeadLists n p e k m at x l x′ → HeadLists n p f k m at x l x′
 lists-met n p e f k m at x l x′ i = subst (λ (y : Entry Written). HeadLists n p y k m at x l x′) i
@@ -105,26 +93,13 @@ module _ (d : Content) (z : length d ≡ 256) (t : Bool) (e : LogEntry) (n : ℕ
 
 -- The queue, of which at most m stores are listed in the buffer x from the place p on.
 module _ (c q : List ℕ) (r : Record) (p : Place) (m : ℕ) (x : List ℕ) where
-  -- the entries when i are listed
-  unfoldable pub later : ℕ → List (Entry Written)
-  later i = from (queuedAt (disk c q [] r)) i (r .ring .len - i)
-
-  entry-here : (i : ℕ) → queuedAt (disk c q [] r) i ≡ entryHere q r i
-  unfolding queuedAt slot
-  entry-here i = let e : 256 * ringPlace r i + 256 - 256 * ringPlace r i ≡ 256 = omega arith in rw e
-
-  later-step : (i : ℕ) → i < r .ring .len → later i ≡ entryHere q r i ∷ later (i + 1)
-  unfolding later
-  later-step i l = from-step (queuedAt (disk c q [] r)) i (r .ring .len) l ∙ rw (entry-here i)
-
   unfoldable pub whole : ℕ × List ℕ
-  whole = listed 0 (take m (drop (r .ring .done) (ahead (segmentsIn c) p (later 0)))) x
+  whole = listed 0 (take m (drop (r .ring .done) (ahead (segmentsIn c) p (later c q r 0)))) x
 
   pub whole-todo : (j : List ℕ) → p ≡ tail c → listed 0 (take m (todo (disk c q j r))) x ≡ whole
-  unfolding todo rest flowOf whole later queued
+  unfolding todo rest flowOf whole
   whole-todo j t =
-      let e : r .ring .len ≡ r .ring .len - 0 = omega arith in
-      let s : queued (disk c q j r) ≡ later 0 = queued-same (disk c q [] r) (disk c q j r) refl refl refl refl ∙ ap (from (queuedAt (disk c q [] r)) 0) e in
+      let s = queue-whole c q r j in
       (λ i. listed 0 (take m (drop (r .ring .done) (ahead (segmentsIn c) (sym t i) (s i)))) x)
 
   -- `gone` entries are listed, k stores of the next one are made, and `at` words stand in the buffer; the log goes on at p′
@@ -134,7 +109,7 @@ module _ (c q : List ℕ) (r : Record) (p : Place) (m : ℕ) (x : List ℕ) wher
     pub within : Within p′
     pub inside : p′ .segment < segmentsIn c
     pub begun : gone < r .ring .len → k < length (entryStores p′ (entryHere q r gone))
-    pub onward : listed at (take (m - at) (drop k (ahead (segmentsIn c) p′ (later gone)))) x′ ≡ whole
+    pub onward : listed at (take (m - at) (drop k (ahead (segmentsIn c) p′ (later c q r gone)))) x′ ≡ whole
 
   pub going-start : Flushable c q r p → Going x p (r .ring .done) 0 0
   unfolding whole
@@ -145,27 +120,27 @@ module _ (c q : List ℕ) (r : Record) (p : Place) (m : ℕ) (x : List ℕ) wher
         size = refl;
         within = f .within;
         inside = f .inside;
-        begun = λ l. rw (entry-here 0) at (f .begun l);
+        begun = λ l. rw (entry-here c q r 0) at (f .begun l);
         onward = rw i;
       }
 
   module _ (x′ : List ℕ) (p′ : Place) (k at gone : ℕ) (g : Going x′ p′ k at gone) where
     pub whole-drained : r .ring .len ≤ gone → whole ≡ (at, x′)
-    unfolding later ahead
+    unfolding ahead
     whole-drained l =
         sym (g .onward)
-        ∙ ap (λ (es : List (Entry Written)). listed at (take (m - at) (drop k (ahead (segmentsIn c) p′ es))) x′) (from-none (queuedAt (disk c q [] r)) gone (r .ring .len) l)
+        ∙ ap (λ (es : List (Entry Written)). listed at (take (m - at) (drop k (ahead (segmentsIn c) p′ es))) x′) (rest-none c q r gone l)
         ∙ ap (λ (ss : List Store). listed at (take (m - at) ss) x′) (drop-nil k) ∙ ap (λ (ss : List Store). listed at ss x′) (take-nil (m - at)) ∙ listed-none at x′
 
     module _ (l : gone < r .ring .len) where
       pub going-head : Flushable c q r p → HeadListable (segmentsIn c) p′ (entryHere q r gone) k
-      going-head f = record { few = few-segments (disk c q (f .journalData) r) (f .lengths); within = g .within; inside = g .inside; left = g .begun l }
+      going-head f = record { few = card-small c (card-length (disk c q (f .journalData) r) (f .lengths)) .1; within = g .within; inside = g .inside; left = g .begun l }
 
-      whole-here : whole ≡ listed at (take (m - at) (drop k (ahead (segmentsIn c) p′ (entryHere q r gone ∷ later (gone + 1))))) x′
-      whole-here = sym (g .onward) ∙ ap (λ (es : List (Entry Written)). listed at (take (m - at) (drop k (ahead (segmentsIn c) p′ es))) x′) (later-step gone l)
+      whole-here : whole ≡ listed at (take (m - at) (drop k (ahead (segmentsIn c) p′ (entryHere q r gone ∷ later c q r (gone + 1))))) x′
+      whole-here = sym (g .onward) ∙ ap (λ (es : List (Entry Written)). listed at (take (m - at) (drop k (ahead (segmentsIn c) p′ es))) x′) (rest-step c q r gone l)
 
       pub whole-ended : (t : ℕ) (x″ : List ℕ) → HeadLists (segmentsIn c) p′ (entryHere q r gone) k m at x′ (Ended t) x″ → whole ≡ (t, x″)
-      whole-ended t x″ h = whole-here ∙ h (later (gone + 1))
+      whole-ended t x″ h = whole-here ∙ h (later c q r (gone + 1))
 
       pub going-on : (p″ : Place) (t : ℕ) (x″ : List ℕ) → length x″ ≡ length x′ → HeadLists (segmentsIn c) p′ (entryHere q r gone) k m at x′ (Behind p″ t) x″ → Going x″ p″ 0 t (gone + 1)
       going-on p″ t x″ s h = record {
@@ -174,5 +149,5 @@ module _ (c q : List ℕ) (r : Record) (p : Place) (m : ℕ) (x : List ℕ) wher
         within = h .within;
         inside = h .inside;
         begun = λ n. omega (arith, entry-stores-length p″ (entryHere q r (gone + 1)));
-        onward = sym (whole-here ∙ h .onward (later (gone + 1)));
+        onward = sym (whole-here ∙ h .onward (later c q r (gone + 1)));
       }

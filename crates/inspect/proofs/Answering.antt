@@ -1,6 +1,6 @@
 -- Question 3 by its parts: the clauses that the record decides, and those behind the log, asked at locations.
 use mathlib.Core.Path.{_≡_, refl, ap, _∙_}
-use mathlib.Core.Bool.{Bool, true, false, _&&_}
+use mathlib.Core.Bool.{Bool, true, false, _&&_, and-false}
 use mathlib.Core.Option.{Option, none, some, Option·map}
 use mathlib.Core.List.{List, [], _∷_, _++_, map}
 use Prim.Native.Nat.{ℕ, zero, suc, _-_}
@@ -23,7 +23,6 @@ use Rattle.disk.specs.Sound.{isOpenUnit, journalSound, unitSound, holderSound, 
 use Rattle.inspect.specs.promises.Located.{contents, queuedSaid, queueSaid, queueHere}
 use Rattle.inspect.specs.promises.Clauses.{numbersRight, changeRight, changeIn, unitRight, unitsRight, openUnit, holderRight, holdersRight, dueTimes, listedRight, allListed, lawful, rowsOf, settledRight}
 use Rattle.inspect.specs.promises.Inspect.{behindLog}
-use Rattle.inspect.proofs.Judging.{and-no}
 use Rattle.inspect.proofs.Locating.{committed-here, some-map}
 
 -- two tests that agree
@@ -95,7 +94,7 @@ module _ (d : Disk) where
   -- A card with a fault.
   pub fault-behind : (g i : ℕ) → mounted (d .card) ≡ fault g i → behindLog d ≡ false
   unfolding behindLog each committedReader readerOf isSome
-  fault-behind g i e = rw e (and-no (all (λ e. legal (raw 0 e)) (queued d)))
+  fault-behind g i e = rw e (and-false (all (λ e. legal (raw 0 e)) (queued d)))
 
   -- A card whose log leads to reader x.
   module _ (x : Reader ℕ) (l : cardLength (d .card) ≡ true) (w : walkCard cardNumber (d .card) ≡ sound x) where

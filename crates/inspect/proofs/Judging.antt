@@ -1,7 +1,7 @@
 -- A loop that tests one element after the other; what the tests of units and holders say of the record's clauses.
 use mathlib.Core.Path.{_≡_, refl, sym, ap, _∙_}
 use mathlib.Core.Logic.{_≢_, inl, inr}
-use mathlib.Core.Bool.{Bool, true, false, _&&_, false≢true}
+use mathlib.Core.Bool.{Bool, true, false, _&&_, and-true as and-yes, and-false, false≢true}
 use mathlib.Core.List.{List, [], _∷_}
 use Prim.Native.Nat.{ℕ, _+_, _-_, _≤_, _<_}
 use native.Mathlib.Omega.{arith}
@@ -24,17 +24,9 @@ use Rattle.disk.specs.Record.{Unit, Record, unitAt, isOpen, holderOf, unitCount
 use Rattle.disk.specs.Sound.{orderSound}
 use Rattle.inspect.specs.promises.Clauses.{numbersRight, changeRight, changeIn, unitRight, unitsRight, openUnit, holderRight, holdersRight}
 
-pub and-yes : (b : Bool) → b && true ≡ b
-and-yes true = refl
-and-yes false = refl
-
 pub and-behind : (a b c : Bool) → a && b && c ≡ a && (b && c)
 and-behind true b c = refl
 and-behind false b c = refl
-
-pub and-no : (b : Bool) → b && false ≡ false
-and-no true = refl
-and-no false = refl
 
 -- n elements, of which those before i pass
 module _ {A : Type 0} (p : A → Bool) (f : ℕ → A) (n i : ℕ) where
@@ -96,7 +88,7 @@ module _ (hs : List ℕ) (x : Unit) (u : ℕ) where
 
   pub unit-wide : 16 < x .window → false ≡ unitRight hs x u
   unfolding unitRight each
-  unit-wide l = rw (gt-false (x .window) 16 l) (sym (and-no (leb (x .len) 15)))
+  unit-wide l = rw (gt-false (x .window) 16 l) (sym (and-false (leb (x .len) 15)))
 
   pub unit-closed : x .window ≤ 16 → isOpen x ≡ false → eqb (x .len) 0 ≡ unitRight hs x u
   unfolding unitRight each all from
@@ -104,7 +96,7 @@ module _ (hs : List ℕ) (x : Unit) (u : ℕ) where
     where
       go : (b : Bool) → eqb (x .len) 0 ≡ b → b ≡ leb (x .len) 15 && (b && (all (changeRight hs u) (from (changeIn x) 0 (x .len)) && true))
       go true e = let z = eqb-true (x .len) 0 e in rw z
-      go false e = sym (and-no (leb (x .len) 15))
+      go false e = sym (and-false (leb (x .len) 15))
 
   pub unit-open : x .len ≤ 15 → x .window ≤ 16 → isOpen x ≡ true → all (changeRight hs u) (from (changeIn x) 0 (x .len)) ≡ unitRight hs x u
   unfolding unitRight each
@@ -150,7 +142,7 @@ module _ (r : Record) (rs : List (Row ℕ)) (b h : ℕ) (e : holderOf r b ≡ h)
 
   pub held-used : h ≢ 0 → inUse b rs ≡ true → holderRight r rs b ≡ false
   unfolding holderRight
-  held-used n k = rw (e, eqb-false h 0 n, k) (and-no (openUnit r h))
+  held-used n k = rw (e, eqb-false h 0 n, k) (and-false (openUnit r h))
 
   pub held-well : h ≢ 0 → openUnit r h ≡ true → inUse b rs ≡ false → holderRight r rs b ≡ true
   unfolding holderRight

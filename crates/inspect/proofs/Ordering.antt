@@ -1,7 +1,7 @@
 -- The order of the free numbers as loops read it: its places one by one, and how often each number is listed, counted in a table.
 use mathlib.Core.Path.{_≡_, refl, sym, ap, _∙_}
 use mathlib.Core.Logic.{_≢_}
-use mathlib.Core.Bool.{Bool, true, false, _&&_, not, cond}
+use mathlib.Core.Bool.{Bool, true, false, _&&_, not, cond, and-false}
 use mathlib.Core.List.{List, [], _∷_}
 use Prim.Native.Nat.{ℕ, zero, suc, _+_, _-_, _≤_, _<_}
 use native.Mathlib.Omega.{arith}
@@ -21,7 +21,7 @@ use Rattle.lists.proofs.Times.{times-append, times-here, times-other}
 use Rattle.disk.specs.Record.{Record, recordIn, bytesIn, holderOf, listedIn}
 use Rattle.disk.specs.Sound.{orderSound}
 use Rattle.inspect.specs.promises.Clauses.{dueTimes, listedRight, allListed}
-use Rattle.inspect.proofs.Judging.{and-no, and-behind, from-one}
+use Rattle.inspect.proofs.Judging.{and-behind, from-one}
 
 pub order-length : (bs : List ℕ) → length (recordIn bs .tally .order) ≡ 80
 unfolding recordIn bytesIn
@@ -112,7 +112,7 @@ module _ (xs : List ℕ) (k : ℕ) (seen : List ℕ) (h : Counted xs k seen) whe
 module _ (r : Record) (rs : List (Row ℕ)) (n : ℕ) where
   pub due-held : holderOf r n ≢ 0 → 0 ≡ dueTimes r rs n
   unfolding dueTimes
-  due-held h = rw (eqb-false (holderOf r n) 0 h, and-no (not (inUse n rs)))
+  due-held h = rw (eqb-false (holderOf r n) 0 h, and-false (not (inUse n rs)))
 
   pub due-used : inUse n rs ≡ true → 0 ≡ dueTimes r rs n
   unfolding dueTimes

@@ -1,6 +1,6 @@
 -- The queue fed behind the log entry by entry: what is left of it leads from the reader that the tables keep to where all of it leads.
-use mathlib.Core.Path.{_≡_, refl, ap, _∙_}
-use mathlib.Core.Bool.{Bool, true, false, _&&_}
+use mathlib.Core.Path.{_≡_, ap, _∙_}
+use mathlib.Core.Bool.{Bool, true, false, _&&_, and-false}
 use mathlib.Core.Option.{Option, none, some}
 use mathlib.Core.List.{List, [], _∷_}
 use Prim.Native.Nat.{ℕ, _+_, _-_, _≤_, _<_}
@@ -61,11 +61,7 @@ module _ (r : Record) (x : Reader ℕ) (k n : ℕ) (m : Memory) (fed : FedUpTo r
 
   pub fed-refused : k < r .ring .len → read (fed .reader) (fedAt r k) ≡ none → lawful (queueSaid r) && isSome (replay x (queueHere r)) ≡ false
   unfolding isSome
-  fed-refused l e = rw (step-replays l none e) (go (lawful (queueSaid r)))
-    where
-      go : (b : Bool) → b && false ≡ false
-      go true = refl
-      go false = refl
+  fed-refused l e = rw (step-replays l none e) (and-false (lawful (queueSaid r)))
 
   pub fed-more : k < r .ring .len → lawAt ≡ true → (n′ : ℕ) (m′ : Memory) (y : Reader ℕ) → read (fed .reader) (fedAt r k) ≡ some y → Keeps m′ n′ y → FedUpTo r x (k + 1) n′ m′
   fed-more l h n′ m′ y e q = record {

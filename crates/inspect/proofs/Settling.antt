@@ -1,6 +1,6 @@
 -- The clauses behind the log, one after the other: what each way of asking them leaves.
 use mathlib.Core.Path.{_≡_, refl, sym, ap, _∙_}
-use mathlib.Core.Bool.{Bool, true, false, _&&_, true≢false, false≢true}
+use mathlib.Core.Bool.{Bool, true, false, _&&_, and-true as and-yes, true≢false, false≢true}
 use mathlib.Core.Option.{some, Option·some-injective}
 use mathlib.Core.List.{List, []}
 use Prim.Native.Nat.{ℕ}
@@ -14,7 +14,6 @@ use Rattle.disk.specs.Disk.{disk, queued}
 use Rattle.disk.specs.Sound.{headStanding}
 use Rattle.inspect.specs.promises.Located.{queueSaid, queueHere}
 use Rattle.inspect.specs.promises.Clauses.{holdersRight, allListed, lawful, Replays, settledRight, Settles}
-use Rattle.inspect.proofs.Judging.{and-yes}
 
 both-false : (a b c : Bool) → a && b ≡ false → false ≡ a && (b && c)
 both-false true true c h = absurd (true≢false h)

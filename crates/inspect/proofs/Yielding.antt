@@ -1,7 +1,7 @@
 -- The numbers that a unit gives up, one after the other: those that are left join the order as it is where all of them join it as it was.
 use mathlib.Core.Path.{_≡_, refl, sym, ap, _∙_}
 use mathlib.Core.Logic.{_≢_}
-use mathlib.Core.Bool.{Bool, true, false, _&&_, not, cond}
+use mathlib.Core.Bool.{Bool, true, false, _&&_, not, cond, and-false}
 use mathlib.Core.List.{List, _∷_}
 use Prim.Native.Nat.{ℕ, _+_, _-_, _≤_, _<_}
 use native.Mathlib.Omega.{arith}
@@ -17,7 +17,7 @@ use Rattle.disk.specs.Perform.{givenUp}
 use Rattle.disk.specs.promises.Listing.{pushed, pushedAll}
 use Rattle.disk.proofs.Listing.{pushed-times}
 use Rattle.inspect.specs.promises.Relisting.{isGivenUp}
-use Rattle.inspect.proofs.Judging.{and-no, from-one}
+use Rattle.inspect.proofs.Judging.{from-one}
 
 -- Number n.
 module _ (u : ℕ) (rs : List (Row ℕ)) (r : Record) (n : ℕ) where
@@ -27,11 +27,11 @@ module _ (u : ℕ) (rs : List (Row ℕ)) (r : Record) (n : ℕ) where
 
   pub given-used : inUse n rs ≡ true → isGivenUp u rs r n ≡ false
   unfolding isGivenUp
-  given-used h = rw (h, and-no (eqb (holderOf r n) u))
+  given-used h = rw (h, and-false (eqb (holderOf r n) u))
 
   pub given-listed : not (eqb (times n (listedIn r)) 0) ≡ true → isGivenUp u rs r n ≡ false
   unfolding isGivenUp
-  given-listed h = rw (not-false (eqb (times n (listedIn r)) 0) h) (and-no (eqb (holderOf r n) u && not (inUse n rs)))
+  given-listed h = rw (not-false (eqb (times n (listedIn r)) 0) h) (and-false (eqb (holderOf r n) u && not (inUse n rs)))
 
   pub given-well : holderOf r n ≡ u → inUse n rs ≡ false → not (eqb (times n (listedIn r)) 0) ≡ false → isGivenUp u rs r n ≡ true
   unfolding isGivenUp

@@ -2,7 +2,7 @@
 -- and that numbers in range, each once, are 80 at most (`fits`). What it needs of a state is that its own free numbers are exact, which holds of every
 -- state that numbered changes lead to (`reached-exact`).
 use mathlib.Core.Path.{_≡_, refl, sym, ap, _∙_}
-use mathlib.Core.Bool.{Bool, true, false, _&&_, not, cond, and-false, false≢true}
+use mathlib.Core.Bool.{Bool, true, false, _&&_, not, cond, and-true as and-yes, and-false, false≢true}
 use mathlib.Core.Option.{some}
 use mathlib.Core.List.{List, [], _∷_, _++_}
 use Prim.Native.Nat.{ℕ, _+_, _≤_}
@@ -34,10 +34,6 @@ all-marked (x ∷ xs) h =
 
 pub fits : (xs : List ℕ) → all isNumber xs ≡ true → ((n : ℕ) → times n xs ≤ 1) → length xs ≤ 80
 fits xs h o = few 80 xs (once-apart xs o) (all-marked xs h)
-
-and-yes : (b : Bool) → b && true ≡ b
-and-yes true = refl
-and-yes false = refl
 
 -- a number that is listed or not is listed once at most
 pub once-most : (b : Bool) → cond b 1 0 ≤ 1

@@ -11,20 +11,10 @@ use Rattle.lists.specs.Change.{Change, takeList, putFirst, putAfter, wri
 use Rattle.lists.specs.State.{Row, State, state, empty, block, row, isRow, taken, applies, insertAfter, onBlocks, at, put, otherBlock, otherRow, changed, freeAfter, apply, applyAll, overlay}
 use Rattle.lists.specs.Lookup.{listNums}
 use Rattle.lists.specs.Takings.{taking, deletes, undeleted, inForce}
-use Rattle.lists.proofs.Basic.{or-both, bind-some, keep-map, keep-all, eqb-same}
+use Rattle.lists.proofs.Basic.{or-both, bind-some, keep-map, keep-all, keep-append, eqb-same}
 use Rattle.lists.proofs.Apply.{apply-some}
 use Rattle.lists.proofs.Count.{at-num, takes}
 use Rattle.lists.proofs.InUse.{taken-changed}
-
--- Elements that pass.
-module _ {A : Type 0} (p : A → Bool) where
-  keep-append : (xs ys : List A) → keep p (xs ++ ys) ≡ keep p xs ++ keep p ys
-  keep-append [] ys = refl
-  keep-append (x ∷ xs) ys = rw (keep-append xs ys) (go (p x))
-    where
-      go : (t : Bool) → cond t (x ∷ keep p xs ++ keep p ys) (keep p xs ++ keep p ys) ≡ cond t (x ∷ keep p xs) (keep p xs) ++ keep p ys
-      go true = refl
-      go false = refl
 
 module _ {D : Type 0} where
   -- One change: what it deletes goes, and what it takes stands last.

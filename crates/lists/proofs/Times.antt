@@ -111,6 +111,13 @@ times-keep p n (x ∷ xs) = go (eqb x n) refl (p x) refl (p n) refl (times-keep 
     go false e true u b v ih = rw e ih
     go false e false u b v ih = ih
 
+-- two tests that agree on what stands there
+pub keep-alike : (p q : ℕ → Bool) (xs : List ℕ) → ((n : ℕ) → 1 ≤ times n xs → p n ≡ q n) → keep p xs ≡ keep q xs
+keep-alike p q [] h = refl
+keep-alike p q (x ∷ xs) h =
+    rw (h x (omega (arith, times-here x xs)))
+    (ap (λ (zs : List ℕ). cond (q x) (x ∷ zs) zs) (keep-alike p q xs (λ n k. h n (omega (arith, times-cons n x xs)))))
+
 -- a list without a number
 abbrev pub without : ℕ → List ℕ → List ℕ
 without n xs = keep (λ m. not (any (λ k. eqb k m) (n ∷ []))) xs

@@ -2,7 +2,7 @@
 use mathlib.Core.Path.{_≡_}
 use mathlib.Core.Bool.{true, _&&_}
 use mathlib.Core.List.{List}
-use Prim.Native.Nat.{ℕ, _*_, _%_, _<_}
+use Prim.Native.Nat.{ℕ, _*_, _%_, _≤_, _<_}
 use native.Mathlib.Omega.{arith}
 use lib.Dec.{leb, eqb}
 use lib.ListN.{length}
@@ -16,6 +16,10 @@ card-size c h =
     let (x, y) = and-true (eqb (length c % 4096) 0) (leb 1 (segmentsIn c)) a in
     let m = eqb-true (length c % 4096) 0 x in
     (omega arith, leb-true 1 (segmentsIn c) y)
+
+pub card-small : (c : List ℕ) → cardLength c ≡ true → (length c ≡ 4096 * segmentsIn c) × (segmentsIn c ≤ 64)
+unfolding cardLength
+card-small c h = (card-size c h .0, leb-true (segmentsIn c) 64 (and-true (eqb (length c % 4096) 0 && leb 1 (segmentsIn c)) (leb (segmentsIn c) 64) h .1))
 
 pub same-length : (c e : List ℕ) → length e ≡ length c → cardLength c ≡ true → cardLength e ≡ true
 unfolding cardLength

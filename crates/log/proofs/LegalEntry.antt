@@ -1,6 +1,6 @@
 -- What makes a declared entry legal, kind by kind.
 use mathlib.Core.Path.{_≡_, refl, sym, ap}
-use mathlib.Core.Bool.{Bool, true, false, _&&_, not, and-true as and-with-true}
+use mathlib.Core.Bool.{Bool, true, false, _&&_, and-true as and-yes}
 use Rattle.log.specs.Entry.{isBlock, isList, isCount, isRace, member, asChange, legal, legalChange, raw, mapEntry, asEntry}
 use Rattle.lists.specs.Change.{mapChange}
 use Rattle.log.specs.declared.entry.LogEntry.{LogEntry}
@@ -21,7 +21,7 @@ unfolding legal legalChange raw mapEntry mapChange asChange
 member-tested (Take l) = refl
 member-tested (PutFirst b l) = refl
 member-tested (PutAfter b l p) = refl
-member-tested (Write b s n) = ap (λ (t : Bool). t && isRace n) (sym (and-with-true (isBlock b)))
+member-tested (Write b s n) = ap (λ (t : Bool). t && isRace n) (sym (and-yes (isBlock b)))
 member-tested (DeleteBlock b) = refl
 member-tested (DeleteList l) = refl
 member-tested (Commit n) = refl

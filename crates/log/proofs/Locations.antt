@@ -16,7 +16,7 @@ use Rattle.log.specs.Reader.{Reader}
 use Rattle.log.specs.promises.Location.{cardLocation, queueLocation, journalLocation, numberAt, cardNumber, bytesAt, contentAt}
 use Rattle.log.proofs.Decode.{decode-complete}
 use Rattle.log.proofs.Naturality.{mapReader, mapOutcome, walkCard-map}
-use Rattle.log.proofs.Walking.{card-small}
+use Rattle.log.proofs.CardLength.{card-small}
 
 -- the bytes of a location
 module _ (c q j : List ℕ) where

@@ -163,6 +163,10 @@ pub record Good (e : Entry Written) : Type 0 where
   pub lawful : legal (raw 0 e) ≡ true
   pub sized : Sized (carried e)
 
+pub plain-sized : (c : Change Written) → Good (plain c) → Sized (carriedBy c)
+unfolding carried
+plain-sized c g = g .sized
+
 pub record At (ess : List (List (Entry Written))) (p : Place) (e : Entry Written) : Type 0 where
   pub inside : p .segment < length ess
   pub behind : p ≡ afterAll (opened (p .segment)) (getD ess (p .segment) [])

@@ -1,22 +1,20 @@
 -- How the walk goes on, segment by segment, and the place behind what it passed.
 use mathlib.Core.Path.{_≡_, refl, sym, ap, _∙_}
 use mathlib.Core.Logic.{_≢_}
-use mathlib.Core.Bool.{true, _&&_}
 use mathlib.Core.Option.{none}
 use mathlib.Core.List.{List, [], _∷_, _++_}
-use Prim.Native.Nat.{ℕ, zero, suc, _+_, _-_, _*_, _%_, _≤_, _<_}
+use Prim.Native.Nat.{ℕ, zero, suc, _+_, _-_, _*_, _≤_, _<_}
 use native.Mathlib.Omega.{arith}
 use native.Mathlib.Numerals.{add-one}
-use lib.Dec.{leb, eqb}
 use lib.ListN.{length, getD}
-use borrow.Author.Tests.{leb-true, lt-ltb, le-ltb, ne-eqb}
+use borrow.Author.Tests.{lt-ltb, le-ltb, ne-eqb}
 use Rattle.lists.specs.State.{empty}
 use Rattle.lists.specs.promises.Tables.{ShowsAll}
-use Rattle.lists.proofs.Basic.{eqb-same, and-true}
+use Rattle.lists.proofs.Basic.{eqb-same}
 use Rattle.log.specs.Raced.{Raced, raced}
-use Rattle.log.specs.Entry.{Entry, mapEntry, entryLength}
+use Rattle.log.specs.Entry.{mapEntry, entryLength}
 use Rattle.log.specs.Reader.{Reader, start}
-use Rattle.log.specs.Card.{cardLength, segmentsIn, cardSlot, cardWritten, count, segmentEntries, segmentItems, Item, good, bad, itemsOf, afterEmpty, items, walk, walkCard, fault}
+use Rattle.log.specs.Card.{segmentsIn, cardSlot, cardWritten, count, segmentEntries, segmentItems, Item, good, bad, itemsOf, afterEmpty, items, walk, walkCard, fault}
 use Rattle.log.specs.promises.Feed.{Memory, Keeps}
 use Rattle.log.specs.promises.Location.{cardNumber}
 use Rattle.log.specs.Store.{opened, after, behind, behindAll, tail}
@@ -25,7 +23,6 @@ use Rattle.log.specs.promises.Walk.{asThere, itemsFrom, Went, seat, Thro
 use Rattle.log.specs.declared.place.Place.{Place}
 use Rattle.log.specs.declared.walk.Cursor.{Cursor}
 use Rattle.log.proofs.Naturality.{entry-id, afterEmpty-map, tail-map}
-use Rattle.log.proofs.CardLength.{card-size}
 use Rattle.log.proofs.Entering.{cursor, items-good}
 
 -- Segment g, which has n entries, passed by reader r up to entry i.
@@ -117,10 +114,6 @@ pub record Upto (c : List ℕ) (n g run : ℕ) (p : Place) (m : Memory) : Type 0
   pub reader : Reader ℕ
   pub kept : Keeps m run reader
   pub walked : walkCard cardNumber c ≡ walk reader (items cardNumber c (n - g) g)
-
-pub card-small : (c : List ℕ) → cardLength c ≡ true → (length c ≡ 4096 * segmentsIn c) × (segmentsIn c ≤ 64)
-unfolding cardLength
-card-small c h = (card-size c h .0, leb-true (segmentsIn c) 64 (and-true (eqb (length c % 4096) 0 && leb 1 (segmentsIn c)) (leb (segmentsIn c) 64) h .1))
 
 pub upto-start : (c : List ℕ) (m : Memory) → ShowsAll (m .tables) empty → length (m .members) ≡ 128 → Upto c (segmentsIn c) 0 0 (opened 0) m
 unfolding walkCard tail opened cardWritten

@@ -9,6 +9,7 @@ use borrow.Author.Needs.{needs}
 use borrow.Author.Tests.{not-true, not-false}
 use Rattle.log.specs.Card.{segmentsIn}
 use Rattle.log.specs.Store.{formatStores}
+use Rattle.log.proofs.CardLength.{card-small}
 use Rattle.disk.specs.declared.answer.Refusal.the-variants.{WrongLength}
 use Rattle.disk.specs.declared.answer.NumberReply.the-variants.{Number, Refused}
 use Rattle.disk.specs.Disk.{Disk, diskIn}
@@ -16,11 +17,11 @@ use Rattle.disk.specs.Sound.{lengthsRight}
 use Rattle.disk.specs.Call.{format}
 use Rattle.disk.specs.Questions.{questions, refusal}
 use Rattle.disk.specs.Answers.{number, numberAnswer}
+use Rattle.disk.proofs.Questions.{card-length}
 use Rattle.calls.proofs.Refusing.{ask-no, last-yes}
 use Rattle.driver.specs.Stores.{storesMade, listStores}
 use Rattle.driver.specs.promises.Listing.{listed}
 use Rattle.driver.proofs.Listing.{lists-accepted, lists-refused}
-use Rattle.driver.proofs.Queueing.{few-segments}
 use Rattle.driver.proofs.format.format_stores.Statement.{statement}
 use Rattle.driver.proofs.format.format_stores.Tie as tie
 
@@ -48,7 +49,7 @@ list-counts-requires c κs =
     let a = c .before .before .before .before .before .before .before .args in
     let d = diskIn (a .card .now) (a .queue-data .now) (a .journal-data .now) (a .rec .now) in
     let l = c .before .before .lengths-right in
-    few-segments d (sym (l .ensures (d .rec)) ∙ not-false (l .result) (c .before .if1 .left))
+    card-small (d .card) (card-length d (sym (l .ensures (d .rec)) ∙ not-false (l .result) (c .before .if1 .left))) .1
 
 same-length : tie.Need-same-length
 same-length c = search needs

@@ -10,7 +10,8 @@ use Rattle.lists.specs.promises.Tables.{Tables, ShowsAll}
 use Rattle.lists.proofs.Emptied.{shows-emptied}
 use Rattle.log.specs.Card.{segmentsIn, count}
 use Rattle.log.specs.promises.Feed.{memory}
-use Rattle.log.proofs.Walking.{Upto, card-small, upto-start, upto-end, upto-empty, upto-used, upto-broken, upto-more}
+use Rattle.log.proofs.CardLength.{card-small}
+use Rattle.log.proofs.Walking.{Upto, upto-start, upto-end, upto-empty, upto-used, upto-broken, upto-more}
 use borrow.Author.Needs.{needs}
 use Rattle.log.proofs.walk.walk.Statement.{statement}
 use Rattle.log.proofs.walk.walk.Tie as tie
