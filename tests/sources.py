@@ -81,5 +81,5 @@ def questions(constructor):
 
 def refusals():
     """The name of each refusal, by its number."""
-    text = (SPECS / "Answers.antt").read_text()
+    text = (CRATES / "answers" / "specs" / "Answers.antt").read_text()
     return {int(number): name for name, number in re.findall(r"^number (\w+) = (\d+)$", text, re.M)}

@@ -23,15 +23,15 @@ use Rattle.log.specs.Entry.{plain, mapEntry, raw, carried, isBlock, isList, asE
 use Rattle.log.specs.Cell.{cellOf}
 use Rattle.disk.specs.Record.{Record, unitAt, listedIn, withListed, appended, journalGrown}
 use Rattle.disk.specs.promises.Listing.{Padded, listedLast, pushedAll, relistedBy}
-use Rattle.disk.specs.declared.answer.Refusal.{Refusal}
-use Rattle.disk.specs.declared.answer.Reply.{Reply}
-use Rattle.disk.specs.declared.answer.Reply.the-variants.{Accepted, Refused}
+use Rattle.answers.specs.declared.Refusal.{Refusal}
+use Rattle.answers.specs.declared.Reply.{Reply}
+use Rattle.answers.specs.declared.Reply.the-variants.{Accepted, Refused}
 use Rattle.disk.specs.Disk.{Disk, withRecord, unitOf, committed, view}
 use Rattle.disk.specs.Sound.{lengthsRight, recordSound}
 use Rattle.disk.specs.Questions.{journalRoom, queueRoom, streamRoom, editQuestions, questions, ask, firstNo, refusal}
 use Rattle.disk.specs.Call.{deleteBlock, deleteList, Call, onStream, destination}
 use Rattle.disk.specs.Perform.{reply, accepted, change, relisted, freed, noted, made, numberGiven, changeFor, enqueue, journalAdd, spliceSome}
-use Rattle.disk.specs.Answers.{number, replyAnswer}
+use Rattle.answers.specs.Answers.{number, replyAnswer}
 use Rattle.disk.proofs.Changes.{Makes, edit-makes}
 use Rattle.disk.proofs.Clauses.{Right, OrderRight, committed-is, right, order-right}
 use Rattle.disk.proofs.ChangeOrder.{made-order}

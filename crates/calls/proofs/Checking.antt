@@ -8,18 +8,18 @@ use lib.Dec.{leb}
 use Rattle.lists.specs.promises.Tables.{Tables}
 use Rattle.lists.proofs.Basic.{and-true, leb-true}
 use Rattle.disk.specs.Record.{isOpen, countOf}
-use Rattle.disk.specs.declared.answer.Refusal.{Refusal}
-use Rattle.disk.specs.declared.answer.Refusal.the-variants.{StreamClosed, OutOfRange, UnitOpen}
+use Rattle.answers.specs.declared.Refusal.{Refusal}
+use Rattle.answers.specs.declared.Refusal.the-variants.{StreamClosed, OutOfRange, UnitOpen}
 use Rattle.disk.specs.Disk.{Disk, unitOf}
 use Rattle.disk.specs.Questions.{streamOpen, isWindow, questions, ask, firstNo, refusal}
 use Rattle.disk.specs.Call.{conflictCount, begin, destination}
 use Rattle.disk.specs.Perform.{accepted, opening}
-use Rattle.disk.specs.Answers.{number, refusedAnswer, acceptedAnswer}
+use Rattle.answers.specs.Answers.{number, refusedAnswer, acceptedAnswer}
 use Rattle.disk.proofs.Questions.{in-range}
 use Rattle.inspect.specs.declared.look.Looked.{Looked}
 use Rattle.inspect.specs.declared.look.Looked.the-variants.{Refused, Seen}
 use Rattle.calls.specs.Performs.{Performs}
-use Rattle.inspect.specs.promises.Clauses.{openUnit}
+use Rattle.disk.specs.Sound.{openUnit}
 use Rattle.inspect.specs.promises.Inspect.{Looks}
 use Rattle.calls.specs.promises.Checks.{Checked, Checks}
 use Rattle.calls.proofs.Refusing.{ask-yes, ask-no, checked, sound-yes, opens, outside, usual-performs-refused, performs-accepted}

@@ -25,12 +25,13 @@ use Rattle.log.proofs.Segment.{carries-walk, carries-segments}
 use Rattle.log.proofs.Sequence.{ReadyHead}
 use Rattle.log.proofs.LogStores.{going}
 use Rattle.disk.specs.Record.{Record, noCell, ringPlace, withFlow}
-use Rattle.disk.specs.declared.answer.FlushReply as reply
+use Rattle.answers.specs.declared.FlushReply as reply
 use Rattle.disk.specs.Disk.{Disk, disk, queuedAt, queued}
 use Rattle.disk.specs.Sound.{lengthsRight, recordSound}
 use Rattle.disk.specs.Call.{flush}
-use Rattle.disk.specs.Perform.{flowOf, flushed, afterFlush, accepted, endingNumber}
-use Rattle.disk.specs.Answers.{flushAnswer}
+use Rattle.disk.specs.Perform.{flowOf, flushed, afterFlush, accepted}
+use Rattle.answers.specs.Answers.{endingNumber}
+use Rattle.answers.specs.Answers.{flushAnswer}
 use Rattle.disk.proofs.Queue.{queued-same}
 use Rattle.disk.proofs.Clauses.{right}
 use Rattle.disk.proofs.Draining.{open-log}

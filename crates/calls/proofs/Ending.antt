@@ -23,16 +23,16 @@ use Rattle.log.specs.Card.{Written, slot, slotBytes, splice}
 use Rattle.log.specs.Entry.{member, commit, mapEntry, carried, raw, legal, legalChange, asChange, asEntry}
 use Rattle.log.specs.Cell.{cellOf, entryIn}
 use Rattle.disk.specs.Record.{Unit, Record, noCell, noUnit, ringPlace, unitAt, appended, conflictCounted}
-use Rattle.disk.specs.declared.answer.Refusal.{Refusal}
-use Rattle.disk.specs.declared.answer.Refusal.the-variants.{Conflict, QueueFull}
-use Rattle.disk.specs.declared.answer.Reply.{Reply}
-use Rattle.disk.specs.declared.answer.Reply.the-variants.{Accepted, Refused}
+use Rattle.answers.specs.declared.Refusal.{Refusal}
+use Rattle.answers.specs.declared.Refusal.the-variants.{Conflict, QueueFull}
+use Rattle.answers.specs.declared.Reply.{Reply}
+use Rattle.answers.specs.declared.Reply.the-variants.{Accepted, Refused}
 use Rattle.disk.specs.Disk.{Disk, disk, unitOf, journalPlace, journalAt, journalOf, listing}
 use Rattle.disk.specs.Call.{end, ends}
 use Rattle.disk.specs.Sound.{lengthsRight, recordSound, isOpenUnit}
 use Rattle.disk.specs.Questions.{endApplies, queueRoom, questions, ask, firstNo, refusal}
 use Rattle.disk.specs.Perform.{spliceSome, enqueue, enqueueAll, unitEntries, relisted, closing, conflicted, reply, accepted, refused}
-use Rattle.disk.specs.Answers.{number, refusedAnswer, replyAnswer}
+use Rattle.answers.specs.Answers.{number, refusedAnswer, replyAnswer}
 use Rattle.disk.specs.promises.Listing.{Padded, relistedAll}
 use Rattle.disk.proofs.Queue.{Beside, beside-all}
 use Rattle.disk.proofs.Journal.{journal-size}

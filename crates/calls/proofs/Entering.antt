@@ -6,12 +6,11 @@ use mathlib.Core.List.{List, [], _∷_, _++_}
 use Prim.Native.Nat.{ℕ}
 use Rattle.lists.specs.promises.Tables.{Tables}
 use Rattle.lists.proofs.Basic.{eqb-false}
-use Rattle.disk.specs.declared.answer.Refusal.{Refusal}
+use Rattle.answers.specs.declared.Refusal.{Refusal}
 use Rattle.disk.specs.Disk.{Disk, unitOf, view}
-use Rattle.disk.specs.Sound.{lengthsRight, recordSound, isOpenUnit}
+use Rattle.disk.specs.Sound.{lengthsRight, recordSound, openUnit}
 use Rattle.disk.specs.Questions.{streamOpen, firstNo}
-use Rattle.disk.specs.Answers.{number}
-use Rattle.inspect.specs.promises.Clauses.{openUnit}
+use Rattle.answers.specs.Answers.{number}
 use Rattle.inspect.specs.promises.Inspect.{Sees}
 use Rattle.calls.specs.promises.Entering.{openFor, Admitted}
 use Rattle.calls.proofs.Checking.{unchecked}
@@ -27,7 +26,7 @@ module _ (stream : Bool) (d : Disk) (s : ℕ) where
   open-zero h z = rw (h, z)
 
   pub open-stream : s ≢ 0 → openFor stream d s ≡ openUnit (d .rec) s
-  unfolding streamOpen isOpenUnit openUnit unitOf
+  unfolding streamOpen
   open-stream z = go stream
     where
       go : (b : Bool) → openFor b d s ≡ openUnit (d .rec) s
@@ -35,7 +34,6 @@ module _ (stream : Bool) (d : Disk) (s : ℕ) where
       go false = refl
 
   pub open-unit : stream ≡ false → openFor stream d s ≡ openUnit (d .rec) s
-  unfolding isOpenUnit openUnit unitOf
   open-unit h = rw h
 
   module _ (t : Tables) (a : Sees false d 0 t) where

@@ -18,16 +18,16 @@ use Rattle.log.specs.declared.entry.LogEntry.the-variants.{Take}
 use Rattle.log.specs.Entry.{mapEntry, raw, isList, asEntry}
 use Rattle.log.specs.Cell.{cellOf}
 use Rattle.disk.specs.Record.{Record, listedIn, holding}
-use Rattle.disk.specs.declared.answer.Refusal.{Refusal}
-use Rattle.disk.specs.declared.answer.Refusal.the-variants.{OutOfRange, ListNotTaken, PredecessorElsewhere, NoNumberFree}
-use Rattle.disk.specs.declared.answer.NumberReply.{NumberReply}
-use Rattle.disk.specs.declared.answer.NumberReply.the-variants.{Number, Refused}
-use Rattle.disk.specs.declared.answer.Reply.the-variants as A
+use Rattle.answers.specs.declared.Refusal.{Refusal}
+use Rattle.answers.specs.declared.Refusal.the-variants.{OutOfRange, ListNotTaken, PredecessorElsewhere, NoNumberFree}
+use Rattle.answers.specs.declared.NumberReply.{NumberReply}
+use Rattle.answers.specs.declared.NumberReply.the-variants.{Number, Refused}
+use Rattle.answers.specs.declared.Reply.the-variants as A
 use Rattle.disk.specs.Disk.{Disk, withRecord}
 use Rattle.disk.specs.Call.{newList, onStream, destination}
 use Rattle.disk.specs.Questions.{firstFree, freeList, editQuestions, questions, firstNo, refusal}
 use Rattle.disk.specs.Perform.{accepted, hold, relisted, given as givenOut, noted, made, numberGiven, changeFor}
-use Rattle.disk.specs.Answers.{number, numberAnswer}
+use Rattle.answers.specs.Answers.{number, numberAnswer}
 use Rattle.disk.specs.promises.Listing.{Padded, unlisted}
 use Rattle.disk.proofs.Questions.{first-free}
 use Rattle.disk.proofs.Listing.{padded-same}

@@ -17,14 +17,14 @@ use Rattle.log.specs.Entry.{isList}
 use Rattle.text.specs.Written.{written, Puts}
 use Rattle.listing.specs.Page.{pageText}
 use Rattle.listing.proofs.Pages.{page-map}
-use Rattle.disk.specs.declared.answer.Refusal.{Refusal}
-use Rattle.disk.specs.declared.answer.Refusal.the-variants.{OutOfRange, ListNotTaken, PredecessorElsewhere, BufferTooShort}
-use Rattle.disk.specs.declared.answer.NumberReply as N
+use Rattle.answers.specs.declared.Refusal.{Refusal}
+use Rattle.answers.specs.declared.Refusal.the-variants.{OutOfRange, ListNotTaken, PredecessorElsewhere, BufferTooShort}
+use Rattle.answers.specs.declared.NumberReply as N
 use Rattle.disk.specs.Disk.{Disk, view}
 use Rattle.disk.specs.Call.{blockAfter, inventory, page, inView, lentTo, destination}
 use Rattle.disk.specs.Questions.{predecessorRight, lookQuestions, questions, refusal}
 use Rattle.disk.specs.Perform.{found, accepted}
-use Rattle.disk.specs.Answers.{number, numberAnswer}
+use Rattle.answers.specs.Answers.{number, numberAnswer}
 use Rattle.calls.specs.Performs.{Performs}
 use Rattle.inspect.specs.promises.Inspect.{Sees}
 use Rattle.inspect.specs.promises.Located.{contents}

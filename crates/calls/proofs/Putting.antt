@@ -16,14 +16,14 @@ use Rattle.lists.proofs.Naturality.{taken-map, onList-map}
 use Rattle.log.specs.Entry.{isList, member, mapEntry, raw, legal, asEntry}
 use Rattle.log.specs.Cell.{cellOf}
 use Rattle.disk.specs.Record.{Record, listedIn, unitAt}
-use Rattle.disk.specs.declared.answer.NumberReply.{NumberReply}
-use Rattle.disk.specs.declared.answer.NumberReply.the-variants.{Number, Refused}
+use Rattle.answers.specs.declared.NumberReply.{NumberReply}
+use Rattle.answers.specs.declared.NumberReply.the-variants.{Number, Refused}
 use Rattle.disk.specs.Disk.{Disk, withRecord, unitOf, journalOf, committed, view}
 use Rattle.disk.specs.Call.{newBlock, onStream, destination}
 use Rattle.disk.specs.Sound.{lengthsRight, recordSound, isOpenUnit}
 use Rattle.disk.specs.Questions.{streamOpen, freeBlock, predecessorRight, editQuestions, questions, firstNo, refusal}
 use Rattle.disk.specs.Perform.{accepted, change, hold, relisted, given, noted, made, putAt, numberGiven, changeFor}
-use Rattle.disk.specs.Answers.{numberAnswer}
+use Rattle.answers.specs.Answers.{numberAnswer}
 use Rattle.disk.proofs.Questions.{unit-range}
 use Rattle.disk.specs.promises.Listing.{Padded}
 use Rattle.disk.proofs.Clauses.{right}

@@ -13,14 +13,14 @@ use Rattle.lists.specs.Lookup.{contentOf, written}
 use Rattle.lists.specs.promises.Tables.{Tables, IsBlock, OfShown, locatedAt}
 use Rattle.lists.proofs.Basic.{and-true, leb-true, eqb-true}
 use Rattle.log.specs.Entry.{isBlock}
-use Rattle.disk.specs.declared.answer.Refusal.{Refusal}
-use Rattle.disk.specs.declared.answer.Refusal.the-variants.{OutOfRange, BlockNotPlaced, Unwritten}
-use Rattle.disk.specs.declared.answer.ReadReply as R
+use Rattle.answers.specs.declared.Refusal.{Refusal}
+use Rattle.answers.specs.declared.Refusal.the-variants.{OutOfRange, BlockNotPlaced, Unwritten}
+use Rattle.answers.specs.declared.ReadReply as R
 use Rattle.disk.specs.Disk.{Disk, view}
 use Rattle.disk.specs.Call.{readBlock, inView, lentTo, destination}
 use Rattle.disk.specs.Questions.{lookQuestions, questions, refusal}
 use Rattle.disk.specs.Perform.{readTo, found, accepted}
-use Rattle.disk.specs.Answers.{number, readAnswer}
+use Rattle.answers.specs.Answers.{number, readAnswer}
 use Rattle.disk.proofs.Contents.{view-sized}
 use Rattle.calls.specs.Performs.{Performs}
 use Rattle.inspect.specs.promises.Located.{contents}

@@ -10,14 +10,14 @@ use lib.Dec.{leb, eqb}
 use Rattle.lists.specs.promises.Tables.{Tables, IsList}
 use Rattle.lists.proofs.Basic.{and-true, or-cases, leb-true, eqb-true, eqb-false, gt-false}
 use Rattle.log.specs.Entry.{isList}
-use Rattle.disk.specs.declared.answer.Refusal.{Refusal}
-use Rattle.disk.specs.declared.answer.Refusal.the-variants.{WrongLength, LogFault, RecordUnsound, StreamClosed, OutOfRange, UnitOpen, ListNotTaken, BlockNotPlaced, PredecessorElsewhere, NoNumberFree, JournalFull, Conflict, QueueFull, BufferTooShort, Unwritten}
+use Rattle.answers.specs.declared.Refusal.{Refusal}
+use Rattle.answers.specs.declared.Refusal.the-variants.{WrongLength, LogFault, RecordUnsound, StreamClosed, OutOfRange, UnitOpen, ListNotTaken, BlockNotPlaced, PredecessorElsewhere, NoNumberFree, JournalFull, Conflict, QueueFull, BufferTooShort, Unwritten}
 use Rattle.disk.specs.Disk.{Disk, view}
 use Rattle.disk.specs.Sound.{lengthsRight, recordSound, isOpenUnit}
 use Rattle.disk.specs.Questions.{streamOpen, editQuestions, lookQuestions, questions, ask, firstNo, refusal}
 use Rattle.disk.specs.Call.{Edit, Look, Call, format, mount, conflictCount, onStream, inView, begin, end, flush, ends, lentTo, destination}
 use Rattle.disk.specs.Perform.{Result, accepted, refused, refusalAnswer, perform}
-use Rattle.disk.specs.Answers.{number, refusedAnswer}
+use Rattle.answers.specs.Answers.{number, refusedAnswer}
 use Rattle.disk.proofs.Order.{asks, Behind, edit-behind, look-behind, rising-above, asks-above}
 use Rattle.disk.proofs.Questions.{numbered, unit-range}
 use Rattle.disk.proofs.Clauses.{right}

@@ -16,14 +16,14 @@ use Rattle.log.specs.Card.{Content, slotBytes}
 use Rattle.log.specs.Entry.{mapEntry, raw, isBlock, isRace, carried, asEntry}
 use Rattle.log.specs.Cell.{cellOf}
 use Rattle.disk.specs.Record.{Record}
-use Rattle.disk.specs.declared.answer.Refusal.{Refusal}
-use Rattle.disk.specs.declared.answer.Reply.{Reply}
-use Rattle.disk.specs.declared.answer.Reply.the-variants.{Accepted, Refused}
+use Rattle.answers.specs.declared.Refusal.{Refusal}
+use Rattle.answers.specs.declared.Reply.{Reply}
+use Rattle.answers.specs.declared.Reply.the-variants.{Accepted, Refused}
 use Rattle.disk.specs.Disk.{Disk, disk, withRecord, unitOf, view}
 use Rattle.disk.specs.Questions.{journalRoom, editQuestions, questions, refusal}
 use Rattle.disk.specs.Call.{writeBlock, onStream, destination}
 use Rattle.disk.specs.Perform.{accepted, change, noted, made, numberGiven, changeFor, enqueue, journalAdd, spliceSome}
-use Rattle.disk.specs.Answers.{replyAnswer}
+use Rattle.answers.specs.Answers.{replyAnswer}
 use Rattle.disk.proofs.Questions.{yes-all, queue-data, journal-data, journal-room}
 use Rattle.disk.proofs.Clauses.{right}
 use Rattle.calls.specs.Performs.{Performs}

@@ -4,7 +4,8 @@ use mathlib.Core.List.{List, []}
 use Prim.Native.Nat.{ℕ}
 use Rattle.disk.specs.Disk.{Disk, diskIn}
 use Rattle.disk.specs.Call.{Call}
-use Rattle.disk.specs.Perform.{Answer, perform}
+use Rattle.disk.specs.Perform.{perform}
+use Rattle.answers.specs.Answers.{Answer}
 
 -- call c on disk d leaves disk d′ and the lent bytes x, and answers a
 abbrev pub Performs : Call → Disk → Disk → Answer → List ℕ → Type 0

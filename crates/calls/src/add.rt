@@ -1,6 +1,6 @@
 // A change added on a stream.
-use disk::answer::Refusal;
-use disk::answer::Reply;
+use answers::Refusal;
+use answers::Reply;
 use disk::change::append;
 use disk::change::journal;
 use disk::record::RECORD;

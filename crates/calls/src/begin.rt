@@ -1,15 +1,15 @@
 // Begin: a unit opened for a window, its journal empty.
 use crate::check::check;
 use crate::ranges::is_window;
-use disk::answer::Refusal;
-use disk::answer::Reply;
+use answers::Refusal;
+use answers::Reply;
 use disk::change::empty;
 use disk::record::RECORD;
 use disk::record::Record;
 use inspect::look::Looked;
 use inspect::units::is_open;
 ghost use Rattle.disk.specs.Call.{begin as beginOf};
-ghost use Rattle.disk.specs.Answers.{replyAnswer};
+ghost use Rattle.answers.specs.Answers.{replyAnswer};
 ghost use Rattle.calls.specs.Performs.{ChangesRecord};
 
 // Questions: 1 lengths, 3 record, 4 unit, 5 window, 6 closed.

@@ -1,14 +1,14 @@
 // The look-up of a window's conflict count.
 use crate::check::check;
 use crate::ranges::is_window;
-use disk::answer::NumberReply;
-use disk::answer::Refusal;
+use answers::NumberReply;
+use answers::Refusal;
 use disk::record;
 use disk::record::RECORD;
 use inspect::look::Looked;
 ghost use mathlib.Core.List.{[]};
 ghost use Rattle.disk.specs.Call.{conflictCount};
-ghost use Rattle.disk.specs.Answers.{numberAnswer};
+ghost use Rattle.answers.specs.Answers.{numberAnswer};
 ghost use Rattle.calls.specs.Performs.{ChangesNothing};
 
 // Questions: 1 lengths, 3 record, 5 window.

@@ -1,6 +1,6 @@
 // A deletion added on a stream, and the numbers that it frees.
 use crate::add::add;
-use disk::answer::Reply;
+use answers::Reply;
 use disk::free::relist;
 use disk::record::RECORD;
 use lists::tables::UNWRITTEN;

@@ -1,8 +1,8 @@
 // DeleteBlock: a block taken off its list.
 use crate::delete::delete;
 use crate::ranges::is_block;
-use disk::answer::Refusal;
-use disk::answer::Reply;
+use answers::Refusal;
+use answers::Reply;
 use disk::record::RECORD;
 use inspect::look::Looked;
 use inspect::look::look_stream;
@@ -18,7 +18,7 @@ ghost use Rattle.log.specs.Entry.{isBlock};
 ghost use Rattle.disk.specs.Record.{recordIn};
 ghost use Rattle.disk.specs.promises.Listing.{Padded};
 ghost use Rattle.disk.specs.Call.{deleteBlock, onStream};
-ghost use Rattle.disk.specs.Answers.{replyAnswer};
+ghost use Rattle.answers.specs.Answers.{replyAnswer};
 ghost use Rattle.calls.specs.promises.Adds.{DeletesAfter};
 ghost use Rattle.calls.specs.Performs.{ChangesRecord};
 

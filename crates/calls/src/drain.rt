@@ -1,5 +1,5 @@
 // The stores of a flush.
-use disk::answer::FlushReply;
+use answers::FlushReply;
 use disk::change::flow;
 use disk::record;
 use disk::record::RECORD;

@@ -1,7 +1,7 @@
 // End: a unit closed, its journal queued whole or, at a conflict, dropped.
 use crate::enter::enter;
-use disk::answer::Refusal;
-use disk::answer::Reply;
+use answers::Refusal;
+use answers::Reply;
 use disk::change::append;
 use disk::change::count_conflict;
 use disk::change::empty;
@@ -31,7 +31,7 @@ ghost use Rattle.log.specs.Entry.{legal, raw, member, asChange};
 ghost use Rattle.disk.specs.Record.{recordIn, unitAt};
 ghost use Rattle.disk.specs.Disk.{diskIn};
 ghost use Rattle.disk.specs.Call.{end};
-ghost use Rattle.disk.specs.Answers.{replyAnswer};
+ghost use Rattle.answers.specs.Answers.{replyAnswer};
 ghost use Rattle.disk.specs.promises.Listing.{Padded};
 ghost use Rattle.calls.specs.promises.Ending.{closedOver, QueuesMember, Ready, QueuesUnit, Ends};
 ghost use Rattle.calls.specs.Performs.{Performs};

@@ -1,5 +1,5 @@
 // Questions 1, 3 and 4 of a call that needs the committed state.
-use disk::answer::Refusal;
+use answers::Refusal;
 use disk::record::RECORD;
 use inspect::look::Looked;
 use inspect::look::look_committed;

@@ -1,14 +1,14 @@
 // Flush: the queue stored on the card, as far as the allowance and the card go.
 use crate::drain::drain;
-use disk::answer::FlushReply;
-use disk::answer::Refusal;
+use answers::FlushReply;
+use answers::Refusal;
 use disk::record::RECORD;
 use inspect::examine::Examined;
 use inspect::examine::examine;
 ghost use mathlib.Core.List.{[]};
 ghost use Rattle.disk.specs.Disk.{diskIn};
 ghost use Rattle.disk.specs.Call.{flush};
-ghost use Rattle.disk.specs.Answers.{flushAnswer};
+ghost use Rattle.answers.specs.Answers.{flushAnswer};
 ghost use Rattle.calls.specs.Performs.{Performs};
 
 // The largest allowance.

@@ -1,7 +1,7 @@
 // Formatting: the card becomes an empty log, the record a fresh one, in which every number is free.
 use crate::renew::renew_from;
-use disk::answer::Refusal;
-use disk::answer::Reply;
+use answers::Refusal;
+use answers::Reply;
 use disk::record::RECORD;
 use inspect::lengths::lengths_right;
 use lists::tables::clear;
@@ -10,7 +10,7 @@ use log::store::format_stores;
 ghost use mathlib.Core.List.{[]};
 ghost use Rattle.disk.specs.Disk.{diskIn};
 ghost use Rattle.disk.specs.Call.{format};
-ghost use Rattle.disk.specs.Answers.{replyAnswer};
+ghost use Rattle.answers.specs.Answers.{replyAnswer};
 ghost use Rattle.calls.specs.Performs.{Performs};
 
 // Questions: 1 lengths. The record is not looked at.

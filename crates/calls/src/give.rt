@@ -2,9 +2,9 @@
 use crate::add::add;
 use crate::ranges::follows;
 use crate::ranges::is_position;
-use disk::answer::NumberReply;
-use disk::answer::Refusal;
-use disk::answer::Reply;
+use answers::NumberReply;
+use answers::Refusal;
+use answers::Reply;
 use disk::change::hold;
 use disk::free::first_free;
 use disk::free::withdraw;

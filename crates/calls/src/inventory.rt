@@ -1,6 +1,6 @@
 // The look-up of the lists taken.
-use disk::answer::NumberReply;
-use disk::answer::Refusal;
+use answers::NumberReply;
+use answers::Refusal;
 use disk::record::RECORD;
 use inspect::look::Looked;
 use inspect::look::look_view;
@@ -12,7 +12,7 @@ ghost use lib.ListN.{length, drop};
 ghost use Rattle.lists.specs.Lookup.{listNums};
 ghost use Rattle.lists.specs.promises.Tables.{tablesIn, OfShown};
 ghost use Rattle.disk.specs.Call as call;
-ghost use Rattle.disk.specs.Answers.{numberAnswer};
+ghost use Rattle.answers.specs.Answers.{numberAnswer};
 ghost use Rattle.calls.specs.Performs.{ChangesNothing};
 
 const LISTS: usize = LogEntry::LISTS as usize;

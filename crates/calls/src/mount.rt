@@ -1,13 +1,13 @@
 // Mounting: the record becomes a fresh one, if the log is acceptable, with the log's free numbers in the order of their freeing.
 use crate::renew::renew_from;
-use disk::answer::MountReply;
-use disk::answer::Refusal;
+use answers::MountReply;
+use answers::Refusal;
 use disk::record::RECORD;
 use inspect::lengths::data_right;
 use log::mount::Mounted;
 use log::mount::mount_on;
 ghost use Rattle.disk.specs.Call.{mount};
-ghost use Rattle.disk.specs.Answers.{mountAnswer};
+ghost use Rattle.answers.specs.Answers.{mountAnswer};
 ghost use Rattle.calls.specs.Performs.{ChangesRecord};
 
 // Questions: 1 lengths, of which the walk asks the card's, 2 log. The record is not looked at.

@@ -1,11 +1,11 @@
 // NewBlock: a free block put on a list, first or behind another.
 use crate::enter::enter;
 use crate::give::put_free;
-use disk::answer::NumberReply;
+use answers::NumberReply;
 use disk::record::RECORD;
 use inspect::look::Looked;
 ghost use Rattle.disk.specs.Call.{newBlock, onStream};
-ghost use Rattle.disk.specs.Answers.{numberAnswer};
+ghost use Rattle.answers.specs.Answers.{numberAnswer};
 ghost use Rattle.calls.specs.Performs.{ChangesRecord};
 
 // Questions: 1 lengths, 3 record, 4 stream, 5 list and predecessor, 7 list taken, 9 predecessor on it, 10 a free number, 11 journal, 13 queue.

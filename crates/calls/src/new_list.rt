@@ -1,11 +1,11 @@
 // NewList: a free list taken.
 use crate::enter::enter;
 use crate::give::take_list;
-use disk::answer::NumberReply;
+use answers::NumberReply;
 use disk::record::RECORD;
 use inspect::look::Looked;
 ghost use Rattle.disk.specs.Call.{newList, onStream};
-ghost use Rattle.disk.specs.Answers.{numberAnswer};
+ghost use Rattle.answers.specs.Answers.{numberAnswer};
 ghost use Rattle.calls.specs.Performs.{ChangesRecord};
 
 // Questions: 1 lengths, 3 record, 4 stream, 10 a free number, 11 journal, 13 queue.

@@ -1,8 +1,8 @@
 // The look-up of the block after another.
 use crate::ranges::follows;
 use crate::ranges::is_position;
-use disk::answer::NumberReply;
-use disk::answer::Refusal;
+use answers::NumberReply;
+use answers::Refusal;
 use disk::record::RECORD;
 use inspect::look::Looked;
 use inspect::look::look_view;
@@ -10,7 +10,7 @@ use lists::tables::block_after;
 use lists::tables::is_taken;
 ghost use mathlib.Core.List.{[]};
 ghost use Rattle.disk.specs.Call.{blockAfter, inView};
-ghost use Rattle.disk.specs.Answers.{numberAnswer};
+ghost use Rattle.answers.specs.Answers.{numberAnswer};
 ghost use Rattle.calls.specs.Performs.{ChangesNothing};
 
 // The block after a predecessor on a list in a view: 0 stands for the first, and is returned at the end.

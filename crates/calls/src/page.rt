@@ -1,13 +1,13 @@
 // The look-up of the printed page.
-use disk::answer::NumberReply;
-use disk::answer::Refusal;
+use answers::NumberReply;
+use answers::Refusal;
 use disk::record::RECORD;
 use inspect::look::Looked;
 use inspect::look::look_view;
 use listing::page::page_length;
 use listing::page::put_page;
 ghost use Rattle.disk.specs.Call as call;
-ghost use Rattle.disk.specs.Answers.{numberAnswer};
+ghost use Rattle.answers.specs.Answers.{numberAnswer};
 ghost use Rattle.calls.specs.Performs.{ChangesNothing};
 
 // The page of a view goes to the front of the buffer; its length is returned. A buffer of `listing::page::PAGE` bytes is never too short.

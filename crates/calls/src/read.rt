@@ -1,7 +1,7 @@
 // ReadBlock: a block of a view copied to what the caller lends, and its race.
 use crate::ranges::is_block;
-use disk::answer::ReadReply;
-use disk::answer::Refusal;
+use answers::ReadReply;
+use answers::Refusal;
 use disk::record::RECORD;
 use inspect::look::Looked;
 use inspect::look::look_view;
@@ -13,7 +13,7 @@ use log::layout::SLOT;
 use log::legal::both;
 use log::location::race_in;
 ghost use Rattle.disk.specs.Call.{readBlock, inView};
-ghost use Rattle.disk.specs.Answers.{readAnswer};
+ghost use Rattle.answers.specs.Answers.{readAnswer};
 ghost use Rattle.calls.specs.Performs.{ChangesNothing};
 
 // Block b of view v goes to dest.

@@ -2,8 +2,8 @@
 use crate::add::add;
 use crate::ranges::is_block;
 use crate::ranges::is_race;
-use disk::answer::Refusal;
-use disk::answer::Reply;
+use answers::Refusal;
+use answers::Reply;
 use disk::record::RECORD;
 use disk::record::Record;
 use disk::record::Unit;
@@ -31,7 +31,7 @@ ghost use Rattle.log.specs.Entry.{isBlock, isRace};
 ghost use Rattle.disk.specs.Record.{recordIn};
 ghost use Rattle.disk.specs.Disk.{diskIn};
 ghost use Rattle.disk.specs.Call.{writeBlock, onStream};
-ghost use Rattle.disk.specs.Answers.{replyAnswer};
+ghost use Rattle.answers.specs.Answers.{replyAnswer};
 ghost use Rattle.calls.specs.promises.Adds.{AddsAfter, InRange, placeNext, Copies, HasPlace};
 ghost use Rattle.calls.specs.Performs.{Performs};
 

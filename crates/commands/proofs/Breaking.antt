@@ -7,16 +7,16 @@ use lib.ListN.{length, take, drop, replicate, take-append-drop}
 use lib.Seq.{slice}
 use Rattle.lists.proofs.Basic.{eqb-false}
 use Rattle.log.specs.Card.{segmentsIn}
-use Rattle.disk.specs.declared.answer.Refusal.{Refusal}
-use Rattle.disk.specs.declared.answer.Refusal.the-variants.{WrongLength}
-use Rattle.disk.specs.declared.answer.NumberReply.{NumberReply}
-use Rattle.disk.specs.declared.answer.NumberReply.the-variants.{Number, Refused}
+use Rattle.answers.specs.declared.Refusal.{Refusal}
+use Rattle.answers.specs.declared.Refusal.the-variants.{WrongLength}
+use Rattle.answers.specs.declared.NumberReply.{NumberReply}
+use Rattle.answers.specs.declared.NumberReply.the-variants.{Number, Refused}
 use Rattle.disk.specs.Disk.{Disk, diskIn}
 use Rattle.disk.specs.Sound.{lengthsRight}
 use Rattle.disk.specs.Call.{flush, ends}
 use Rattle.disk.specs.Questions.{questions, ask, firstNo, refusal}
 use Rattle.disk.specs.Perform.{Result, refused, formatted}
-use Rattle.disk.specs.Answers.{number, acceptedAnswer, refusedAnswer}
+use Rattle.answers.specs.Answers.{number, acceptedAnswer, refusedAnswer}
 use Rattle.disk.proofs.Performing.{perform-accepted, perform-refused, accepted-code}
 use Rattle.calls.specs.Performs.{Performs}
 use Rattle.calls.proofs.Refusing.{number-nonzero}

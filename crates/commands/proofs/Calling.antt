@@ -4,7 +4,8 @@ use mathlib.Core.List.{List}
 use Prim.Native.Nat.{ℕ}
 use Rattle.disk.specs.Disk.{Disk}
 use Rattle.disk.specs.Call.{Call}
-use Rattle.disk.specs.Perform.{Answer, Result}
+use Rattle.disk.specs.Perform.{Result}
+use Rattle.answers.specs.Answers.{Answer}
 use Rattle.calls.specs.Performs.{Performs}
 use Rattle.text.specs.Written.{Puts}
 use Rattle.commands.specs.Replies.{lineOf}

@@ -17,8 +17,8 @@ use Rattle.disk.specs.Disk.{Disk, view}
 use Rattle.disk.specs.Call.{blockAfter, inView}
 use Rattle.disk.specs.Questions.{viewOpen, questions, refusal}
 use Rattle.disk.specs.Perform.{Result, found, perform, accepted}
-use Rattle.disk.specs.declared.answer.NumberReply as N
-use Rattle.disk.specs.Answers.{numberAnswer}
+use Rattle.answers.specs.declared.NumberReply as N
+use Rattle.answers.specs.Answers.{numberAnswer}
 use Rattle.calls.specs.Performs.{Performs}
 use Rattle.disk.proofs.Questions.{yes-all}
 use Rattle.disk.proofs.Clauses.{Right, right}

@@ -9,13 +9,14 @@ use lib.ListN.{length, take, getD, set, replicate, length-set}
 use lib.Seq.{slice, take-suc, take-set-le, getD-set-same}
 use Rattle.lists.specs.Basic.{joined}
 use Rattle.lists.proofs.Basic.{eqb-false}
-use Rattle.disk.specs.declared.answer.Refusal.{Refusal}
-use Rattle.disk.specs.declared.answer.ReadReply as R
-use Rattle.disk.specs.declared.answer.NumberReply as N
+use Rattle.answers.specs.declared.Refusal.{Refusal}
+use Rattle.answers.specs.declared.ReadReply as R
+use Rattle.answers.specs.declared.NumberReply as N
 use Rattle.disk.specs.Disk.{Disk}
 use Rattle.disk.specs.Call.{readBlock, blockAfter, inventory, inView}
-use Rattle.disk.specs.Perform.{Answer, Result}
-use Rattle.disk.specs.Answers.{number, readAnswer, numberAnswer}
+use Rattle.disk.specs.Perform.{Result}
+use Rattle.answers.specs.Answers.{Answer}
+use Rattle.answers.specs.Answers.{number, readAnswer, numberAnswer}
 use Rattle.calls.specs.Performs.{Performs}
 use Rattle.calls.proofs.Refusing.{number-nonzero}
 use Rattle.script.specs.Lines.{numberLine, blockLine, unwrittenLine}

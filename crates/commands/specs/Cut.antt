@@ -11,9 +11,9 @@ use Rattle.disk.specs.Disk.{Disk}
 use Rattle.disk.specs.Call.{format, flush}
 use Rattle.disk.specs.Questions.{refusal}
 use Rattle.disk.specs.Perform.{perform, formatted}
-use Rattle.disk.specs.declared.answer.NumberReply.{NumberReply}
-use Rattle.disk.specs.declared.answer.NumberReply.the-variants.{Number, Refused}
-use Rattle.disk.specs.Answers.{number}
+use Rattle.answers.specs.declared.NumberReply.{NumberReply}
+use Rattle.answers.specs.declared.NumberReply.the-variants.{Number, Refused}
+use Rattle.answers.specs.Answers.{number}
 use Rattle.crash.specs.Event.{Rest, leaves, putBack}
 use Rattle.text.specs.Written.{Puts}
 use Rattle.script.specs.Spelling.{bytes}

@@ -2,7 +2,8 @@
 use mathlib.Core.List.{List}
 use Prim.Native.Nat.{ℕ}
 use Rattle.disk.specs.Call.{Edit, newList, newBlock, writeBlock, deleteBlock, deleteList, Look, readBlock, blockAfter, inventory, page, Call, format, mount, conflictCount, onStream, inView, begin, end, flush}
-use Rattle.disk.specs.Perform.{Answer, Result}
+use Rattle.disk.specs.Perform.{Result}
+use Rattle.answers.specs.Answers.{Answer}
 use Rattle.script.specs.Lines.{answerLine, numberedLine, mountLine, flushLine, readLine, inventoryLine, pageReply}
 
 -- an edit: the number where one is given

@@ -1,6 +1,6 @@
 // The commands that are calls, on what is lent to them.
 use crate::look::look;
-use disk::answer::Reply;
+use answers::Reply;
 use disk::record::RECORD;
 use script::command::Edit;
 use script::command::Request;
@@ -16,7 +16,7 @@ ghost use mathlib.Core.List.{[], _++_};
 ghost use lib.ListN.{take, replicate};
 ghost use Rattle.disk.specs.Disk.{diskIn};
 ghost use Rattle.disk.specs.Call.{writeBlock, onStream};
-ghost use Rattle.disk.specs.Answers.{replyAnswer};
+ghost use Rattle.answers.specs.Answers.{replyAnswer};
 ghost use Rattle.calls.specs.Performs.{Performs};
 ghost use Rattle.script.specs.Arguments.{textOf};
 ghost use Rattle.commands.specs.Called.{editOf, callOf, dataLent, Calls};

@@ -1,7 +1,7 @@
 // The look-ups in a view; read, the inventory and the page, on so many bytes as are lent to them.
 use crate::state::within;
-use disk::answer::NumberReply;
-use disk::answer::ReadReply;
+use answers::NumberReply;
+use answers::ReadReply;
 use disk::record::RECORD;
 use script::command::Look;
 use script::replies::put_inventory;
@@ -12,7 +12,7 @@ use text::line::part;
 ghost use lib.ListN.{take};
 ghost use Rattle.disk.specs.Disk.{diskIn};
 ghost use Rattle.disk.specs.Call as call;
-ghost use Rattle.disk.specs.Answers.{readAnswer, numberAnswer};
+ghost use Rattle.answers.specs.Answers.{readAnswer, numberAnswer};
 ghost use Rattle.calls.specs.Performs.{Performs};
 ghost use Rattle.commands.specs.Called.{lookOf, bytesLent, Calls};
 

@@ -1,7 +1,7 @@
 // A view, shown by the look-ups.
-use disk::answer::NumberReply;
-use disk::answer::ReadReply;
-use disk::answer::number_of;
+use answers::NumberReply;
+use answers::ReadReply;
+use answers::number_of;
 use disk::record::RECORD;
 use log::entry::LogEntry;
 use script::lines::put_block;

@@ -14,12 +14,13 @@ use Rattle.log.specs.Card.{Written, segmentsIn}
 use Rattle.log.specs.Store.{home}
 use Rattle.log.specs.Flush.{Flow, Ending, drained, full, spent, Next, stored, stopped, storeNext, nextStore, flushFrom}
 use Rattle.log.proofs.Flows.{flowFor}
-use Rattle.disk.specs.declared.answer.FlushReply.the-variants.{Drained}
+use Rattle.answers.specs.declared.FlushReply.the-variants.{Drained}
 use Rattle.disk.specs.Disk.{Disk}
 use Rattle.disk.specs.Call.{format, flush, resets}
 use Rattle.disk.specs.Questions.{refusal}
-use Rattle.disk.specs.Perform.{Answer, Result, endingNumber, flowOf, flushed, accepted, perform}
-use Rattle.disk.specs.Answers.{flushAnswer}
+use Rattle.disk.specs.Perform.{Result, flowOf, flushed, accepted, perform}
+use Rattle.answers.specs.Answers.{Answer, endingNumber}
+use Rattle.answers.specs.Answers.{flushAnswer}
 use Rattle.disk.proofs.Performing.{perform-accepted, perform-refused, refusal-code}
 use Rattle.crash.specs.Event.{Event, called, Parts, lend, lentWhole, isAccepted, answered, mayHappen}
 use Rattle.crash.specs.Book.{Book, Waiting, entriesOf, longest, closingOnCard, onCard, bookFlush, bookAccepted, bookCalled, bookStep}

@@ -16,7 +16,8 @@ use Rattle.disk.specs.Record.{freshRecord}
 use Rattle.disk.specs.Disk.{Disk}
 use Rattle.disk.specs.Call.{Call, format, mount, conflictCount, onStream, inView, begin, end, flush, resets}
 use Rattle.disk.specs.Questions.{questions, refusal}
-use Rattle.disk.specs.Perform.{Answer, flushed, formatted, accepted, refusalAnswer, perform}
+use Rattle.disk.specs.Perform.{flushed, formatted, accepted, refusalAnswer, perform}
+use Rattle.answers.specs.Answers.{Answer}
 use Rattle.disk.proofs.Questions.{yes-all, card-length}
 use Rattle.disk.proofs.Performing.{refusedResult, perform-accepted, perform-refused, accepted-code, refusal-code}
 use Rattle.crash.specs.Event.{Event, called, cutBetween, cutFlush, cutFormat, Parts, World, lend, giveBack, lentWhole, isAccepted, answered, step, mayHappen}

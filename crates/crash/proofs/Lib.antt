@@ -13,7 +13,6 @@ pub mod Joining
 pub mod Calls
 pub mod Refusals
 pub mod Demand3
-pub mod Scenario
 pub mod Covered
 pub mod Unwritten
 pub mod Inventory

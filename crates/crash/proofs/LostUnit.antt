@@ -18,7 +18,8 @@ use Rattle.log.specs.Card.{Written}
 use Rattle.log.specs.Store.{home}
 use Rattle.log.specs.declared.place.Place.{Place}
 use Rattle.disk.specs.Call.{Edit, Call, format, mount, conflictCount, onStream, inView, begin, end, flush, ends, resets}
-use Rattle.disk.specs.Perform.{Answer, changeFor}
+use Rattle.disk.specs.Perform.{changeFor}
+use Rattle.answers.specs.Answers.{Answer}
 use Rattle.crash.specs.Event.{Event, called, cutBetween, cutFlush, cutFormat, isAccepted}
 use Rattle.crash.specs.Book.{Book, Waiting, batchOf, withBatch, joinHistory, join, memberOf, joinUnit, cost, placedEntries, placeOf, bookStore, bookFlush, bookFormat, isNumber, onCard, settle, bookAccepted, bookRefused, bookCalled, bookStep}
 use Rattle.crash.specs.LostUnit.{Fed, own, other, fedAll, without, EndsOther, Unended, loses, LostUnit}

@@ -13,7 +13,8 @@ use Rattle.log.specs.Store.{opened, afterAll, home}
 use Rattle.log.specs.declared.place.Place.{Place}
 use Rattle.disk.specs.Record.{unitCount}
 use Rattle.disk.specs.Call.{Call, format, mount, conflictCount, onStream, inView, begin, end, flush, ends}
-use Rattle.disk.specs.Perform.{Answer, changeFor}
+use Rattle.disk.specs.Perform.{changeFor}
+use Rattle.answers.specs.Answers.{Answer}
 use Rattle.crash.specs.Event.{Event, called, cutBetween, cutFlush, cutFormat}
 
 -- an entry of the serial history: a simple change alone, or a unit's changes as one

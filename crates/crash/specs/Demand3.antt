@@ -16,8 +16,8 @@ use Rattle.disk.specs.Disk.{Disk, view}
 use Rattle.disk.specs.Call.{format, mount, flush}
 use Rattle.disk.specs.Questions.{refusal}
 use Rattle.disk.specs.Perform.{perform}
-use Rattle.disk.specs.declared.answer.FlushReply.the-variants.{Drained}
-use Rattle.disk.specs.Answers.{flushAnswer}
+use Rattle.answers.specs.declared.FlushReply.the-variants.{Drained}
+use Rattle.answers.specs.Answers.{flushAnswer}
 use Rattle.crash.specs.Event.{Event, called, Parts, Rest, World, leaves, answered, step, mayHappen}
 use Rattle.crash.specs.Book.{Book, emptyBook, bookStep, onCard}
 

@@ -10,7 +10,8 @@ use Rattle.disk.specs.Record.{Record}
 use Rattle.disk.specs.Disk.{Disk}
 use Rattle.disk.specs.Call.{Call, format, flush, resets}
 use Rattle.disk.specs.Questions.{refusal}
-use Rattle.disk.specs.Perform.{Answer, Result, perform, flushed, formatted}
+use Rattle.disk.specs.Perform.{Result, perform, flushed, formatted}
+use Rattle.answers.specs.Answers.{Answer}
 
 -- a part of a buffer that a call is lent: where it starts and how long it is
 pub record Part : Type 0 where

@@ -8,7 +8,7 @@ use mathlib.Core.List.{List, [], _∷_}
 use Prim.Native.Nat.{ℕ, _≤_}
 use lib.Dec.{eqb}
 use Rattle.disk.specs.Call.{Edit, onStream, end, ends, resets}
-use Rattle.disk.specs.Perform.{Answer}
+use Rattle.answers.specs.Answers.{Answer}
 use Rattle.crash.specs.Event.{Parts, Event, called, cutBetween, cutFlush, cutFormat, isAccepted}
 use Rattle.crash.specs.Book.{Book, isNumber, bookCalled, bookStep}
 

@@ -12,7 +12,8 @@ use Rattle.disk.specs.Record.{withFlow}
 use Rattle.disk.specs.Disk.{Disk, queued}
 use Rattle.disk.specs.Call.{flush}
 use Rattle.disk.specs.Questions.{questions, firstNo, ask, refusal}
-use Rattle.disk.specs.Perform.{flowOf, flushed, afterFlush, endingNumber, accepted}
+use Rattle.disk.specs.Perform.{flowOf, flushed, afterFlush, accepted}
+use Rattle.answers.specs.Answers.{endingNumber}
 use Rattle.disk.specs.Statements.{FlushSum}
 use Rattle.disk.proofs.Queue.{queue-length}
 use Rattle.disk.proofs.Questions.{yes-all}

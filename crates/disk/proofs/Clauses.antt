@@ -19,7 +19,7 @@ use Rattle.log.specs.Reader.{Reader}
 use Rattle.log.specs.Card.{Written, cardLength}
 use Rattle.disk.specs.Record.{Record, unitAt, holderOf, listedIn, padded, shaped, isOpen}
 use Rattle.disk.specs.Disk.{Disk, queued, unitOf, journalOf, committedReader, stateOf, committed}
-use Rattle.disk.specs.Sound.{lengthsRight, isOpenUnit, journalSound, unitSound, holderSound, orderSound, listedSound, headStanding, recordSound}
+use Rattle.disk.specs.Sound.{lengthsRight, isOpenUnit, journalSound, unitSound, holderSound, orderSound, dueTimes, listedSound, headStanding, recordSound}
 use Rattle.disk.proofs.Questions.{card-length, queue-data, journal-data}
 use Rattle.disk.proofs.Listing.{listed-length}
 
@@ -143,32 +143,32 @@ unfolding unitSound each
 right-unit d u r = rw (le-true (unitOf d u .len) 15 (r .room), le-true (unitOf d u .window) 16 (r .window), closed-unit (isOpen (unitOf d u)) (unitOf d u .len) (r .closed), r .sound)
 
 -- Clauses of a number's holder.
-holder-right : (d : Disk) (s : State Written) (b : ℕ) → committed d ≡ s → holderSound d b ≡ true → HolderRight d s b
+holder-right : (d : Disk) (s : State Written) (b : ℕ) → holderSound (d .rec) (s .lists) b ≡ true → HolderRight d s b
 unfolding holderSound
-holder-right d s b e h = go (or-cases (eqb (holderOf (d .rec) b) 0) _ h)
+holder-right d s b h = go (or-cases (eqb (holderOf (d .rec) b) 0) _ h)
   where
-    go : (eqb (holderOf (d .rec) b) 0 ≡ true) ⊎ (isOpenUnit d (holderOf (d .rec) b) && not (inUse b (committed d .lists)) ≡ true) → HolderRight d s b
+    go : (eqb (holderOf (d .rec) b) 0 ≡ true) ⊎ (isOpenUnit d (holderOf (d .rec) b) && not (inUse b (s .lists)) ≡ true) → HolderRight d s b
     go (inl h) = inl (eqb-true _ 0 h)
     go (inr h) =
         let (o, n) = and-true (isOpenUnit d (holderOf (d .rec) b)) _ h in
-        inr (o, rw (← e) (not-false (inUse b (committed d .lists)) n))
+        inr (o, not-false (inUse b (s .lists)) n)
 
-right-holder : (d : Disk) (s : State Written) (b : ℕ) → committed d ≡ s → HolderRight d s b → holderSound d b ≡ true
+right-holder : (d : Disk) (s : State Written) (b : ℕ) → HolderRight d s b → holderSound (d .rec) (s .lists) b ≡ true
 unfolding holderSound
-right-holder d s b e (inl h) = rw h
-right-holder d s b e (inr h) = rw (e, h .0, h .1) (or-true (eqb (holderOf (d .rec) b) 0))
+right-holder d s b (inl h) = rw h
+right-holder d s b (inr h) = rw (h .0, h .1) (or-true (eqb (holderOf (d .rec) b) 0))
 
 -- Clauses of the units and the holders' table.
-units-right : (d : Disk) (s : State Written) → committed d ≡ s → shaped (d .rec) ≡ true
-    → all (unitSound d) (from (λ u. u) 1 4) ≡ true → all (holderSound d) (from (λ b. b) 1 80) ≡ true → UnitsRight d s
+units-right : (d : Disk) (s : State Written) → shaped (d .rec) ≡ true
+    → all (unitSound d) (from (λ u. u) 1 4) ≡ true → all (holderSound (d .rec) (s .lists)) (from (λ b. b) 1 80) ≡ true → UnitsRight d s
 unfolding unitOf
-units-right d s e h us hs =
+units-right d s h us hs =
     let t = shape (d .rec) h in
     record {
       four = t .units;
       table = t .holder;
       units = λ u p q. unit-right d u (t .journals u p q) (all-from (unitSound d) (λ u. u) 1 4 us u p (omega arith));
-      holders = λ b p q. holder-right d s b e (all-from (holderSound d) (λ b. b) 1 80 hs b p (omega arith));
+      holders = λ b p q. holder-right d s b (all-from (holderSound (d .rec) (s .lists)) (λ b. b) 1 80 hs b p (omega arith));
     }
 
 right-shaped : (d : Disk) (s : State Written) → length (d .rec .ring .queue) ≡ 32 → UnitsRight d s → OrderRight d s → length (d .rec .tally .conflicts) ≡ 16 → shaped (d .rec) ≡ true
@@ -178,8 +178,8 @@ right-shaped d s q k o n = shape-shaped (d .rec) (record { queue = q; units = k 
 right-units : (d : Disk) (s : State Written) → UnitsRight d s → all (unitSound d) (from (λ u. u) 1 4) ≡ true
 right-units d s k = from-all (unitSound d) (λ u. u) 1 4 (λ u p q. right-unit d u (k .units u p (omega arith)))
 
-right-holders : (d : Disk) (s : State Written) → committed d ≡ s → UnitsRight d s → all (holderSound d) (from (λ b. b) 1 80) ≡ true
-right-holders d s e k = from-all (holderSound d) (λ b. b) 1 80 (λ b p q. right-holder d s b e (k .holders b p (omega arith)))
+right-holders : (d : Disk) (s : State Written) → UnitsRight d s → all (holderSound (d .rec) (s .lists)) (from (λ b. b) 1 80) ≡ true
+right-holders d s k = from-all (holderSound (d .rec) (s .lists)) (λ b. b) 1 80 (λ b p q. right-holder d s b (k .holders b p (omega arith)))
 
 -- The questions.
 pub right : (d : Disk) → lengthsRight d ≡ true → recordSound d ≡ true → Right d
@@ -199,7 +199,7 @@ right d l h =
         replays = e;
         stands = each-at _ h 7;
       };
-      units = units-right d (z .state) (committed-is d z e) (each-at _ h 0) (each-at _ h 5) (each-at _ h 8);
+      units = units-right d (z .state) (each-at _ h 0) (each-at _ h 5) (rw (← committed-is d z e) (each-at _ h 8));
       journalData = journal-data d l;
       conflicts = shape r (each-at _ h 0) .counts;
     }
@@ -243,21 +243,21 @@ unfolding orderSound
 order-sound d s k = rw (le-true (d .rec .tally .listed) 80 (k .many), k .range) (padded-zeros (d .rec) (k .many) (k .behind) (listed-length (d .rec) (k .places) (k .many)))
 
 pub order-right : (d : Disk) → recordSound d ≡ true → OrderRight d (committed d)
-unfolding recordSound listedSound allNumbers
+unfolding recordSound listedSound dueTimes allNumbers
 order-right d h = record {
   places = shape (d .rec) (each-at _ h 0) .order;
   many = numbers .0;
   behind = zeros-padded (d .rec) (shape (d .rec) (each-at _ h 0) .order) (numbers .0) (numbers .2);
   range = numbers .1;
-  once = λ n p q. eqb-true _ _ (all-from (listedSound d) (λ b. b) 1 80 (each-at _ h 9) n p (omega arith));
+  once = λ n p q. eqb-true _ _ (all-from (listedSound (d .rec) (committed d .lists)) (λ b. b) 1 80 (each-at _ h 9) n p (omega arith));
 }
   where
     numbers : (d .rec .tally .listed ≤ 80) × (all isNumber (listedIn (d .rec)) ≡ true) × (all (λ n. eqb n 0) (drop (d .rec .tally .listed) (d .rec .tally .order)) ≡ true)
     numbers = order-numbers (d .rec) (each-at _ h 3)
 
-right-order : (d : Disk) (s : State Written) → committed d ≡ s → OrderRight d s → all (listedSound d) allNumbers ≡ true
-unfolding listedSound allNumbers
-right-order d s e k = from-all (listedSound d) (λ b. b) 1 80 (λ n p q. rw e (eq-true _ _ (k .once n p (omega arith))))
+right-order : (d : Disk) (s : State Written) → OrderRight d s → all (listedSound (d .rec) (s .lists)) allNumbers ≡ true
+unfolding listedSound dueTimes allNumbers
+right-order d s k = from-all (listedSound (d .rec) (s .lists)) (λ b. b) 1 80 (λ n p q. eq-true _ _ (k .once n p (omega arith)))
 
 pub right-sound : (d : Disk) (k : Right d) → OrderRight d (k .reader .state) → recordSound d ≡ true
 unfolding recordSound each allNumbers
@@ -268,7 +268,7 @@ right-sound d k o =
     rw (right-shaped d (z .state) (l .places) (k .units) o (k .conflicts), le-true (r .ring .len) 32 (l .room), lt-true (r .ring .head) 32 (l .head))
     (rw (order-sound d (z .state) o)
     (rw (l .lawful, right-units d (z .state) (k .units), is-some (committedReader d) z (l .replays), l .stands)
-    (rw (right-holders d (z .state) (committed-is d z (l .replays)) (k .units), right-order d (z .state) (committed-is d z (l .replays)) o))))
+    (rw (committed-is d z (l .replays), right-holders d (z .state) (k .units), right-order d (z .state) o))))
 
 pub right-lengths : (d : Disk) → Right d → lengthsRight d ≡ true
 unfolding lengthsRight

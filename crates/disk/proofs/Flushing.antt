@@ -14,7 +14,8 @@ use Rattle.log.proofs.Stores.{AllBytes, AllIn}
 use Rattle.disk.specs.Disk.{Disk, queued, persistent, committed, view}
 use Rattle.disk.specs.Call.{flush}
 use Rattle.disk.specs.Questions.{questions, refusal}
-use Rattle.disk.specs.Perform.{Result, flowOf, flushed, accepted, perform, endingNumber}
+use Rattle.disk.specs.Perform.{Result, flowOf, flushed, accepted, perform}
+use Rattle.answers.specs.Answers.{endingNumber}
 use Rattle.disk.specs.Statements.{todo, ReportedStores, CutAfter}
 use Rattle.disk.proofs.Questions.{yes-all}
 use Rattle.disk.proofs.Clauses.{Right, right}

@@ -28,7 +28,7 @@ use Rattle.log.proofs.Places.{Good, plain-sized}
 use Rattle.log.proofs.Flows.{AllGood}
 use Rattle.disk.specs.Record.{noUnit, freshUnit, blankRecord, freshRecord, holderOf, listedIn, withListed, isOpen}
 use Rattle.disk.specs.Disk.{Disk, withRecord, unitOf, journalOf, readerOf, persistent, committed, listing}
-use Rattle.disk.specs.Sound.{isOpenUnit, headStanding}
+use Rattle.disk.specs.Sound.{openUnit, isOpenUnit, headStanding}
 use Rattle.disk.specs.Call.{Edit, format, mount, onStream, begin, end, ends}
 use Rattle.disk.specs.Questions.{mountable, streamOpen, journalRoom, endApplies, queueRoom, streamRoom, questions, refusal}
 use Rattle.disk.specs.Perform.{enqueue, enqueueAll, journalAdd, change, hold, relisted, given, freed, opening, givenUp, closing, noted, made, numberGiven, changeFor, conflicted, unitEntries, formatted, accepted, refused}
@@ -170,7 +170,7 @@ hold-change zero b c d = refl
 hold-change (suc u) b c d = refl
 
 hold-open : (s b : ℕ) (d : Disk) → streamOpen (hold s b d) s ≡ streamOpen d s
-unfolding hold streamOpen isOpenUnit unitOf
+unfolding hold streamOpen openUnit unitOf
 hold-open zero b d = refl
 hold-open (suc u) b d = refl
 

@@ -10,8 +10,6 @@ pub mod Given
 pub mod Fresh
 pub mod Held
 pub mod Changes
-pub mod Computing
-pub mod KnownRuns
 pub mod Growth
 pub mod Units
 pub mod KeepsSound

@@ -15,7 +15,7 @@ use Rattle.lists.proofs.Times.{times-here, times-cons}
 use Rattle.log.specs.Card.{Written, cardLength}
 use Rattle.disk.specs.Record.{isOpen}
 use Rattle.disk.specs.Disk.{Disk, unitOf, journalOf, persistent, committed, view}
-use Rattle.disk.specs.Sound.{lengthsRight, isOpenUnit}
+use Rattle.disk.specs.Sound.{lengthsRight, openUnit, isOpenUnit}
 use Rattle.disk.specs.Call.{Call, format, mount, conflictCount, onStream, inView, begin, end, flush}
 use Rattle.disk.specs.Questions.{streamOpen, viewOpen, journalRoom, queueRoom, streamRoom, firstFree, questions, ask, firstNo, refusal}
 use Rattle.disk.proofs.Order.{asks, edit-behind, look-behind, questions-rise, rising-above}
@@ -102,7 +102,7 @@ module _ (d : Disk) (h : lengthsRight d ≡ true) where
   journal-data = eqb-true _ 15360 (and-true (cardLength (d .card) && eqb (length (d .queueData)) 8192) _ h .1)
 
 pub unit-range : (d : Disk) (u : ℕ) → isOpenUnit d u ≡ true → (1 ≤ u) × (u ≤ 4) × (isOpen (unitOf d u) ≡ true)
-unfolding isOpenUnit
+unfolding openUnit unitOf
 unit-range d u h =
     let (a, o) = and-true (leb 1 u && leb u 4) (isOpen (unitOf d u)) h in
     let (p, q) = and-true (leb 1 u) (leb u 4) a in

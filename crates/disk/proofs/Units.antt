@@ -22,7 +22,7 @@ use Rattle.log.specs.Card.{Written}
 use Rattle.log.proofs.Segment.{Sized}
 use Rattle.disk.specs.Record.{Unit, holderOf, journaled, emptied, released, isOpen, withListed}
 use Rattle.disk.specs.Disk.{Disk, unitOf, journalOf}
-use Rattle.disk.specs.Sound.{isOpenUnit, journalSound}
+use Rattle.disk.specs.Sound.{openUnit, isOpenUnit, journalSound}
 use Rattle.disk.specs.Perform.{journalAdd, hold, relisted, opening, closing}
 use Rattle.disk.proofs.Questions.{unit-range}
 use Rattle.disk.proofs.Journal.{unit-same, unit-added, unit-added-other, unit-opening, unit-opening-other, unit-closing, unit-closing-other, journal-same, journal-add, journal-other, journal-opening, journal-closing, journal-closing-other, journal-hold}
@@ -30,7 +30,7 @@ use Rattle.disk.proofs.Held.{closing-holder, closing-released, hold-hol
 use Rattle.disk.proofs.Clauses.{UnitRight, HolderRight, UnitsRight}
 
 open-unit : (d : Disk) (u : ℕ) → 1 ≤ u → u ≤ 4 → isOpen (unitOf d u) ≡ true → isOpenUnit d u ≡ true
-unfolding isOpenUnit
+unfolding openUnit unitOf
 open-unit d u p q o = rw (le-true 1 u p, le-true u 4 q, o)
 
 -- units that were open are open still

@@ -4,8 +4,6 @@ pub mod Sound
 pub mod Call
 pub mod Questions
 pub mod Perform
-pub mod Answers
-pub mod KnownRuns
 pub mod Statements
 pub mod Rest
 pub mod promises

@@ -16,18 +16,13 @@ use Rattle.log.specs.Entry.{Entry, plain, member, commit, carried}
 use Rattle.log.specs.Cell.{cellOf}
 use Rattle.log.specs.Card.{Written, slotBytes, segmentsIn, Outcome, sound, fault, mounted, splice}
 use Rattle.log.specs.Store.{doStores, formatStores, tail}
-use Rattle.log.specs.Flush.{Flow, Flushed, Ending, drained, full, spent, flushFrom}
+use Rattle.log.specs.Flush.{Flow, Flushed, flushFrom}
+use Rattle.answers.specs.Answers.{Answer, endingNumber}
 use Rattle.listing.specs.Page.{pageText}
 use Rattle.disk.specs.Record.{Record, ringPlace, holderOf, listedIn, withListed, withFlow, appended, journalGrown, unitTurned, holding, releasing, conflictCounted, countOf, freshRecord, queuePlaces}
 use Rattle.disk.specs.Disk.{Disk, withRecord, unitOf, journalPlace, journalOf, queued, persistent, committed, view, listing}
 use Rattle.disk.specs.Call.{Edit, newList, newBlock, writeBlock, deleteBlock, deleteList, Look, readBlock, blockAfter, inventory, page, Call, format, mount, conflictCount, onStream, inView, begin, end, flush, ends, destination}
 use Rattle.disk.specs.Questions.{freeBlock, freeList, refusal}
-
--- the returned numbers: the question's number or 0, and the results
-pub record Answer : Type 0 where
-  pub code : ℕ
-  pub value : ℕ
-  pub second : ℕ
 
 pub record Result : Type 0 where
   pub disk : Disk
@@ -174,12 +169,6 @@ afterFlush d f =
 -- the card after the first k stores of a formatting
 unfoldable pub formatted : ℕ → List ℕ → List ℕ
 formatted k c = doStores (take k (formatStores (segmentsIn c))) c
-
--- our number of an ending: document 01 gives none
-unfoldable pub endingNumber : Ending → ℕ
-endingNumber drained = 0
-endingNumber full = 1
-endingNumber spent = 2
 
 abbrev pub reply : Disk → ℕ → ℕ → List ℕ → Result
 reply d n m x = record { disk = d; answer = record { code = 0; value = n; second = m }; lent = x }

@@ -1,5 +1,4 @@
 // The logical disk above the log: the working record, the views and units, the calls.
-pub mod answer;
 pub mod change;
 pub mod free;
 pub mod record;

@@ -11,12 +11,12 @@ use lib.Seq.{sets, sets-eq, drop-cons, drop-append-le, take-append-le, take-appe
 use Rattle.lists.proofs.Basic.{eqb-false}
 use Rattle.log.specs.Store.{Store, formatStores}
 use Rattle.log.proofs.Formatting.{format-length}
-use Rattle.disk.specs.declared.answer.Refusal.{Refusal}
+use Rattle.answers.specs.declared.Refusal.{Refusal}
 use Rattle.disk.specs.Disk.{Disk}
 use Rattle.disk.specs.Call.{Call}
 use Rattle.disk.specs.Questions.{refusal}
 use Rattle.disk.specs.Perform.{refusalAnswer}
-use Rattle.disk.specs.Answers.{number, refusedAnswer, acceptedAnswer}
+use Rattle.answers.specs.Answers.{number, refusedAnswer, acceptedAnswer}
 use Rattle.calls.proofs.Storing.{several}
 use Rattle.calls.proofs.Refusing.{number-some}
 use Rattle.driver.specs.Stores.{storesMade, word, listStores}

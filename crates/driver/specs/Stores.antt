@@ -9,7 +9,8 @@ use Rattle.log.specs.Store.{Store, doStores, formatStores}
 use Rattle.disk.specs.Disk.{Disk, diskIn}
 use Rattle.disk.specs.Call.{Call, format, mount, conflictCount, onStream, inView, begin, end, flush}
 use Rattle.disk.specs.Questions.{refusal}
-use Rattle.disk.specs.Perform.{Answer, refusalAnswer, perform}
+use Rattle.disk.specs.Perform.{refusalAnswer, perform}
+use Rattle.answers.specs.Answers.{Answer}
 use Rattle.disk.specs.Statements.{todo}
 
 -- the stores that an accepted call makes on the card, in their order

@@ -1,13 +1,13 @@
 // The stores that a flush would make.
 use super::queue::list_queue;
+use answers::NumberReply;
+use answers::Refusal;
 use calls::flush::ALLOWANCE;
-use disk::answer::NumberReply;
-use disk::answer::Refusal;
 use disk::record::RECORD;
 use inspect::examine::Examined;
 use inspect::examine::examine;
 ghost use Rattle.disk.specs.Call.{flush};
-ghost use Rattle.disk.specs.Answers.{numberAnswer};
+ghost use Rattle.answers.specs.Answers.{numberAnswer};
 ghost use Rattle.driver.specs.Stores.{Lists};
 
 // The words of the longest list: a buffer of so many takes those of every flush (`StoresFew` in specs/Stores).

@@ -1,7 +1,7 @@
 // The stores that a formatting would make.
 use super::word::joined;
-use disk::answer::NumberReply;
-use disk::answer::Refusal;
+use answers::NumberReply;
+use answers::Refusal;
 use disk::record::RECORD;
 use inspect::lengths::lengths_right;
 use log::layout::COUNT_AT;
@@ -11,7 +11,7 @@ ghost use Prim.Native.Nat.{_≤_};
 ghost use lib.ListN.{length, take};
 ghost use Rattle.log.specs.Store.{formatStores};
 ghost use Rattle.disk.specs.Call.{format};
-ghost use Rattle.disk.specs.Answers.{numberAnswer};
+ghost use Rattle.answers.specs.Answers.{numberAnswer};
 ghost use Rattle.driver.specs.Stores.{Lists};
 ghost use Rattle.driver.specs.promises.Listing.{listed};
 

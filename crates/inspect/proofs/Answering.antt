@@ -19,9 +19,9 @@ use Rattle.log.specs.promises.Location.{cardNumber}
 use Rattle.log.proofs.Naturality.{mapReader, raw-map}
 use Rattle.disk.specs.Record.{Record, shaped, unitAt, ringPlace, unitCount}
 use Rattle.disk.specs.Disk.{Disk, disk, unitOf, queuedAt, queued, journalPlace, journalAt, journalOf, readerOf, committedReader, stateOf, committed}
-use Rattle.disk.specs.Sound.{isOpenUnit, journalSound, unitSound, holderSound, orderSound, listedSound, headStanding, recordSound}
+use Rattle.disk.specs.Sound.{journalSound, unitSound, holderSound, orderSound, dueTimes, listedSound, headStanding, recordSound}
 use Rattle.inspect.specs.promises.Located.{contents, queuedSaid, queueSaid, queueHere}
-use Rattle.inspect.specs.promises.Clauses.{numbersRight, changeRight, changeIn, unitRight, unitsRight, openUnit, holderRight, holdersRight, dueTimes, listedRight, allListed, lawful, rowsOf, settledRight}
+use Rattle.inspect.specs.promises.Clauses.{numbersRight, changeRight, changeIn, unitRight, unitsRight, lawful, rowsOf, settledRight}
 use Rattle.inspect.specs.promises.Inspect.{behindLog}
 use Rattle.inspect.proofs.Locating.{committed-here, some-map}
 
@@ -84,8 +84,8 @@ module _ (d : Disk) where
       let u = all (unitSound d) (from (λ u. u) 1 unitCount) in
       let s = isSome (committedReader d) in
       let k = headStanding (d .card) (r .ring .done) (queued d) in
-      let o = all (holderSound d) allNumbers in
-      let f = all (listedSound d) allNumbers in
+      let o = all (holderSound r (committed d .lists)) allNumbers in
+      let f = all (listedSound r (committed d .lists)) allNumbers in
       let ns = leb (r .ring .len) 32 ∷ ltb (r .ring .head) 32 ∷ orderSound r ∷ [] in
       ap (λ (b : Bool). b && each (ns ++ l ∷ u ∷ s ∷ k ∷ o ∷ f ∷ [])) h
       ∙ each-append ns (l ∷ u ∷ s ∷ k ∷ o ∷ f ∷ [])
@@ -123,21 +123,21 @@ module _ (d : Disk) where
     unfolding inUse
     used-map n rs = rw (placed-map (contents d) n rs, taken-map (contents d) (n - 64) rs)
 
-    holder-is : (b : ℕ) → holderSound d b ≡ holderRight (d .rec) (rowsOf o) b
-    unfolding holderSound holderRight isOpenUnit openUnit unitOf
+    holder-is : (b : ℕ) → holderSound (d .rec) (committed d .lists) b ≡ holderSound (d .rec) (rowsOf o) b
+    unfolding holderSound
     holder-is b = rw (rows-is, used-map b (rowsOf o))
 
-    holders-is : all (holderSound d) allNumbers ≡ holdersRight (d .rec) (rowsOf o)
-    unfolding holdersRight allNumbers
-    holders-is = all-same (holderSound d) (holderRight (d .rec) (rowsOf o)) (λ n. n) (λ n. n) 1 numberCount holder-is
+    holders-is : all (holderSound (d .rec) (committed d .lists)) allNumbers ≡ all (holderSound (d .rec) (rowsOf o)) allNumbers
+    unfolding allNumbers
+    holders-is = all-same (holderSound (d .rec) (committed d .lists)) (holderSound (d .rec) (rowsOf o)) (λ n. n) (λ n. n) 1 numberCount holder-is
 
-    listed-is : (n : ℕ) → listedSound d n ≡ listedRight (d .rec) (rowsOf o) n
-    unfolding listedSound listedRight dueTimes
+    listed-is : (n : ℕ) → listedSound (d .rec) (committed d .lists) n ≡ listedSound (d .rec) (rowsOf o) n
+    unfolding listedSound dueTimes
     listed-is n = rw (rows-is, used-map n (rowsOf o))
 
-    all-listed-is : all (listedSound d) allNumbers ≡ allListed (d .rec) (rowsOf o)
-    unfolding allListed allNumbers
-    all-listed-is = all-same (listedSound d) (listedRight (d .rec) (rowsOf o)) (λ n. n) (λ n. n) 1 numberCount listed-is
+    all-listed-is : all (listedSound (d .rec) (committed d .lists)) allNumbers ≡ all (listedSound (d .rec) (rowsOf o)) allNumbers
+    unfolding allNumbers
+    all-listed-is = all-same (listedSound (d .rec) (committed d .lists)) (listedSound (d .rec) (rowsOf o)) (λ n. n) (λ n. n) 1 numberCount listed-is
 
     queued-is : queued d ≡ queued (disk (d .card) (d .queueData) [] (d .rec))
     unfolding queued queuedAt

@@ -21,8 +21,8 @@ use Rattle.log.specs.declared.entry.LogEntry.{LogEntry}
 use Rattle.log.specs.declared.entry.LogEntry.the-variants.{Take, PutFirst, PutAfter, Write, DeleteBlock, DeleteList, Commit}
 use Rattle.log.proofs.entry.LogEntry.{the-type}
 use Rattle.disk.specs.Record.{Unit, Record, unitAt, isOpen, holderOf, unitCount}
-use Rattle.disk.specs.Sound.{orderSound}
-use Rattle.inspect.specs.promises.Clauses.{numbersRight, changeRight, changeIn, unitRight, unitsRight, openUnit, holderRight, holdersRight}
+use Rattle.disk.specs.Sound.{openUnit, holderSound, orderSound}
+use Rattle.inspect.specs.promises.Clauses.{numbersRight, changeRight, changeIn, unitRight, unitsRight}
 
 pub and-behind : (a b c : Bool) → a && b && c ≡ a && (b && c)
 and-behind true b c = refl
@@ -132,22 +132,22 @@ numbers-all r =
 
 -- The holder h of number b, over the lists rs.
 module _ (r : Record) (rs : List (Row ℕ)) (b h : ℕ) (e : holderOf r b ≡ h) where
-  pub held-none : h ≡ 0 → holderRight r rs b ≡ true
-  unfolding holderRight
+  pub held-none : h ≡ 0 → holderSound r rs b ≡ true
+  unfolding holderSound
   held-none z = rw (e, z)
 
-  pub held-closed : h ≢ 0 → false ≡ openUnit r h → holderRight r rs b ≡ false
-  unfolding holderRight
+  pub held-closed : h ≢ 0 → false ≡ openUnit r h → holderSound r rs b ≡ false
+  unfolding holderSound
   held-closed n o = rw (e, eqb-false h 0 n, ← o)
 
-  pub held-used : h ≢ 0 → inUse b rs ≡ true → holderRight r rs b ≡ false
-  unfolding holderRight
+  pub held-used : h ≢ 0 → inUse b rs ≡ true → holderSound r rs b ≡ false
+  unfolding holderSound
   held-used n k = rw (e, eqb-false h 0 n, k) (and-false (openUnit r h))
 
-  pub held-well : h ≢ 0 → openUnit r h ≡ true → inUse b rs ≡ false → holderRight r rs b ≡ true
-  unfolding holderRight
+  pub held-well : h ≢ 0 → openUnit r h ≡ true → inUse b rs ≡ false → holderSound r rs b ≡ true
+  unfolding holderSound
   held-well n o k = rw (e, eqb-false h 0 n, o, k)
 
-pub holders-all : (r : Record) (rs : List (Row ℕ)) → all (holderRight r rs) (from (λ i. i + 1) 0 numberCount) ≡ holdersRight r rs
-unfolding holdersRight allNumbers
-holders-all r rs = ap (all (holderRight r rs)) (sym (from-one numberCount))
+pub holders-all : (r : Record) (rs : List (Row ℕ)) → all (holderSound r rs) (from (λ i. i + 1) 0 numberCount) ≡ all (holderSound r rs) allNumbers
+unfolding allNumbers
+holders-all r rs = ap (all (holderSound r rs)) (sym (from-one numberCount))

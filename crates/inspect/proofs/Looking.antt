@@ -12,15 +12,15 @@ use Rattle.log.specs.Entry.{member, mapEntry, raw, legal}
 use Rattle.log.specs.declared.place.Place.{Place}
 use Rattle.log.proofs.Naturality.{raw-map}
 use Rattle.disk.specs.Record.{Record, unitAt, isOpen}
-use Rattle.disk.specs.declared.answer.Refusal.{Refusal}
-use Rattle.disk.specs.declared.answer.Refusal.the-variants.{WrongLength, RecordUnsound, StreamClosed}
+use Rattle.answers.specs.declared.Refusal.{Refusal}
+use Rattle.answers.specs.declared.Refusal.the-variants.{WrongLength, RecordUnsound, StreamClosed}
 use Rattle.disk.specs.Disk.{Disk, unitOf, journalAt, journalOf, committed, view}
-use Rattle.disk.specs.Sound.{lengthsRight, recordSound, isOpenUnit, journalSound}
+use Rattle.disk.specs.Sound.{lengthsRight, recordSound, openUnit, journalSound}
 use Rattle.disk.specs.Questions.{streamOpen, viewOpen, ask, firstNo}
-use Rattle.disk.specs.Answers.{number}
+use Rattle.answers.specs.Answers.{number}
 use Rattle.disk.proofs.Clauses.{right}
 use Rattle.inspect.specs.promises.Located.{Located, journalHere}
-use Rattle.inspect.specs.promises.Clauses.{openUnit, changeIn, Overlays}
+use Rattle.inspect.specs.promises.Clauses.{changeIn, Overlays}
 use Rattle.inspect.specs.promises.Inspect.{Accepted, openAs, Sees, Looks}
 use Rattle.inspect.specs.declared.look.Looked.the-variants.{Refused}
 use Rattle.inspect.proofs.Locating.{overlay-here}
@@ -65,10 +65,6 @@ module _ (looked : Bool) (d : Disk) (v : ℕ) where
   look-unsound h k t = rw (h, k)
 
   -- Question 4.
-  open-is : isOpenUnit d v ≡ openUnit (d .rec) v
-  unfolding isOpenUnit openUnit unitOf
-  open-is = refl
-
   stream-open : streamOpen d v ≡ true → openAs looked d v ≡ true
   unfolding viewOpen
   stream-open h = go looked
@@ -99,7 +95,7 @@ module _ (looked : Bool) (d : Disk) (v : ℕ) where
     look-persistent e l = seen (rw e) (rw (l, e))
 
     pub look-no-stream : v ≡ 5 → looked ≡ false → No StreamClosed
-    unfolding streamOpen isOpenUnit
+    unfolding streamOpen openUnit
     look-no-stream e l = closed (rw (l, e))
 
     pub look-committed : v ≡ 0 → Sees looked d v t
@@ -109,7 +105,7 @@ module _ (looked : Bool) (d : Disk) (v : ℕ) where
     module _ (m : v ≢ 5) (n : v ≢ 0) where
       pub look-closed : openUnit (d .rec) v ≡ false → No StreamClosed
       unfolding streamOpen
-      look-closed h = closed (stream-closed m (rw (eqb-false v 0 n, open-is, h)))
+      look-closed h = closed (stream-closed m (rw (eqb-false v 0 n, h)))
 
       pub look-unit : openUnit (d .rec) v ≡ true → (b : Bool) (t′ : Tables) → Overlays t (unitAt (d .rec) v) v b t′ → Sees looked d v t′
       unfolding view unitOf streamOpen
@@ -118,7 +114,7 @@ module _ (looked : Bool) (d : Disk) (v : ℕ) where
           record {
             lengths = a .lengths;
             sound = a .sound;
-            opened = stream-open (rw (open-is, o) (or-true (eqb v 0)));
+            opened = stream-open (rw o (or-true (eqb v 0)));
             located = record {
               here = overlay (journalHere (unitAt (d .rec) v) v) (x .here);
               shows = w .shows (x .here) (x .shows);

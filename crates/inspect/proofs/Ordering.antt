@@ -19,8 +19,7 @@ use Rattle.lists.proofs.Basic.{from-length, from-get, and-true, leb-true, le-tr
 use Rattle.lists.proofs.Dropping.{times-most}
 use Rattle.lists.proofs.Times.{times-append, times-here, times-other}
 use Rattle.disk.specs.Record.{Record, recordIn, bytesIn, holderOf, listedIn}
-use Rattle.disk.specs.Sound.{orderSound}
-use Rattle.inspect.specs.promises.Clauses.{dueTimes, listedRight, allListed}
+use Rattle.disk.specs.Sound.{orderSound, dueTimes, listedSound}
 use Rattle.inspect.proofs.Judging.{and-behind, from-one}
 
 pub order-length : (bs : List ℕ) → length (recordIn bs .tally .order) ≡ 80
@@ -124,14 +123,14 @@ module _ (r : Record) (rs : List (Row ℕ)) (n : ℕ) where
 
   -- it is listed m times, and due k
   module _ (m k : ℕ) (e : m ≡ times n (listedIn r)) (d : k ≡ dueTimes r rs n) where
-    pub listed-wrong : m ≢ k → listedRight r rs n ≡ false
-    unfolding listedRight
+    pub listed-wrong : m ≢ k → listedSound r rs n ≡ false
+    unfolding listedSound
     listed-wrong c = rw (← e, ← d) (eqb-false m k c)
 
-    pub listed-well : m ≡ k → listedRight r rs n ≡ true
-    unfolding listedRight
+    pub listed-well : m ≡ k → listedSound r rs n ≡ true
+    unfolding listedSound
     listed-well q = rw (← e, ← d) (eq-true m k q)
 
-pub listed-all : (r : Record) (rs : List (Row ℕ)) → all (listedRight r rs) (from (λ i. i + 1) 0 80) ≡ allListed r rs
-unfolding allListed allNumbers
-listed-all r rs = ap (all (listedRight r rs)) (sym (from-one 80))
+pub listed-all : (r : Record) (rs : List (Row ℕ)) → all (listedSound r rs) (from (λ i. i + 1) 0 80) ≡ all (listedSound r rs) allNumbers
+unfolding allNumbers
+listed-all r rs = ap (all (listedSound r rs)) (sym (from-one 80))

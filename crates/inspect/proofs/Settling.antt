@@ -4,21 +4,30 @@ use mathlib.Core.Bool.{Bool, true, false, _&&_, and-true as and-yes, true≢fals
 use mathlib.Core.Option.{some, Option·some-injective}
 use mathlib.Core.List.{List, []}
 use Prim.Native.Nat.{ℕ}
-use Rattle.lists.specs.Basic.{isSome, each}
+use Rattle.lists.specs.Basic.{isSome, all, each}
+use Rattle.lists.specs.Numbers.{allNumbers}
+use Rattle.lists.specs.State.{Row}
 use Rattle.lists.specs.promises.Tables.{Tables, OfShown}
 use Rattle.lists.proofs.Lookup.{lists-shown}
 use Rattle.log.specs.Reader.{Reader, replay}
 use Rattle.log.specs.promises.Feed.{Memory, Keeps}
 use Rattle.disk.specs.Record.{Record}
 use Rattle.disk.specs.Disk.{disk, queued}
-use Rattle.disk.specs.Sound.{headStanding}
+use Rattle.disk.specs.Sound.{holderSound, listedSound, headStanding}
 use Rattle.inspect.specs.promises.Located.{queueSaid, queueHere}
-use Rattle.inspect.specs.promises.Clauses.{holdersRight, allListed, lawful, Replays, settledRight, Settles}
+use Rattle.inspect.specs.promises.Clauses.{lawful, Replays, settledRight, Settles}
 
 both-false : (a b c : Bool) → a && b ≡ false → false ≡ a && (b && c)
 both-false true true c h = absurd (true≢false h)
 both-false true false c h = refl
 both-false false b c h = refl
+
+-- the clauses of the holders and of the free numbers' order
+abbrev holdersRight : Record → List (Row ℕ) → Bool
+holdersRight r rs = all (holderSound r rs) allNumbers
+
+abbrev allListed : Record → List (Row ℕ) → Bool
+allListed r rs = all (listedSound r rs) allNumbers
 
 module _ (c q : List ℕ) (r : Record) (x : Reader ℕ) where
   abbrev heads : Bool

@@ -9,10 +9,12 @@ use lists::tables::is_taken;
 use log::entry::LogEntry;
 ghost use mathlib.Core.Path.{_≡_};
 ghost use Prim.Native.Nat.{_≤_};
+ghost use Rattle.lists.specs.Basic.{all};
 ghost use Rattle.lists.specs.InUse.{inUse};
+ghost use Rattle.lists.specs.Numbers.{allNumbers};
 ghost use Rattle.lists.specs.promises.Tables.{tablesIn, OfShown};
 ghost use Rattle.disk.specs.Record.{recordIn};
-ghost use Rattle.inspect.specs.promises.Clauses.{holdersRight};
+ghost use Rattle.disk.specs.Sound.{holderSound};
 
 // Is the block on a list, or, behind the blocks, the list taken?
 pub fn is_used(nodes: &[u8; 1280], number: u8) -> bool
@@ -27,7 +29,7 @@ pub fn is_used(nodes: &[u8; 1280], number: u8) -> bool
 
 // Is each number held by no unit, or by an open one while it is not in use?
 pub fn holders_right(rec: &[u8; RECORD], nodes: &[u8; 1280]) -> bool
-    ensures { λ r. ⌜ OfShown (tablesIn (now (nodes .entry))) (λ rs. r ≡ holdersRight (recordIn (now (rec .entry))) rs) ⌝ }
+    ensures { λ r. ⌜ OfShown (tablesIn (now (nodes .entry))) (λ rs. r ≡ all (holderSound (recordIn (now (rec .entry))) rs) allNumbers) ⌝ }
 {
     let mut i = 0;
     while i < NUMBERS {

@@ -8,10 +8,11 @@ use disk::record::listed_at;
 ghost use mathlib.Core.Path.{_≡_};
 ghost use Prim.Native.Nat.{ℕ, _≤_, _<_};
 ghost use lib.ListN.{getD, replicate};
-ghost use Rattle.lists.specs.Basic.{times};
+ghost use Rattle.lists.specs.Basic.{all, times};
+ghost use Rattle.lists.specs.Numbers.{allNumbers};
 ghost use Rattle.lists.specs.promises.Tables.{tablesIn, OfShown};
 ghost use Rattle.disk.specs.Record.{recordIn, listedIn};
-ghost use Rattle.inspect.specs.promises.Clauses.{dueTimes, allListed};
+ghost use Rattle.disk.specs.Sound.{dueTimes, listedSound};
 
 // How often each number is listed, counted up from nothing. A byte names a place of `seen`, so that no number needs a test.
 fn count_listed(rec: &[u8; RECORD], seen: &mut [u8; 256])
@@ -44,7 +45,7 @@ fn due(rec: &[u8; RECORD], nodes: &[u8; 1280], number: u8) -> u8
 // Is each free number listed once, and no other?
 pub fn listed_right(rec: &[u8; RECORD], nodes: &[u8; 1280]) -> bool
     requires { ⌜ recordIn (now rec) .tally .listed ≤ 80 ⌝ }
-    ensures { λ r. ⌜ OfShown (tablesIn (now (nodes .entry))) (λ rs. r ≡ allListed (recordIn (now (rec .entry))) rs) ⌝ }
+    ensures { λ r. ⌜ OfShown (tablesIn (now (nodes .entry))) (λ rs. r ≡ all (listedSound (recordIn (now (rec .entry))) rs) allNumbers) ⌝ }
 {
     let mut seen = [0u8; 256];
     count_listed(rec, &mut seen);

@@ -3,7 +3,7 @@ use super::examine::Examined;
 use super::examine::examine;
 use super::journal::enter_journal;
 use super::units::is_open;
-use disk::answer::Refusal;
+use answers::Refusal;
 use disk::record::RECORD;
 ghost use mathlib.Core.Bool.{true, false};
 ghost use Rattle.lists.specs.promises.Tables.{tablesIn};

@@ -14,7 +14,8 @@ ghost use mathlib.Core.Path.{_≡_};
 ghost use Prim.Native.Nat.{_≤_};
 ghost use Rattle.log.specs.Entry.{asChange};
 ghost use Rattle.disk.specs.Record.{recordIn, unitAt};
-ghost use Rattle.inspect.specs.promises.Clauses.{changeRight, unitRight, unitsRight, openUnit};
+ghost use Rattle.inspect.specs.promises.Clauses.{changeRight, unitRight, unitsRight};
+ghost use Rattle.disk.specs.Sound.{openUnit};
 
 // May the entry stand in unit u's journal?
 fn entry_right(rec: &[u8; RECORD], u: u8, e: LogEntry) -> bool

@@ -6,7 +6,8 @@ use Prim.Native.Nat.{ℕ, zero, suc}
 use Rattle.lists.proofs.Basic.{eqb-false}
 use Rattle.disk.specs.Disk.{Disk, diskIn}
 use Rattle.disk.specs.Call.{Call}
-use Rattle.disk.specs.Perform.{Answer, Result, refusalAnswer, perform}
+use Rattle.disk.specs.Perform.{Result, refusalAnswer, perform}
+use Rattle.answers.specs.Answers.{Answer}
 use Rattle.disk.specs.Questions.{refusal}
 use Rattle.disk.proofs.Performing.{refusedResult, perform-accepted, perform-refused, accepted-code, refusal-code}
 use Rattle.disk.proofs.Soundness.{refused-same}

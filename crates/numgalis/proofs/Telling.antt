@@ -2,11 +2,12 @@
 use mathlib.Core.Path.{_≡_, sym, ap, _∙_}
 use mathlib.Core.List.{List}
 use Prim.Native.Nat.{ℕ}
-use Rattle.disk.specs.declared.answer.Refusal.{Refusal}
+use Rattle.answers.specs.declared.Refusal.{Refusal}
 use Rattle.disk.specs.Disk.{Disk}
 use Rattle.disk.specs.Call.{Call}
-use Rattle.disk.specs.Perform.{Answer, Result}
-use Rattle.disk.specs.Answers.{number, refusedAnswer}
+use Rattle.disk.specs.Perform.{Result}
+use Rattle.answers.specs.Answers.{Answer}
+use Rattle.answers.specs.Answers.{number, refusedAnswer}
 use Rattle.calls.specs.Performs.{Performs}
 use Rattle.driver.specs.Stores.{Lists}
 use Rattle.numgalis.specs.Border.{told}

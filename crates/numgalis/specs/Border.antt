@@ -7,7 +7,7 @@ use Prim.Native.Nat.{ℕ}
 use lib.ListN.{length}
 use Rattle.disk.specs.Disk.{diskIn}
 use Rattle.disk.specs.Call.{Call, destination}
-use Rattle.disk.specs.Perform.{Answer}
+use Rattle.answers.specs.Answers.{Answer}
 use Rattle.disk.specs.Statements.{IsBytes}
 use Rattle.calls.specs.Performs.{Performs}
 

@@ -1,12 +1,12 @@
 // The replies told over the border: a number returned, and the results put where the caller wants them.
-use disk::answer::FlushReply;
-use disk::answer::MountReply;
-use disk::answer::NumberReply;
-use disk::answer::ReadReply;
-use disk::answer::Reply;
-use disk::answer::number_of;
+use answers::FlushReply;
+use answers::MountReply;
+use answers::NumberReply;
+use answers::ReadReply;
+use answers::Reply;
+use answers::number_of;
 ghost use mathlib.Core.Path.{_≡_};
-ghost use Rattle.disk.specs.Answers.{replyAnswer, mountAnswer, numberAnswer, readAnswer, flushAnswer};
+ghost use Rattle.answers.specs.Answers.{replyAnswer, mountAnswer, numberAnswer, readAnswer, flushAnswer};
 ghost use Rattle.numgalis.specs.Border.{told};
 
 // The endings of a flush, as their numbers.

@@ -7,7 +7,7 @@ use lib.Seq.{slice}
 use Rattle.text.specs.Decimal.{decimal}
 use Rattle.text.specs.Hex.{hexText}
 use Rattle.listing.specs.Listing.{numbers}
-use Rattle.disk.specs.Perform.{Answer}
+use Rattle.answers.specs.Answers.{Answer}
 use Rattle.script.specs.Spelling.{bytes}
 
 -- a blank and a number

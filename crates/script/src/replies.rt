@@ -5,19 +5,19 @@ use crate::lines::put_pair;
 use crate::lines::put_raced;
 use crate::lines::put_spaced;
 use crate::lines::put_triple;
-use disk::answer::FlushReply;
-use disk::answer::MountReply;
-use disk::answer::NumberReply;
-use disk::answer::ReadReply;
-use disk::answer::Reply;
-use disk::answer::number_of;
+use answers::FlushReply;
+use answers::MountReply;
+use answers::NumberReply;
+use answers::ReadReply;
+use answers::Reply;
+use answers::number_of;
 use text::decimal::put_decimal;
 use text::line::part;
 use text::put::put_byte;
 use text::put::put_bytes;
 ghost use mathlib.Core.Path.{_≡_};
 ghost use Rattle.text.specs.Written.{Puts};
-ghost use Rattle.disk.specs.Answers.{replyAnswer, numberAnswer, readAnswer, mountAnswer, flushAnswer};
+ghost use Rattle.answers.specs.Answers.{replyAnswer, numberAnswer, readAnswer, mountAnswer, flushAnswer};
 ghost use Rattle.script.specs.Lines.{answerLine, numberedLine, mountLine, flushLine, endedLine, readLine, contentLine, inventoryLine, countedLine, lengthAndText, pageReply};
 
 // `A`

@@ -15,11 +15,11 @@ use Rattle.log.specs.Cell.{cellOf}
 use Rattle.log.specs.Card.{slotBytes, splice}
 use Rattle.disk.specs.Record.{Record, ringPlace, unitAt, appended, journalGrown}
 use Rattle.disk.specs.promises.Listing.{relistedBy}
-use Rattle.disk.specs.declared.answer.Reply.{Reply}
-use Rattle.disk.specs.declared.answer.Reply.the-variants.{Accepted, Refused}
+use Rattle.answers.specs.declared.Reply.{Reply}
+use Rattle.answers.specs.declared.Reply.the-variants.{Accepted, Refused}
 use Rattle.disk.specs.Disk.{Disk, journalPlace}
 use Rattle.disk.specs.Questions.{journalRoom, streamRoom, firstNo}
-use Rattle.disk.specs.Answers.{number}
+use Rattle.answers.specs.Answers.{number}
 
 -- the record with an entry more on stream s
 unfoldable pub added : ℕ → LogEntry → Record → Record

@@ -5,7 +5,7 @@ use mathlib.Core.List.{[], _∷_}
 use Rattle.disk.specs.Disk.{Disk}
 use Rattle.disk.specs.Sound.{lengthsRight, recordSound}
 use Rattle.disk.specs.Questions.{firstNo}
-use Rattle.disk.specs.Answers.{number}
+use Rattle.answers.specs.Answers.{number}
 use Rattle.inspect.specs.declared.look.Looked.{Looked}
 use Rattle.inspect.specs.declared.look.Looked.the-variants.{Refused, Seen}
 

@@ -15,12 +15,12 @@ use Rattle.log.specs.Raced.{withBody}
 use Rattle.log.specs.Card.{slot}
 use Rattle.log.specs.Entry.{member, raw, legal, asChange}
 use Rattle.disk.specs.Record.{Record, unitAt, listedIn, unitTurned, releasing, conflictCounted}
-use Rattle.disk.specs.declared.answer.Reply.{Reply}
-use Rattle.disk.specs.declared.answer.Reply.the-variants.{Accepted, Refused}
+use Rattle.answers.specs.declared.Reply.{Reply}
+use Rattle.answers.specs.declared.Reply.the-variants.{Accepted, Refused}
 use Rattle.disk.specs.Disk.{disk, journalOf}
 use Rattle.disk.specs.Questions.{firstNo}
 use Rattle.disk.specs.Perform.{enqueue, enqueueAll, unitEntries, givenUp}
-use Rattle.disk.specs.Answers.{number}
+use Rattle.answers.specs.Answers.{number}
 use Rattle.disk.specs.promises.Listing.{Padded, pushedAll, relistedAll}
 use Rattle.inspect.specs.promises.Located.{journalHere}
 use Rattle.inspect.specs.promises.Clauses.{changeIn}

@@ -7,7 +7,7 @@ use Rattle.lists.specs.promises.Tables.{Tables}
 use Rattle.disk.specs.Disk.{Disk, committed}
 use Rattle.disk.specs.Sound.{lengthsRight, recordSound, isOpenUnit}
 use Rattle.disk.specs.Questions.{streamOpen, firstNo}
-use Rattle.disk.specs.Answers.{number}
+use Rattle.answers.specs.Answers.{number}
 use Rattle.inspect.specs.promises.Located.{Located}
 use Rattle.inspect.specs.declared.look.Looked.{Looked}
 use Rattle.inspect.specs.declared.look.Looked.the-variants.{Refused, Seen}

@@ -13,12 +13,12 @@ use Rattle.log.specs.Flush.{Flow, full, spent, flushFrom}
 use Rattle.log.specs.promises.Within.{Within}
 use Rattle.log.specs.Turns.{AllInTurn}
 use Rattle.disk.specs.Record.{Record}
-use Rattle.disk.specs.declared.answer.FlushReply.{FlushReply}
+use Rattle.answers.specs.declared.FlushReply.{FlushReply}
 use Rattle.disk.specs.Disk.{disk, queuedAt}
 use Rattle.disk.specs.Sound.{lengthsRight, recordSound}
 use Rattle.disk.specs.Call.{flush}
 use Rattle.disk.specs.Perform.{accepted}
-use Rattle.disk.specs.Answers.{flushAnswer}
+use Rattle.answers.specs.Answers.{flushAnswer}
 use Rattle.calls.specs.declared.drain.Headed.{Headed}
 use Rattle.calls.specs.declared.drain.Headed.the-variants.{Full, Spent, Drained}
 

@@ -13,11 +13,11 @@ use Rattle.log.specs.declared.entry.LogEntry.{LogEntry}
 use Rattle.log.specs.declared.entry.LogEntry.the-variants.{Take, PutFirst, PutAfter}
 use Rattle.log.specs.Entry.{isList}
 use Rattle.disk.specs.Record.{Record, unitAt, listedIn, holding}
-use Rattle.disk.specs.declared.answer.NumberReply.{NumberReply}
-use Rattle.disk.specs.declared.answer.NumberReply.the-variants.{Number, Refused}
+use Rattle.answers.specs.declared.NumberReply.{NumberReply}
+use Rattle.answers.specs.declared.NumberReply.the-variants.{Number, Refused}
 use Rattle.disk.specs.Disk.{Disk}
 use Rattle.disk.specs.Questions.{firstFree, firstNo}
-use Rattle.disk.specs.Answers.{number}
+use Rattle.answers.specs.Answers.{number}
 use Rattle.disk.specs.promises.Listing.{unlisted}
 use Rattle.inspect.specs.promises.Located.{journalHere}
 use Rattle.calls.specs.promises.Adds.{added, rooms}

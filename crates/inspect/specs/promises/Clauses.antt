@@ -1,15 +1,15 @@
 -- The clauses of question 3 that the record decides alone, or over lists that tables show: what the functions of this crate answer.
 use mathlib.Core.Path.{_≡_}
-use mathlib.Core.Bool.{Bool, true, false, _&&_, _||_, not, cond}
+use mathlib.Core.Bool.{Bool, true, false, _&&_, _||_}
 use mathlib.Core.Option.{Option, none, some}
 use mathlib.Core.List.{List, [], _∷_}
 use Prim.Native.Nat.{ℕ, _-_}
 use lib.Dec.{leb, eqb, ltb}
 use lib.ListN.{getD}
-use Rattle.lists.specs.Basic.{isSome, all, each, times, from}
+use Rattle.lists.specs.Basic.{isSome, all, each, from}
 use Rattle.lists.specs.Change.{Change}
 use Rattle.lists.specs.State.{Row, State, applyAll, overlay}
-use Rattle.lists.specs.InUse.{inUse, brings}
+use Rattle.lists.specs.InUse.{brings}
 use Rattle.lists.specs.Numbers.{allNumbers}
 use Rattle.lists.specs.promises.Tables.{Tables, ShowsAll}
 use Rattle.log.specs.Raced.{Raced}
@@ -17,9 +17,9 @@ use Rattle.log.specs.Entry.{Entry, member, raw, legal, asChange}
 use Rattle.log.specs.Cell.{entryIn}
 use Rattle.log.specs.Reader.{Reader, replay}
 use Rattle.log.specs.promises.Feed.{Memory, Keeps}
-use Rattle.disk.specs.Record.{Unit, Record, noCell, unitAt, isOpen, holderOf, listedIn, queuePlaces, journalPlaces, unitCount, windowCount}
+use Rattle.disk.specs.Record.{Unit, Record, noCell, unitAt, isOpen, queuePlaces, journalPlaces, unitCount, windowCount}
 use Rattle.disk.specs.Disk.{disk, queued}
-use Rattle.disk.specs.Sound.{orderSound, headStanding}
+use Rattle.disk.specs.Sound.{holderSound, orderSound, listedSound, headStanding}
 use Rattle.inspect.specs.promises.Located.{queueSaid, queueHere, journalHere}
 
 -- "counts and numbers in range"
@@ -41,29 +41,6 @@ unitRight hs x u = each (leb (x .len) journalPlaces ∷ leb (x .window) windowCo
 -- all four
 unfoldable pub unitsRight : Record → Bool
 unitsRight r = all (λ u. unitRight (r .held .holder) (unitAt r u) u) (from (λ u. u) 1 unitCount)
-
--- is u the number of an open unit?
-unfoldable pub openUnit : Record → ℕ → Bool
-openUnit r u = leb 1 u && leb u unitCount && isOpen (unitAt r u)
-
--- number n has no holder, or an open unit holds it and it is not in use in rs, the lists of the committed state
-unfoldable pub holderRight : {D : Type 0} → Record → List (Row D) → ℕ → Bool
-holderRight r rs n = eqb (holderOf r n) 0 || openUnit r (holderOf r n) && not (inUse n rs)
-
--- all of them
-unfoldable pub holdersRight : {D : Type 0} → Record → List (Row D) → Bool
-holdersRight r rs = all (holderRight r rs) allNumbers
-
--- how often number n is to be listed: once if it is free, neither in use in rs nor held
-unfoldable pub dueTimes : {D : Type 0} → Record → List (Row D) → ℕ → ℕ
-dueTimes r rs n = cond (not (inUse n rs) && eqb (holderOf r n) 0) 1 0
-
--- it is, and all of them
-unfoldable pub listedRight : {D : Type 0} → Record → List (Row D) → ℕ → Bool
-listedRight r rs n = eqb (times n (listedIn r)) (dueTimes r rs n)
-
-unfoldable pub allListed : {D : Type 0} → Record → List (Row D) → Bool
-allListed r rs = all (listedRight r rs) allNumbers
 
 -- What is promised where the queue is fed to the reader that lent tables keep.
 
@@ -89,7 +66,7 @@ rowsOf (some x) = x .state .lists
 unfoldable pub settledRight : List ℕ → List ℕ → Record → Reader ℕ → Bool
 settledRight c q r x =
     let o = replay x (queueHere r) in
-    each (lawful (queueSaid r) ∷ isSome o ∷ holdersRight r (rowsOf o) ∷ allListed r (rowsOf o) ∷ headStanding c (r .ring .done) (queued (disk c q [] r)) ∷ [])
+    each (lawful (queueSaid r) ∷ isSome o ∷ all (holderSound r (rowsOf o)) allNumbers ∷ all (listedSound r (rowsOf o)) allNumbers ∷ headStanding c (r .ring .done) (queued (disk c q [] r)) ∷ [])
 
 -- the answer b to it, whichever reader the lent tables keep
 abbrev pub Settled : List ℕ → List ℕ → Memory → ℕ → Record → Bool → Type 0

@@ -9,10 +9,10 @@ use Rattle.lists.specs.promises.Tables.{Tables}
 use Rattle.log.specs.Entry.{raw, legal}
 use Rattle.log.specs.Store.{tail}
 use Rattle.log.specs.declared.place.Place.{Place}
-use Rattle.disk.specs.Disk.{Disk, queued, committedReader, view}
+use Rattle.disk.specs.Disk.{Disk, queued, committedReader, committed, view}
 use Rattle.disk.specs.Sound.{lengthsRight, holderSound, listedSound, headStanding, recordSound}
 use Rattle.disk.specs.Questions.{streamOpen, viewOpen, firstNo}
-use Rattle.disk.specs.Answers.{number}
+use Rattle.answers.specs.Answers.{number}
 use Rattle.inspect.specs.promises.Located.{Located}
 use Rattle.inspect.specs.declared.examine.Examined.{Examined}
 use Rattle.inspect.specs.declared.examine.Examined.the-variants.{WrongLength, Unsound, Sound}
@@ -32,8 +32,8 @@ behindLog d =
     each
     (all (λ e. legal (raw 0 e)) (queued d)
     ∷ isSome (committedReader d)
-    ∷ all (holderSound d) allNumbers
-    ∷ all (listedSound d) allNumbers
+    ∷ all (holderSound (d .rec) (committed d .lists)) allNumbers
+    ∷ all (listedSound (d .rec) (committed d .lists)) allNumbers
     ∷ headStanding (d .card) (d .rec .ring .done) (queued d)
     ∷ [])
 

@@ -5,7 +5,7 @@ use native.Mathlib.Omega.{arith}
 use borrow.Author.Needs.{needs}
 use Rattle.lists.proofs.Basic.{eqb-false}
 use Rattle.disk.specs.Record.{recordIn}
-use Rattle.disk.specs.Answers.{number}
+use Rattle.answers.specs.Answers.{number}
 use Rattle.calls.specs.promises.Adds.{added}
 use Rattle.calls.proofs.Adding.{queue-full, queue-takes, journal-full, journal-takes}
 use Rattle.calls.proofs.add.add.Statement.{statement}

@@ -10,7 +10,7 @@ use Rattle.disk.specs.Call as Call
 use Rattle.disk.specs.Call.{destination}
 use Rattle.disk.specs.Questions.{questions, refusal}
 use Rattle.disk.specs.Perform.{opening}
-use Rattle.disk.specs.Answers.{replyAnswer}
+use Rattle.answers.specs.Answers.{replyAnswer}
 use Rattle.calls.proofs.Refusing.{checked, first-refused}
 use Rattle.calls.proofs.Checking.{begin-outside, begin-nowhere, begin-twice, begin-opens, window-range}
 use Rattle.calls.proofs.begin.begin.Tie as tie

@@ -6,7 +6,7 @@ use Rattle.calls.proofs.conflicts.conflicts.Statement.{statement}
 use Rattle.disk.specs.Disk.{diskIn}
 use Rattle.disk.specs.Call.{conflictCount, destination}
 use Rattle.disk.specs.Questions.{questions, refusal}
-use Rattle.disk.specs.Answers.{numberAnswer}
+use Rattle.answers.specs.Answers.{numberAnswer}
 use Rattle.calls.proofs.Refusing.{checked, first-refused}
 use Rattle.calls.proofs.Checking.{window-range, conflicts-outside, conflicts-given}
 use Rattle.calls.proofs.conflicts.conflicts.Tie as tie

@@ -1,7 +1,7 @@
 -- Questions 1, 3 and 4 are those of `enter`; behind them the tables show the committed state. Assumes nothing.
 use Rattle.disk.specs.Record.{recordIn}
 use Rattle.disk.specs.Disk.{diskIn}
-use Rattle.disk.specs.Answers.{replyAnswer}
+use Rattle.answers.specs.Answers.{replyAnswer}
 use Rattle.calls.proofs.Ending.{stands-ready, ends-performs, end-not-entered}
 use borrow.Author.Needs.{needs}
 use Rattle.calls.proofs.end.end.Statement.{statement}

@@ -3,7 +3,7 @@ use borrow.Author.Needs.{needs}
 use mathlib.Core.Path.{_∙_, sym}
 use mathlib.Core.Logic.{⊎-elim}
 use Rattle.disk.specs.Disk.{diskIn}
-use Rattle.disk.specs.Answers.{number}
+use Rattle.answers.specs.Answers.{number}
 use Rattle.calls.proofs.Entering.{open-zero, open-stream, open-unit, stands, stands-closed, unsound}
 use Rattle.calls.proofs.enter.enter.Statement.{statement}
 use Rattle.calls.proofs.enter.enter.Tie as tie

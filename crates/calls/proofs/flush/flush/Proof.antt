@@ -6,14 +6,14 @@ use Prim.Native.Nat.{ℕ, _≤_, _<_}
 use lib.Dec.{leb}
 use borrow.Author.Needs.{needs}
 use Rattle.lists.proofs.Basic.{le-true, gt-false}
-use Rattle.disk.specs.declared.answer.Refusal.{Refusal}
-use Rattle.disk.specs.declared.answer.Refusal.the-variants.{WrongLength, RecordUnsound, OutOfRange}
-use Rattle.disk.specs.declared.answer.FlushReply.the-variants.{Refused}
+use Rattle.answers.specs.declared.Refusal.{Refusal}
+use Rattle.answers.specs.declared.Refusal.the-variants.{WrongLength, RecordUnsound, OutOfRange}
+use Rattle.answers.specs.declared.FlushReply.the-variants.{Refused}
 use Rattle.disk.specs.Disk.{Disk, diskIn}
 use Rattle.disk.specs.Sound.{lengthsRight, recordSound}
 use Rattle.disk.specs.Call.{flush, destination}
 use Rattle.disk.specs.Questions.{questions, refusal, firstNo}
-use Rattle.disk.specs.Answers.{number, flushAnswer}
+use Rattle.answers.specs.Answers.{number, flushAnswer}
 use Rattle.calls.specs.Performs.{Performs}
 use Rattle.calls.proofs.Refusing.{ask-yes, ask-no, last-yes, sound-yes, usual-performs-refused, performs-accepted}
 use Rattle.calls.proofs.Draining.{flushable}

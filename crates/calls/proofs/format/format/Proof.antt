@@ -9,15 +9,15 @@ use Rattle.lists.specs.State.{empty}
 use Rattle.lists.specs.promises.Tables.{Tables, ShowsAll}
 use Rattle.lists.proofs.Emptied.{shows-emptied}
 use Rattle.log.specs.Card.{segmentsIn}
-use Rattle.disk.specs.declared.answer.Refusal.the-variants.{WrongLength}
-use Rattle.disk.specs.declared.answer.Reply.the-variants.{Accepted, Refused}
+use Rattle.answers.specs.declared.Refusal.the-variants.{WrongLength}
+use Rattle.answers.specs.declared.Reply.the-variants.{Accepted, Refused}
 use Rattle.disk.specs.Record.{recordIn, freshRecord}
 use Rattle.disk.specs.Disk.{Disk, disk}
 use Rattle.disk.specs.Sound.{lengthsRight}
 use Rattle.disk.specs.Call.{format, destination}
 use Rattle.disk.specs.Questions.{questions, refusal, firstNo, ask}
 use Rattle.disk.specs.Perform.{formatted, accepted}
-use Rattle.disk.specs.Answers.{number, replyAnswer}
+use Rattle.answers.specs.Answers.{number, replyAnswer}
 use Rattle.calls.specs.Performs.{Performs}
 use Rattle.calls.proofs.Refusing.{ask-no, usual-performs-refused, performs-accepted}
 use Rattle.calls.proofs.format.format.Statement.{statement}

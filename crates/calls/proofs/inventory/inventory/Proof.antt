@@ -1,6 +1,6 @@
 -- `look` answers the questions 1, 3 and 4; behind them the tables show the view, whose lists are stored. Assumes nothing.
 use Rattle.disk.specs.Call.{lentTo}
-use Rattle.disk.specs.Answers.{numberAnswer}
+use Rattle.answers.specs.Answers.{numberAnswer}
 use borrow.Author.Needs.{needs}
 use Rattle.calls.proofs.Refusing.{look-unseen}
 use Rattle.calls.proofs.Lookups.{inventory-out, inventory-given}

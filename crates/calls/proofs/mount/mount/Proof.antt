@@ -11,15 +11,15 @@ use Rattle.lists.specs.Basic.{isSome}
 use Rattle.log.specs.Reader.{Reader}
 use Rattle.log.specs.Card.{Written, cardLength, sound, fault, mounted}
 use Rattle.log.proofs.Mounting.{mounted-shown}
-use Rattle.disk.specs.declared.answer.Refusal.the-variants.{WrongLength}
-use Rattle.disk.specs.declared.answer.MountReply.the-variants.{Accepted, Fault, Refused}
+use Rattle.answers.specs.declared.Refusal.the-variants.{WrongLength}
+use Rattle.answers.specs.declared.MountReply.the-variants.{Accepted, Fault, Refused}
 use Rattle.disk.specs.Record.{freshRecord}
 use Rattle.disk.specs.Disk.{Disk, withRecord, readerOf, stateOf, persistent}
 use Rattle.disk.specs.Sound.{lengthsRight}
 use Rattle.disk.specs.Call.{mount, ends, destination}
 use Rattle.disk.specs.Questions.{mountable, questions, refusal, firstNo, ask}
 use Rattle.disk.specs.Perform.{accepted, refused, faultAt, refusalAnswer}
-use Rattle.disk.specs.Answers.{number, mountAnswer}
+use Rattle.answers.specs.Answers.{number, mountAnswer}
 use Rattle.disk.proofs.Performing.{perform-accepted, perform-refused}
 use Rattle.inspect.proofs.Judging.{and-behind}
 use Rattle.calls.specs.Performs.{Performs}

@@ -2,7 +2,7 @@
 use Rattle.disk.specs.Record.{recordIn}
 use Rattle.disk.specs.Disk.{diskIn}
 use Rattle.disk.specs.Call.{newList}
-use Rattle.disk.specs.Answers.{numberAnswer}
+use Rattle.answers.specs.Answers.{numberAnswer}
 use Rattle.calls.proofs.Refusing.{edit-unseen}
 use Rattle.calls.proofs.Giving.{takes-performs}
 use Rattle.calls.proofs.Putting.{stands-take}

@@ -5,7 +5,7 @@ use lib.ListN.{length}
 use Rattle.log.specs.promises.Location.{contentAt}
 use Rattle.disk.specs.Disk.{diskIn}
 use Rattle.disk.specs.Call.{lentTo}
-use Rattle.disk.specs.Answers.{readAnswer}
+use Rattle.answers.specs.Answers.{readAnswer}
 use Rattle.lists.proofs.Lookup.{location-said, placed-said}
 use borrow.Author.Needs.{needs}
 use borrow.Author.Tests.{not-true, not-false}

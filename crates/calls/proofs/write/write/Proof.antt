@@ -4,7 +4,7 @@ use Rattle.calls.proofs.write.write.Statement.{statement}
 use Rattle.disk.specs.Record.{recordIn}
 use Rattle.disk.specs.Disk.{diskIn}
 use Rattle.disk.specs.Call.{writeBlock}
-use Rattle.disk.specs.Answers.{replyAnswer}
+use Rattle.answers.specs.Answers.{replyAnswer}
 use Rattle.calls.proofs.Refusing.{edit-unseen, seen-ranges}
 use Rattle.calls.proofs.Writing.{write-decides, write-refused, write-accepted, write-ranges, write-fits}
 use Rattle.calls.proofs.write.write.Tie as tie

@@ -11,8 +11,8 @@ use Rattle.lists.specs.State.{placed}
 use Rattle.log.specs.declared.entry.LogEntry.the-variants.{Write}
 use Rattle.log.specs.Entry.{isBlock, isRace}
 use Rattle.disk.specs.Record.{recordIn}
-use Rattle.disk.specs.declared.answer.Refusal.the-variants.{OutOfRange, BlockNotPlaced}
-use Rattle.disk.specs.Answers.{number}
+use Rattle.answers.specs.declared.Refusal.the-variants.{OutOfRange, BlockNotPlaced}
+use Rattle.answers.specs.Answers.{number}
 use Rattle.calls.specs.promises.Adds.{added}
 use Rattle.calls.proofs.Adding.{first-no, second-no, both-yes}
 use Rattle.calls.proofs.Writing.{write-range}

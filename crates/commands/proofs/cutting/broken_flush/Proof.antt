@@ -1,5 +1,5 @@
 -- By the cases of the reply. Assumes nothing.
-use Rattle.disk.specs.Answers.{flushAnswer}
+use Rattle.answers.specs.Answers.{flushAnswer}
 use Rattle.commands.proofs.Breaking.{flush-broken, flush-not-broken}
 use borrow.Author.Needs.{needs}
 use Rattle.commands.proofs.cutting.broken_flush.Statement.{statement}

@@ -2,7 +2,7 @@
 use mathlib.Core.Path.{sym}
 use native.Mathlib.Omega.{arith}
 use borrow.Author.Needs.{needs}
-use Rattle.disk.specs.Answers.{numberAnswer}
+use Rattle.answers.specs.Answers.{numberAnswer}
 use Rattle.commands.proofs.Ranges.{behind-most}
 use Rattle.commands.proofs.Showing.{behind-is}
 use Rattle.commands.proofs.show.block_after.Statement.{statement}

@@ -9,13 +9,13 @@ use lib.ListN.{length, take}
 use borrow.Author.Needs.{needs}
 use Rattle.lists.proofs.Basic.{le-true, gt-false}
 use Rattle.log.specs.Store.{Store}
-use Rattle.disk.specs.declared.answer.Refusal.the-variants.{WrongLength, RecordUnsound, OutOfRange}
-use Rattle.disk.specs.declared.answer.NumberReply.the-variants.{Number, Refused}
+use Rattle.answers.specs.declared.Refusal.the-variants.{WrongLength, RecordUnsound, OutOfRange}
+use Rattle.answers.specs.declared.NumberReply.the-variants.{Number, Refused}
 use Rattle.disk.specs.Disk.{Disk, diskIn}
 use Rattle.disk.specs.Sound.{lengthsRight, recordSound}
 use Rattle.disk.specs.Call.{flush}
 use Rattle.disk.specs.Questions.{questions, refusal}
-use Rattle.disk.specs.Answers.{number, numberAnswer}
+use Rattle.answers.specs.Answers.{number, numberAnswer}
 use Rattle.disk.specs.Statements.{todo}
 use Rattle.calls.proofs.Refusing.{ask-yes, ask-no, last-yes, sound-yes}
 use Rattle.calls.proofs.Draining.{flushable}

@@ -10,13 +10,13 @@ use borrow.Author.Tests.{not-true, not-false}
 use Rattle.log.specs.Card.{segmentsIn}
 use Rattle.log.specs.Store.{formatStores}
 use Rattle.log.proofs.CardLength.{card-small}
-use Rattle.disk.specs.declared.answer.Refusal.the-variants.{WrongLength}
-use Rattle.disk.specs.declared.answer.NumberReply.the-variants.{Number, Refused}
+use Rattle.answers.specs.declared.Refusal.the-variants.{WrongLength}
+use Rattle.answers.specs.declared.NumberReply.the-variants.{Number, Refused}
 use Rattle.disk.specs.Disk.{Disk, diskIn}
 use Rattle.disk.specs.Sound.{lengthsRight}
 use Rattle.disk.specs.Call.{format}
 use Rattle.disk.specs.Questions.{questions, refusal}
-use Rattle.disk.specs.Answers.{number, numberAnswer}
+use Rattle.answers.specs.Answers.{number, numberAnswer}
 use Rattle.disk.proofs.Questions.{card-length}
 use Rattle.calls.proofs.Refusing.{ask-no, last-yes}
 use Rattle.driver.specs.Stores.{storesMade, listStores}

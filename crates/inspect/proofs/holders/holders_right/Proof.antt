@@ -6,14 +6,14 @@ use native.Mathlib.Omega.{arith}
 use borrow.Author.Tests.{not-true, not-false}
 use Rattle.lists.specs.promises.Tables.{OfShown, tablesIn}
 use Rattle.disk.specs.Record.{recordIn}
-use Rattle.inspect.specs.promises.Clauses.{holderRight}
+use Rattle.disk.specs.Sound.{holderSound}
 use Rattle.inspect.proofs.Judging.{Left, left-fails, left-passes, left-ends, open-high, open-unit, held-none, held-closed, held-used, held-well, holders-all}
 use borrow.Author.Needs.{needs}
 use Rattle.inspect.proofs.holders.holders_right.Statement.{statement}
 use Rattle.inspect.proofs.holders.holders_right.Tie as tie
 
 abbrev Inv-loop : tie.InvT-loop
-Inv-loop rec nodes i₀ i = (i ≤ 80) × OfShown (tablesIn nodes) (λ rs. Left (holderRight (recordIn rec) rs) (λ k. k + 1) 80 i)
+Inv-loop rec nodes i₀ i = (i ≤ 80) × OfShown (tablesIn nodes) (λ rs. Left (holderSound (recordIn rec) rs) (λ k. k + 1) 80 i)
 
 abbrev μ-loop : tie.MeasureT-loop
 μ-loop rec nodes i₀ i = 80 - i
@@ -40,7 +40,7 @@ returns c =
     let r = recordIn (k .before .before .before .args .rec .now) in
     let h = k .holder-of .result in
     λ rs s.
-    left-fails (holderRight r rs) (λ k. k + 1) 80 (l .i) (l .inv .1 rs s) (omega arith)
+    left-fails (holderSound r rs) (λ k. k + 1) 80 (l .i) (l .inv .1 rs s) (omega arith)
     (held-closed r rs (l .i + 1) h (sym (k .holder-of .ensures)) (c .before .if1 .taken) (open-high r h (c .if2 .taken)))
     ∙ holders-all r rs
 
@@ -54,7 +54,7 @@ returns-2 c =
     let r = recordIn (k .before .before .before .args .rec .now) in
     let h = k .holder-of .result in
     λ rs s.
-    left-fails (holderRight r rs) (λ k. k + 1) 80 (l .i) (l .inv .1 rs s) (omega arith)
+    left-fails (holderSound r rs) (λ k. k + 1) 80 (l .i) (l .inv .1 rs s) (omega arith)
     (held-closed r rs (l .i + 1) h (sym (k .holder-of .ensures)) (c .before .before .before .if1 .taken)
     (sym (sym (c .before .opened .ensures) ∙ not-true _ (c .if3 .taken)) ∙ open-unit r h (omega arith) (omega arith)))
     ∙ holders-all r rs
@@ -69,7 +69,7 @@ returns-3 c =
     let r = recordIn (k .before .before .before .args .rec .now) in
     let h = k .holder-of .result in
     λ rs s.
-    left-fails (holderRight r rs) (λ k. k + 1) 80 (l .i) (l .inv .1 rs s) (omega arith)
+    left-fails (holderSound r rs) (λ k. k + 1) 80 (l .i) (l .inv .1 rs s) (omega arith)
     (held-used r rs (l .i + 1) h (sym (k .holder-of .ensures)) (c .before .before .before .before .before .if1 .taken)
     (sym (c .before .is-used .ensures rs s) ∙ c .if4 .taken))
     ∙ holders-all r rs
@@ -89,7 +89,7 @@ loop-again c =
     let e = sym (k .holder-of .ensures) in (
       omega arith,
       λ rs s.
-          left-passes (holderRight r rs) (λ k. k + 1) 80 (l .i) (l .inv .1 rs s) (omega arith)
+          left-passes (holderSound r rs) (λ k. k + 1) 80 (l .i) (l .inv .1 rs s) (omega arith)
           (⊎-elim
           (λ w.
           held-well r rs (l .i + 1) h e (w .0 .taken) (sym (open-unit r h (omega arith) (omega arith)) ∙ sym (w .2 .ensures) ∙ not-false _ (w .3 .left))
@@ -102,7 +102,7 @@ returns-4 : tie.Need-returns-4 Inv-loop μ-loop
 returns-4 c =
     let l = c .before .loop in
     let r = recordIn (c .before .before .args .rec .now) in
-    λ rs s. left-ends (holderRight r rs) (λ k. k + 1) 80 (l .i) (l .inv .1 rs s) (omega arith) ∙ holders-all r rs
+    λ rs s. left-ends (holderSound r rs) (λ k. k + 1) 80 (l .i) (l .inv .1 rs s) (omega arith) ∙ holders-all r rs
 
 pub holders-right-spec : {M : Type 1} → statement M
 holders-right-spec =

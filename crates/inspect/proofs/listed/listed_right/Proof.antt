@@ -5,14 +5,14 @@ use native.Mathlib.Omega.{arith}
 use borrow.Author.Needs.{needs}
 use Rattle.lists.specs.promises.Tables.{OfShown, tablesIn}
 use Rattle.disk.specs.Record.{recordIn}
-use Rattle.inspect.specs.promises.Clauses.{listedRight}
+use Rattle.disk.specs.Sound.{listedSound}
 use Rattle.inspect.proofs.Judging.{Left, left-fails, left-passes, left-ends}
 use Rattle.inspect.proofs.Ordering.{listed-wrong, listed-well, listed-all}
 use Rattle.inspect.proofs.listed.listed_right.Statement.{statement}
 use Rattle.inspect.proofs.listed.listed_right.Tie as tie
 
 abbrev Inv-loop : tie.InvT-loop
-Inv-loop rec nodes seen i₀ i = (i ≤ 80) × OfShown (tablesIn nodes) (λ rs. Left (listedRight (recordIn rec) rs) (λ k. k + 1) 80 i)
+Inv-loop rec nodes seen i₀ i = (i ≤ 80) × OfShown (tablesIn nodes) (λ rs. Left (listedSound (recordIn rec) rs) (λ k. k + 1) 80 i)
 
 abbrev μ-loop : tie.MeasureT-loop
 μ-loop rec nodes seen i₀ i = 80 - i
@@ -44,7 +44,7 @@ returns c =
     let r = recordIn (o .before .before .before .args .rec .now) in
     let l = o .loop in
     λ rs s.
-    left-fails (listedRight r rs) (λ k. k + 1) 80 (l .i) (l .inv .1 rs s) (omega arith)
+    left-fails (listedSound r rs) (λ k. k + 1) 80 (l .i) (l .inv .1 rs s) (omega arith)
     (listed-wrong r rs (l .i + 1) _ _ (o .before .count-listed .ensures (l .i + 1) (omega arith)) (c .before .due .ensures rs s) (c .if1 .taken))
     ∙ listed-all r rs
 
@@ -61,7 +61,7 @@ loop-again c =
     let l = o .loop in (
       omega arith,
       λ rs s.
-          left-passes (listedRight r rs) (λ k. k + 1) 80 (l .i) (l .inv .1 rs s) (omega arith)
+          left-passes (listedSound r rs) (λ k. k + 1) 80 (l .i) (l .inv .1 rs s) (omega arith)
           (listed-well r rs (l .i + 1) _ _ (o .before .count-listed .ensures (l .i + 1) (omega arith)) (c .before .due .ensures rs s) (c .if1 .left)),
     )
 
@@ -69,7 +69,7 @@ returns-2 : tie.Need-returns-2 Inv-loop μ-loop
 returns-2 c =
     let l = c .before .loop in
     let r = recordIn (c .before .before .before .before .args .rec .now) in
-    λ rs s. left-ends (listedRight r rs) (λ k. k + 1) 80 (l .i) (l .inv .1 rs s) (omega arith) ∙ listed-all r rs
+    λ rs s. left-ends (listedSound r rs) (λ k. k + 1) 80 (l .i) (l .inv .1 rs s) (omega arith) ∙ listed-all r rs
 
 pub listed-right-spec : {M : Type 1} → statement M
 listed-right-spec =

@@ -1,8 +1,8 @@
 -- By the cases of the reply. Assumes nothing.
 use mathlib.Core.Path.{refl}
 use borrow.Author.Needs.{needs}
-use Rattle.disk.specs.Perform.{endingNumber}
-use Rattle.disk.specs.Answers.{flushAnswer}
+use Rattle.answers.specs.Answers.{endingNumber}
+use Rattle.answers.specs.Answers.{flushAnswer}
 use Rattle.numgalis.proofs.Telling.{told-refused}
 use Rattle.numgalis.proofs.tell.tell_flush.Statement.{statement}
 use Rattle.numgalis.proofs.tell.tell_flush.Tie as tie

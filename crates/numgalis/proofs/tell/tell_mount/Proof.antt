@@ -1,6 +1,6 @@
 -- By the cases of the reply. Assumes nothing.
 use borrow.Author.Needs.{needs}
-use Rattle.disk.specs.Answers.{mountAnswer}
+use Rattle.answers.specs.Answers.{mountAnswer}
 use Rattle.numgalis.proofs.Telling.{told-refused}
 use Rattle.numgalis.proofs.tell.tell_mount.Statement.{statement}
 use Rattle.numgalis.proofs.tell.tell_mount.Tie as tie

@@ -1,5 +1,5 @@
 -- By the cases of the reply. Assumes nothing.
-use Rattle.disk.specs.Answers.{replyAnswer}
+use Rattle.answers.specs.Answers.{replyAnswer}
 use borrow.Author.Needs.{needs}
 use Rattle.script.proofs.replies.put_answer.Statement.{statement}
 use Rattle.script.proofs.replies.put_answer.Tie as tie

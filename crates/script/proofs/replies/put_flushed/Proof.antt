@@ -1,6 +1,6 @@
 -- By the cases of the reply. Assumes nothing.
-use Rattle.disk.specs.Perform.{endingNumber}
-use Rattle.disk.specs.Answers.{flushAnswer}
+use Rattle.answers.specs.Answers.{endingNumber}
+use Rattle.answers.specs.Answers.{flushAnswer}
 use Rattle.script.specs.Lines.{flushLine, endingName}
 use Rattle.script.specs.Spelling.{bytes}
 use Rattle.script.proofs.Refused.{refused-code}

@@ -1,5 +1,5 @@
 -- By the cases of the reply. Assumes nothing.
-use Rattle.disk.specs.Answers.{numberAnswer}
+use Rattle.answers.specs.Answers.{numberAnswer}
 use Rattle.script.specs.Lines.{inventoryLine}
 use Rattle.script.proofs.Refused.{refused-code}
 use borrow.Author.Needs.{needs}

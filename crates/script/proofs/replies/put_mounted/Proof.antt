@@ -1,5 +1,5 @@
 -- By the cases of the reply. Assumes nothing.
-use Rattle.disk.specs.Answers.{mountAnswer}
+use Rattle.answers.specs.Answers.{mountAnswer}
 use borrow.Author.Needs.{needs}
 use Rattle.script.proofs.replies.put_mounted.Statement.{statement}
 use Rattle.script.proofs.replies.put_mounted.Tie as tie

@@ -1,5 +1,5 @@
 -- By the cases of the reply. Assumes nothing.
-use Rattle.disk.specs.Answers.{numberAnswer}
+use Rattle.answers.specs.Answers.{numberAnswer}
 use borrow.Author.Needs.{needs}
 use Rattle.script.proofs.replies.put_numbered.Statement.{statement}
 use Rattle.script.proofs.replies.put_numbered.Tie as tie

@@ -1,5 +1,5 @@
 -- By the cases of the reply. Assumes nothing.
-use Rattle.disk.specs.Answers.{readAnswer}
+use Rattle.answers.specs.Answers.{readAnswer}
 use Rattle.script.specs.Lines.{readLine}
 use Rattle.script.proofs.Refused.{refused-code}
 use borrow.Author.Needs.{needs}

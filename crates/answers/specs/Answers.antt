@@ -1,14 +1,25 @@
 -- The calls' answers as their numbers: "Each enum answer has a definition that gives this paper's number and values for each of its cases."
 use Prim.Native.Nat.{ℕ}
-use Rattle.log.specs.Flush.{drained, full, spent}
-use Rattle.disk.specs.Perform.{Answer, endingNumber}
-use Rattle.disk.specs.declared.answer.Refusal.{Refusal}
-use Rattle.disk.specs.declared.answer.Refusal.the-variants.{WrongLength, LogFault, RecordUnsound, StreamClosed, OutOfRange, UnitOpen, ListNotTaken, BlockNotPlaced, PredecessorElsewhere, NoNumberFree, JournalFull, Conflict, QueueFull, BufferTooShort, Unwritten}
-use Rattle.disk.specs.declared.answer.Reply as R
-use Rattle.disk.specs.declared.answer.MountReply as M
-use Rattle.disk.specs.declared.answer.NumberReply as N
-use Rattle.disk.specs.declared.answer.ReadReply as D
-use Rattle.disk.specs.declared.answer.FlushReply as F
+use Rattle.log.specs.Flush.{Ending, drained, full, spent}
+use Rattle.answers.specs.declared.Refusal.{Refusal}
+use Rattle.answers.specs.declared.Refusal.the-variants.{WrongLength, LogFault, RecordUnsound, StreamClosed, OutOfRange, UnitOpen, ListNotTaken, BlockNotPlaced, PredecessorElsewhere, NoNumberFree, JournalFull, Conflict, QueueFull, BufferTooShort, Unwritten}
+use Rattle.answers.specs.declared.Reply as R
+use Rattle.answers.specs.declared.MountReply as M
+use Rattle.answers.specs.declared.NumberReply as N
+use Rattle.answers.specs.declared.ReadReply as D
+use Rattle.answers.specs.declared.FlushReply as F
+
+-- the returned numbers: the question's number or 0, and the results
+pub record Answer : Type 0 where
+  pub code : ℕ
+  pub value : ℕ
+  pub second : ℕ
+
+-- our number of an ending: document 01 gives none
+unfoldable pub endingNumber : Ending → ℕ
+endingNumber drained = 0
+endingNumber full = 1
+endingNumber spent = 2
 
 unfoldable pub number : Refusal → ℕ
 number WrongLength = 1

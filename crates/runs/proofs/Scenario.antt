@@ -8,7 +8,7 @@ use mathlib.Core.List.{List, [], _∷_, _++_}
 use Prim.Native.Nat.{ℕ}
 use lib.ListN.{replicate}
 use Rattle.lists.specs.Basic.{from, joined}
-use Rattle.lists.specs.Change.{takeList, putFirst}
+use Rattle.lists.specs.Change.{Change, takeList, putFirst}
 use Rattle.lists.specs.State.{State, state, row, block}
 use Rattle.lists.specs.Takings.{undeleted, inForce}
 use Rattle.log.specs.Card.{Written}
@@ -16,11 +16,11 @@ use Rattle.disk.specs.Record.{blankRecord, listedIn, withFlow}
 use Rattle.disk.specs.Disk.{Disk, view}
 use Rattle.disk.specs.Call.{newList, newBlock, deleteList, inventory, Call, mount, onStream, inView, begin, end, flush}
 use Rattle.disk.specs.Perform.{perform}
-use Rattle.disk.proofs.Computing.{computing}
+use Rattle.runs.proofs.Computing.{computing}
 use Rattle.crash.specs.Event.{Part, Rest, Event, called, cutFlush, cutFormat, partOf, putBack, lend, giveBack, isWhole, lentWhole, leaves, isAccepted, answered, step, mayHappen}
 use Rattle.crash.specs.Book.{emptyBook, batchOf, withBatch, joinHistory, join, memberOf, joinUnit, cost, entriesOf, placedEntries, lastInUse, placeOf, moveTo, bookStore, bookFlush, keepFirst, bookFormat, isNumber, closingOnCard, longest, onCard, settle, bookAccepted, bookRefused, bookCalled, bookStep}
 use Rattle.crash.specs.Demand3.{Scene, sceneStep, play, valid, begun}
 use Rattle.crash.specs.History.{listsIn}
 
 -- two segments and both data buffers full of 170
 pub blank : Disk
@@ -77,12 +77,14 @@ pub may-happen : valid (begun blank) events ≡ true
 unfolding playing
 may-happen = refl
 
+-- what a scene has come to: the history that is on the card, and the committed state
+unfoldable pub told : Scene → List (List (Change Written)) × State Written
+told s = (onCard (s .book), view (s .world .disk) 0)
+
 -- unit 1 is lost whole, unit 2 is there, and the cut formatting took nothing of segment 0
-pub comes-to :
-    (onCard (last .book) ≡ (takeList 1 ∷ []) ∷ (putFirst 1 1 ∷ []) ∷ (putFirst 2 1 ∷ []) ∷ [])
-    × (view (last .world .disk) 0 ≡ mountedState)
-unfolding playing last mountedState
-comes-to = (refl, refl)
+pub comes-to : told last ≡ ((takeList 1 ∷ []) ∷ (putFirst 1 1 ∷ []) ∷ (putFirst 2 1 ∷ []) ∷ [], mountedState)
+unfolding playing last mountedState told
+comes-to = refl
 
 -- A number that rests: lists 1 and 2 are taken and 1 deleted; after a mount 3 is given, and unit 1 deletes list 2.
 pub resting : List Event
@@ -100,14 +102,20 @@ resting =
 pub again : Scene
 again = play (begun blank) resting
 
+-- the lists of views 0, 5 and 1 by the book, what the inventory of view 0 fills in, and the free numbers
+unfoldable pub listed : Scene → List (List ℕ)
+listed s =
+    listsIn (s .book) 0 ∷ listsIn (s .book) 5 ∷ listsIn (s .book) 1
+    ∷ perform (inView 0 (inventory (replicate 16 9))) (s .world .disk) .lent
+    ∷ listedIn (s .world .disk .rec)
+    ∷ []
+
 -- 3 stands behind list 2, whose taking is the earlier one; the persistent view has list 2 alone, the unit's list 3 alone; list 1 is the last free one
 pub again-listed :
     (valid (begun blank) resting ≡ true)
-    × (listsIn (again .book) 0 ≡ 2 ∷ 3 ∷ []) × (listsIn (again .book) 5 ≡ 2 ∷ []) × (listsIn (again .book) 1 ≡ 3 ∷ [])
-    × (perform (inView 0 (inventory (replicate 16 9))) (again .world .disk) .lent ≡ 2 ∷ 3 ∷ replicate 14 9)
-    × (listedIn (again .world .disk .rec) ≡ from (λ n. n) 1 64 ++ from (λ n. n) 68 13 ++ 65 ∷ [])
-unfolding playing resting again listsIn joined inForce undeleted
-again-listed = (refl, refl, refl, refl, refl, refl)
+    × (listed again ≡ (2 ∷ 3 ∷ []) ∷ (2 ∷ []) ∷ (3 ∷ []) ∷ (2 ∷ 3 ∷ replicate 14 9) ∷ (from (λ n. n) 1 64 ++ from (λ n. n) 68 13 ++ 65 ∷ []) ∷ [])
+unfolding playing resting again listed listsIn joined inForce undeleted
+again-listed = (refl, refl)
 
 -- Lists that go with their units: unit 1 takes list 2 and puts a block on it, and the power fails one store before its commit. After the mount unit 2 takes
 -- list 2, stream 0 list 3, and unit 2 ends.
@@ -134,7 +142,6 @@ took = play (begun blank) taking
 -- of unit 1 nothing is left; unit 2's list counts from its End
 pub took-lists :
     (valid (begun blank) taking ≡ true)
-    × (onCard (took .book) ≡ (takeList 1 ∷ []) ∷ (takeList 3 ∷ []) ∷ (takeList 2 ∷ []) ∷ [])
-    × (view (took .world .disk) 0 ≡ state (row 1 [] ∷ row 3 [] ∷ row 2 [] ∷ []) (from (λ n. n) 1 64 ++ from (λ n. n) 68 13))
-unfolding playing taking took
-took-lists = (refl, refl, refl)
+    × (told took ≡ ((takeList 1 ∷ []) ∷ (takeList 3 ∷ []) ∷ (takeList 2 ∷ []) ∷ [], state (row 1 [] ∷ row 3 [] ∷ row 2 [] ∷ []) (from (λ n. n) 1 64 ++ from (λ n. n) 68 13)))
+unfolding playing taking took told
+took-lists = (refl, refl)

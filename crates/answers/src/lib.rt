@@ -1,6 +1,6 @@
 // What the calls answer. The definition `Answers` gives the number and the values of each case.
 ghost use mathlib.Core.Path.{_≡_};
-ghost use Rattle.disk.specs.Answers.{number};
+ghost use Rattle.answers.specs.Answers.{number};
 
 // The questions, as what a no to each means.
 pub enum Refusal {

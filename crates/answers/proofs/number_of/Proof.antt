@@ -1,8 +1,8 @@
 -- By the cases of the refusal. Assumes nothing.
-use Rattle.disk.specs.Answers.{number}
+use Rattle.answers.specs.Answers.{number}
 use borrow.Author.Needs.{needs}
-use Rattle.disk.proofs.answer.number_of.Statement.{statement}
-use Rattle.disk.proofs.answer.number_of.Tie as tie
+use Rattle.answers.proofs.number_of.Statement.{statement}
+use Rattle.answers.proofs.number_of.Tie as tie
 
 enum-told : tie.Need-enum-told
 enum-told c = search needs

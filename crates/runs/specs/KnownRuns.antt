@@ -8,10 +8,11 @@ use Rattle.lists.specs.Basic.{from, joined}
 use Rattle.log.specs.Entry.{Entry, encode, raw}
 use Rattle.log.specs.Card.{Content, Written, countOffset}
 use Rattle.log.specs.Flush.{Ending, drained, spent}
 use Rattle.disk.specs.Record.{blankRecord, withFlow}
 use Rattle.disk.specs.Disk.{Disk, queued}
 use Rattle.disk.specs.Call.{newList, newBlock, writeBlock, deleteBlock, deleteList, readBlock, blockAfter, inventory, Call, format, mount, conflictCount, onStream, inView, begin, end, flush}
-use Rattle.disk.specs.Perform.{Result, perform, performAll, endingNumber}
+use Rattle.disk.specs.Perform.{Result, perform, performAll}
+use Rattle.answers.specs.Answers.{endingNumber}
 
 -- A step of a run, with what must come of it: a call, answered by its code, its two results and the lent bytes that it leaves; a look at the
 -- card's summary, which begins so; a look at the queue, whose entries have these bytes.
@@ -92,25 +93,17 @@ seven = 7 ∷ replicate 255 0
 abbrev ascending : Content
 ascending = from (λ k. k) 0 256
 
--- the disks that rows start from: with the write queued; with it flushed; with unit 1 open; with unit 1 ended
-unfoldable pub written : Disk
-written = performAll (format ∷ onStream 0 newList ∷ onStream 0 (newBlock 1 0) ∷ onStream 0 (writeBlock 1 0 seven) ∷ []) blank
-
-unfoldable pub stored : Disk
-stored = perform (flush 267) written .disk
-
-unfoldable pub unitOpen : Disk
-unitOpen = performAll (begin 1 1 ∷ onStream 1 (newBlock 1 1) ∷ onStream 1 (writeBlock 2 0 ascending) ∷ []) stored
-
-unfoldable pub unitEnded : Disk
-unitEnded = perform (end 1) unitOpen .disk
-
 -- "then unit 1: NewBlock after 1 gives 2, Write to 2, End"
 abbrev unit : List Step
 unit = accepts (begin 1 1) ∷ gives (onStream 1 (newBlock 1 1)) 2 ∷ accepts (onStream 1 (writeBlock 2 0 ascending)) ∷ accepts (end 1) ∷ []
 
 unfoldable pub runs : List Run
 runs =
+    -- the disks that rows start from: with the write queued; with it flushed; with unit 1 open; with unit 1 ended
+    let written = performAll (format ∷ onStream 0 newList ∷ onStream 0 (newBlock 1 0) ∷ onStream 0 (writeBlock 1 0 seven) ∷ []) blank in
+    let stored = perform (flush 267) written .disk in
+    let unitOpen = performAll (begin 1 1 ∷ onStream 1 (newBlock 1 1) ∷ onStream 1 (writeBlock 2 0 ascending) ∷ []) stored in
+    let unitEnded = perform (end 1) unitOpen .disk in
     -- "From a formatted one-segment card: NewList gives 1; NewBlock first on 1 gives 1; Write to 1 of a 7 and 255 zeros."
     run blank (accepts format ∷ gives (onStream 0 newList) 1 ∷ gives (onStream 0 (newBlock 1 0)) 1 ∷ accepts (onStream 0 (writeBlock 1 0 seven)) ∷ [])
     -- P "the flush takes 3+4+260 = 267 stores; the summary begins 3, 2 1, 3 1 1, 9 1 0"
