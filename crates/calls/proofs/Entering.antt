@@ -7,7 +7,7 @@ use Prim.Native.Nat.{ℕ}
 use Rattle.lists.specs.promises.Tables.{Tables}
 use Rattle.lists.proofs.Basic.{eqb-false}
 use Rattle.answers.specs.declared.Refusal.{Refusal}
-use Rattle.disk.specs.Disk.{Disk, unitOf, view}
+use Rattle.disk.specs.Disk.{Disk, view}
 use Rattle.disk.specs.Sound.{lengthsRight, recordSound, openUnit}
 use Rattle.disk.specs.Questions.{streamOpen, firstNo}
 use Rattle.answers.specs.Answers.{number}

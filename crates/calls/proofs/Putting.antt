@@ -1,7 +1,7 @@
 -- NewBlock, from what the tables of the committed state and of the stream's view say to what it performs.
 use mathlib.Core.Path.{_≡_, refl, ap, _∙_, subst}
 use mathlib.Core.Logic.{⊎-elim}
-use mathlib.Core.Bool.{Bool, true, false, _&&_, _||_, not, cond}
+use mathlib.Core.Bool.{Bool, true, false, _&&_, _||_, cond}
 use mathlib.Core.Option.{none}
 use mathlib.Core.List.{List, [], _∷_, _++_}
 use Prim.Native.Nat.{ℕ, zero, suc, _≤_, _<_}
@@ -9,7 +9,7 @@ use native.Mathlib.Omega.{arith}
 use lib.Dec.{leb, eqb, eqb·suc-zero}
 use Rattle.lists.specs.Basic.{isSome, orElse, all, from}
 use Rattle.lists.specs.Change.{mapChange, carriedBy}
-use Rattle.lists.specs.State.{Row, State, taken, placed, onList, overlay, mapState}
+use Rattle.lists.specs.State.{Row, State, taken, onList, overlay, mapState}
 use Rattle.lists.specs.promises.Tables.{Tables}
 use Rattle.lists.proofs.Basic.{or-cases, eqb-true, eqb-false}
 use Rattle.lists.proofs.Naturality.{taken-map, onList-map}
@@ -18,7 +18,7 @@ use Rattle.log.specs.Cell.{cellOf}
 use Rattle.disk.specs.Record.{Record, listedIn, unitAt}
 use Rattle.answers.specs.declared.NumberReply.{NumberReply}
 use Rattle.answers.specs.declared.NumberReply.the-variants.{Number, Refused}
-use Rattle.disk.specs.Disk.{Disk, withRecord, unitOf, journalOf, committed, view}
+use Rattle.disk.specs.Disk.{Disk, withRecord, unitOf, journalOf, view}
 use Rattle.disk.specs.Call.{newBlock, onStream, destination}
 use Rattle.disk.specs.Sound.{lengthsRight, recordSound, isOpenUnit}
 use Rattle.disk.specs.Questions.{streamOpen, freeBlock, predecessorRight, editQuestions, questions, firstNo, refusal}
@@ -32,7 +32,7 @@ use Rattle.calls.specs.Performs.{Performs}
 use Rattle.inspect.specs.promises.Located.{contents, journalHere}
 use Rattle.calls.specs.promises.Adds.{added, rooms}
 use Rattle.calls.specs.promises.Entering.{Admitted}
-use Rattle.calls.specs.promises.Giving.{freeBlockIn, putEntry, heldBy, putBlock, Gives, rangedPutQuestions, viewHere, PutsFree}
+use Rattle.calls.specs.promises.Giving.{freeBlockIn, putEntry, putBlock, Gives, rangedPutQuestions, viewHere, PutsFree}
 use Rattle.calls.proofs.Refusing.{usual-performs-refused, performs-accepted}
 use Rattle.calls.proofs.Adding.{Says, change-added, sound-padded}
 use Rattle.inspect.proofs.Locating.{overlay-here}

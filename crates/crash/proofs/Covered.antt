@@ -16,15 +16,15 @@ use Rattle.log.specs.Flush.{Flow, Ending, drained, full, spent, Next, stored, s
 use Rattle.log.proofs.Flows.{flowFor}
 use Rattle.answers.specs.declared.FlushReply.the-variants.{Drained}
 use Rattle.disk.specs.Disk.{Disk}
-use Rattle.disk.specs.Call.{format, flush, resets}
+use Rattle.disk.specs.Call.{flush, resets}
 use Rattle.disk.specs.Questions.{refusal}
 use Rattle.disk.specs.Perform.{Result, flowOf, flushed, accepted, perform}
 use Rattle.answers.specs.Answers.{Answer, endingNumber}
 use Rattle.answers.specs.Answers.{flushAnswer}
 use Rattle.disk.proofs.Performing.{perform-accepted, perform-refused, refusal-code}
-use Rattle.crash.specs.Event.{Event, called, Parts, lend, lentWhole, isAccepted, answered, mayHappen}
+use Rattle.crash.specs.Event.{called, Parts, lend, lentWhole, isAccepted, answered, mayHappen}
 use Rattle.crash.specs.Book.{Book, Waiting, entriesOf, longest, closingOnCard, onCard, bookFlush, bookAccepted, bookCalled, bookStep}
-use Rattle.crash.specs.Demand3.{Scene, sceneStep, play, valid, begun, DrainedCovers}
+use Rattle.crash.specs.Demand3.{Scene, sceneStep, play, begun, DrainedCovers}
 use Rattle.crash.proofs.History.{tell, on-card}
 use Rattle.crash.proofs.Told.{Told}
 use Rattle.crash.proofs.Lending.{lend-whole}

@@ -1,7 +1,7 @@
 -- Events on a card: calls, whole or in parts lent, and power cuts; the world that they leave; which events may happen.
-use mathlib.Core.Bool.{Bool, true, false, _&&_, _||_, not}
+use mathlib.Core.Bool.{Bool, true, _&&_, _||_, not}
 use mathlib.Core.Option.{Option, none, some}
-use mathlib.Core.List.{List, [], _++_}
+use mathlib.Core.List.{List, _++_}
 use Prim.Native.Nat.{ℕ, _+_}
 use lib.Dec.{leb, eqb}
 use lib.ListN.{length, drop, take}
@@ -10,7 +10,7 @@ use Rattle.disk.specs.Record.{Record}
 use Rattle.disk.specs.Disk.{Disk}
 use Rattle.disk.specs.Call.{Call, format, flush, resets}
 use Rattle.disk.specs.Questions.{refusal}
-use Rattle.disk.specs.Perform.{Result, perform, flushed, formatted}
+use Rattle.disk.specs.Perform.{perform, flushed, formatted}
 use Rattle.answers.specs.Answers.{Answer}
 
 -- a part of a buffer that a call is lent: where it starts and how long it is

@@ -3,7 +3,7 @@
 use mathlib.Core.Path.{_≡_, refl, sym, ap, _∙_, subst}
 use mathlib.Core.Bool.{true}
 use mathlib.Core.Option.{Option, some}
-use mathlib.Core.List.{List, []}
+use mathlib.Core.List.{List}
 use Prim.Native.Nat.{ℕ, _+_}
 use native.Mathlib.Omega.{arith}
 use Rattle.lists.specs.State.{State, applyAll, overlay}
@@ -22,13 +22,13 @@ use Rattle.disk.proofs.Queue.{beside-all, queued-opening, queued-closin
 use Rattle.disk.proofs.Journal.{unit-entries, journal-size, unit-sized}
 use Rattle.disk.proofs.Questions.{yes-all, past, card-length, unit-range, queue-room}
 use Rattle.disk.proofs.Fresh.{fresh-reader}
-use Rattle.disk.proofs.Clauses.{Right, OrderRight, committed-is, right, order-right}
+use Rattle.disk.proofs.Clauses.{Right, OrderRight, committed-is, right, order-right, sound-of}
 use Rattle.disk.proofs.Changes.{edit-makes, unit-good, replay-unit}
 use Rattle.disk.proofs.Growth.{enqueueAll-log}
 use Rattle.disk.proofs.Draining.{left}
 use Rattle.disk.proofs.Views.{committed-stays}
 use Rattle.disk.proofs.KeepsSound.{formatted-start}
-use Rattle.disk.proofs.ListedOnce.{order-same, fresh-order, sound-of}
+use Rattle.disk.proofs.ListedOnce.{order-same, fresh-order}
 use Rattle.disk.proofs.ChangeOrder.{made-order}
 use Rattle.disk.proofs.ClosingOrder.{ended-order, dropped-order}
 

@@ -2,18 +2,18 @@
 use mathlib.Core.Path.{_≡_, refl, sym, ap, _∙_}
 use mathlib.Core.Logic.{_≢_, _⊎_, inl, inr, ⊎-elim}
 use mathlib.Core.Bool.{true, cond}
-use mathlib.Core.List.{List, [], _∷_, map}
-use Prim.Native.Nat.{ℕ, zero, suc, _+_, _-_, _*_, _/_, _%_, _≤_, _<_}
+use mathlib.Core.List.{List, _∷_, map}
+use Prim.Native.Nat.{ℕ, zero, suc, _+_, _-_, _*_, _≤_, _<_}
 use native.Mathlib.Omega.{arith}
 use native.Mathlib.Nat.{zero-add}
 use native.Mathlib.Decide.{decLt, ℕ-discrete}
 use lib.Dec.{eqb}
-use lib.ListN.{length, getD, set, replicate, length-set}
+use lib.ListN.{length, getD, set, length-set}
 use lib.Seq.{ext-getD, getD-set-same, getD-set-other}
 use Rattle.lists.specs.Basic.{from}
-use Rattle.lists.proofs.Basic.{from-length, from-get, from-ext, getD-same}
+use Rattle.lists.proofs.Basic.{from-length, from-get, from-ext}
 use Rattle.log.specs.Cell.{Cell, cell}
-use Rattle.disk.specs.Record.{Unit, unit, Record, cellsIn, bytesIn, pairIn, pairsIn, unitIn, recordIn, noCell, noUnit, unitAt, holderOf, shaped, Ring, Held, Tally, withRing, withFlow, withHeld, withTally, emptied, journaled, holding, unitTurned, journalGrown, releasing, released}
+use Rattle.disk.specs.Record.{Unit, unit, cellsIn, bytesIn, pairIn, pairsIn, unitIn, recordIn, noCell, noUnit, unitAt, shaped, Ring, Held, Tally, withRing, withFlow, withHeld, withTally, emptied, releasing, released}
 use Rattle.disk.specs.promises.Bytes.{cellSet}
 
 -- A list by its elements' numbers, with one element changed.

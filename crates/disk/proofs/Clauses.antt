@@ -2,7 +2,7 @@
 use mathlib.Core.Path.{_≡_, refl, sym, ap, _∙_}
 use mathlib.Core.Logic.{_⊎_, inl, inr}
 use mathlib.Core.Bool.{Bool, true, false, _&&_, _||_, not, cond, or-true, true≢false, false≢true}
-use mathlib.Core.Option.{some}
+use mathlib.Core.Option.{some, Option·some-injective, Option·none-ne-some}
 use mathlib.Core.List.{List, [], _∷_, _++_}
 use Prim.Native.Nat.{ℕ, zero, suc, _-_, _≤_, _<_}
 use native.Mathlib.Omega.{arith}
@@ -16,9 +16,9 @@ use Rattle.lists.specs.Numbers.{allNumbers}
 use Rattle.lists.proofs.Basic.{and-true, or-cases, not-false, eqb-true, leb-true, ltb-true, le-true, lt-true, eq-true, some-of, is-some, each-at, all-from, from-all}
 use Rattle.log.specs.Entry.{legal, raw}
 use Rattle.log.specs.Reader.{Reader}
-use Rattle.log.specs.Card.{Written, cardLength}
+use Rattle.log.specs.Card.{Written, cardLength, Outcome, sound, fault}
 use Rattle.disk.specs.Record.{Record, unitAt, holderOf, listedIn, padded, shaped, isOpen}
-use Rattle.disk.specs.Disk.{Disk, queued, unitOf, journalOf, committedReader, stateOf, committed}
+use Rattle.disk.specs.Disk.{Disk, queued, unitOf, journalOf, readerOf, committedReader, stateOf, committed}
 use Rattle.disk.specs.Sound.{lengthsRight, isOpenUnit, journalSound, unitSound, holderSound, orderSound, dueTimes, listedSound, headStanding, recordSound}
 use Rattle.disk.proofs.Questions.{card-length, queue-data, journal-data}
 use Rattle.disk.proofs.Listing.{listed-length}
@@ -33,6 +33,12 @@ pub record LogRight (d : Disk) (z : Reader Written) : Type 0 where
   pub lawful : all (λ e. legal (raw 0 e)) (queued d) ≡ true
   pub replays : committedReader d ≡ some z
   pub stands : headStanding (d .card) (d .rec .ring .done) (queued d) ≡ true
+
+-- what is read of a log without a fault
+pub sound-of : (o : Outcome Written) (z : Reader Written) → readerOf o ≡ some z → o ≡ sound z
+unfolding readerOf
+sound-of (sound r) z e = ap sound (Option·some-injective r z e)
+sound-of (fault g i) z e = absurd (Option·none-ne-some z e)
 
 -- unit u and its journal
 pub record UnitRight (d : Disk) (u : ℕ) : Type 0 where

@@ -1,6 +1,5 @@
 -- The conflict counts: what each call makes of them.
 use mathlib.Core.Path.{_≡_, refl, sym, ap, _∙_}
-use mathlib.Core.Logic.{_≢_}
 use mathlib.Core.Bool.{Bool, true, false, _&&_, cond}
 use mathlib.Core.Option.{Option, none, some, Option·some-injective}
 use mathlib.Core.List.{List}
@@ -14,11 +13,11 @@ use Rattle.lists.specs.Change.{Change}
 use Rattle.lists.specs.State.{Row}
 use Rattle.lists.proofs.Basic.{and-true, leb-true, eqb-same, eqb-false, eqb-true, getD-same}
 use Rattle.log.specs.Card.{Written}
-use Rattle.disk.specs.Record.{Record, blankRecord, freshRecord, countOf, withListed}
+use Rattle.disk.specs.Record.{blankRecord, freshRecord, countOf, withListed}
 use Rattle.disk.specs.Disk.{Disk, unitOf, journalOf, committed, listing}
 use Rattle.disk.specs.Call.{Call, format, mount, conflictCount, onStream, inView, begin, end, flush, ends, resets}
-use Rattle.disk.specs.Questions.{isWindow, questions, refusal}
-use Rattle.disk.specs.Perform.{enqueue, enqueueAll, journalAdd, change, hold, relisted, noted, made, numberGiven, changeFor, opening, closing, conflicted, unitEntries, afterFlush, accepted, refused, perform}
+use Rattle.disk.specs.Questions.{questions, refusal}
+use Rattle.disk.specs.Perform.{enqueue, journalAdd, change, hold, relisted, noted, made, numberGiven, changeFor, opening, closing, conflicted, unitEntries, afterFlush, accepted, refused, perform}
 use Rattle.disk.specs.Statements.{countAfter, CountsMove}
 use Rattle.disk.proofs.Held.{noted-by}
 use Rattle.disk.proofs.Clauses.{right, open-window}

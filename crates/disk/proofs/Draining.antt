@@ -1,7 +1,7 @@
 -- A flush of a sound disk: what its card and queue say before and after (`turn`), and that it leaves a sound record (`flush-right`).
 use mathlib.Core.Path.{_≡_, refl, sym, ap, _∙_}
 use mathlib.Core.Bool.{true}
-use mathlib.Core.Option.{some, Option·none-ne-some, Option·some-injective}
+use mathlib.Core.Option.{some}
 use mathlib.Core.List.{List}
 use Prim.Native.Nat.{ℕ, _*_}
 use native.Mathlib.Omega.{arith}
@@ -10,7 +10,7 @@ use Rattle.lists.specs.Basic.{joined}
 use Rattle.lists.proofs.Basic.{bind-some, all-drop}
 use Rattle.log.specs.Entry.{Entry, legal, raw}
 use Rattle.log.specs.Reader.{Reader, start, replay}
-use Rattle.log.specs.Card.{Written, segmentsIn, Outcome, sound, fault, mounted}
+use Rattle.log.specs.Card.{Written, segmentsIn, mounted}
 use Rattle.log.specs.Flush.{Flow}
 use Rattle.log.proofs.CardLength.{card-size, same-length}
 use Rattle.log.proofs.Replay.{replay-append}
@@ -24,16 +24,11 @@ use Rattle.disk.specs.Questions.{questions, refusal}
 use Rattle.disk.specs.Perform.{flowOf, flushed, afterFlush, accepted}
 use Rattle.disk.proofs.Queue.{queue-length, queued-sized, queued-flushed, flushed-head}
 use Rattle.disk.proofs.Questions.{yes-all}
-use Rattle.disk.proofs.Clauses.{LogRight, Right, right}
+use Rattle.disk.proofs.Clauses.{LogRight, Right, right, sound-of}
 use Rattle.disk.proofs.Changes.{good-all}
 use Rattle.disk.proofs.Units.{units-same}
 use Rattle.disk.proofs.KeepsSound.{sound-reader}
 use Rattle.disk.proofs.Standing.{standing-head, head-standing}
-
-outcome-sound : (o : Outcome Written) (r : Reader Written) → readerOf o ≡ some r → o ≡ sound r
-unfolding readerOf
-outcome-sound (sound x) r e = ap sound (Option·some-injective _ _ e)
-outcome-sound (fault g i) r e = absurd (Option·none-ne-some _ e)
 
 -- The segments that a sound disk's card carries, with the queue behind them.
 pub record Open (d : Disk) (z : Reader Written) : Type 0 where
@@ -49,7 +44,7 @@ unfolding committedReader
 open-log d z l =
     let (r, p, u) = bind-some (readerOf (mounted (d .card))) (λ r. replay r (queued d)) z (l .replays) in
     let (a, b) = card-size (d .card) (l .card) in
-    let (ess, k, v) = carries-read (segmentsIn (d .card)) (d .card) r b a (outcome-sound (mounted (d .card)) r p) in
+    let (ess, k, v) = carries-read (segmentsIn (d .card)) (d .card) r b a (sound-of (mounted (d .card)) r p) in
     let g = good-all (queued d) (l .lawful) (queued-sized d (l .queueData)) in
     record {
       segs = ess;

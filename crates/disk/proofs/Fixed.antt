@@ -4,9 +4,8 @@ use mathlib.Core.List.{List}
 use Prim.Native.Nat.{ℕ, zero, suc, _+_, _-_, _*_, _/_, _%_, _≤_, _<_}
 use native.Mathlib.Omega.{arith}
 use native.Mathlib.Decide.{decLt, ℕ-discrete}
-use lib.ListN.{length, getD}
+use lib.ListN.{getD}
 use lib.Seq.{ext-getD}
-use Rattle.lists.specs.Basic.{from}
 use Rattle.log.specs.Cell.{Cell, cell}
 use Rattle.disk.specs.Record.{Unit, Record, cellsIn, bytesIn, pairIn, pairsIn, unitIn, recordIn, noCell, unitAt}
 use Rattle.disk.specs.Statements.{IsBytes, RecordFixed}

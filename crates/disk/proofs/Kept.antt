@@ -3,8 +3,7 @@ use mathlib.Core.Path.{_≡_, refl, subst}
 use mathlib.Core.Bool.{Bool, true}
 use mathlib.Core.Option.{Option, none, some, Option·some-injective}
 use mathlib.Core.List.{List, [], _∷_}
-use Prim.Native.Nat.{ℕ, suc, _+_, _-_, _<_}
-use native.Mathlib.Omega.{arith}
+use Prim.Native.Nat.{ℕ, _+_, _-_}
 use lib.Dec.{leb}
 use lib.ListN.{length, getD}
 use Rattle.lists.specs.Basic.{bind, all, joined, orElse}
@@ -16,17 +15,13 @@ use Rattle.log.specs.Entry.{Entry, plain, member, commit, mapEntry, carried, ra
 use Rattle.log.specs.Reader.{Reader, settled, start, lastOf, read, replay}
 use Rattle.log.specs.Card.{Written, usedBy}
 use Rattle.log.proofs.Segment.{Fine}
+use Rattle.log.proofs.Numbers.{all-joined}
 use Rattle.disk.specs.Disk.{Disk, queued, journalOf, stateOf, persistent, committed, view}
 use Rattle.disk.specs.Sound.{isOpenUnit, journalSound}
 use Rattle.disk.specs.Questions.{viewOpen}
 use Rattle.disk.proofs.Questions.{unit-range, open-views}
 use Rattle.disk.proofs.Clauses.{Right, committed-is}
 use Rattle.disk.proofs.Draining.{Open, open-log}
-
-all-joined : {A : Type 0} (p : A → Bool) (xss : List (List A)) → ((h : ℕ) → h < length xss → all p (getD xss h []) ≡ true) → all p (joined xss) ≡ true
-unfolding joined all
-all-joined p [] f = refl
-all-joined p (xs ∷ xss) f = all-append p xs (joined xss) (f 0 (omega arith)) (all-joined p xss (λ h l. f (suc h) (omega arith)))
 
 -- Q is what is kept, by the changes that pass the test.
 module _ (Q : State Written → Type 0) (ok : Change Written → Bool) (begins : Q empty)

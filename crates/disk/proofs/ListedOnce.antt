@@ -3,8 +3,7 @@
 use mathlib.Core.Path.{_≡_, refl, sym, ap, _∙_}
 use mathlib.Core.Logic.{inl, inr}
 use mathlib.Core.Bool.{Bool, true, false, _&&_, not, cond, and-true as and-yes, false≢true}
-use mathlib.Core.Option.{some, Option·some-injective}
-use mathlib.Core.List.{List, []}
+use mathlib.Core.List.{List}
 use Prim.Native.Nat.{ℕ, zero, suc, _-_, _≤_}
 use native.Mathlib.Omega.{arith}
 use lib.Dec.{eqb}
@@ -15,17 +14,17 @@ use Rattle.lists.specs.Change.{Change}
 use Rattle.lists.specs.State.{Row, State}
 use Rattle.lists.specs.InUse.{isNumber, inUse, isFree, Numbered}
 use Rattle.lists.proofs.Basic.{not-not, le-true, bind-some, getD-same}
-use Rattle.lists.proofs.Times.{all-standing, standing-all}
-use Rattle.lists.proofs.Listed.{number-range, free-number, fits, once-most, Listed, Reached, reached-exact}
+use Rattle.lists.proofs.Times.{all-standing, standing-all, once-most}
+use Rattle.lists.proofs.Listed.{number-range, free-number, fits, Listed, Reached, reached-exact}
 use Rattle.log.specs.Entry.{plain, raw, legal, mapEntry}
-use Rattle.log.specs.Reader.{Reader, replay}
-use Rattle.log.specs.Card.{Written, sound, fault, Outcome, mounted}
+use Rattle.log.specs.Reader.{replay}
+use Rattle.log.specs.Card.{Written, mounted}
 use Rattle.log.proofs.Reached.{numbered, legal-numbered, replay-reached, mounted-reached}
 use Rattle.log.proofs.Places.{Good}
 use Rattle.disk.specs.Record.{freshRecord, blankRecord, holderOf, listedIn, padded, withListed}
 use Rattle.disk.specs.Disk.{Disk, queued, readerOf, committedReader}
 use Rattle.disk.specs.Perform.{relisted}
-use Rattle.disk.proofs.Clauses.{HolderRight, UnitsRight, Right, OrderRight}
+use Rattle.disk.proofs.Clauses.{HolderRight, UnitsRight, Right, OrderRight, sound-of}
 
 -- The numbers that a record lists, by the list.
 pub record Lists (d : Disk) (fs : List ℕ) : Type 0 where
@@ -76,11 +75,6 @@ order-same d e s t a b h r o =
     (λ n p q. o .once n p q ∙ (λ i. cond (not (inUse n (sym r i)) && eqb (getD (sym h i) (n - 1) 0) 0) 1 0))
 
 -- The committed state is one that numbered changes lead to.
-pub sound-of : (o : Outcome Written) (z : Reader Written) → readerOf o ≡ some z → o ≡ sound z
-unfolding readerOf
-sound-of (sound r) z e = ap sound (Option·some-injective r z e)
-sound-of (fault g i) z e = let n : _≡_ {A = ℕ} 0 1 = cc in absurd (omega arith)
-
 pub reader-reached : (d : Disk) (k : Right d) → Reached (k .reader .state)
 unfolding committedReader
 reader-reached d k =

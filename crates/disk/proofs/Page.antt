@@ -9,7 +9,7 @@ use Rattle.lists.proofs.Basic.{leb-true, le-true}
 use Rattle.lists.proofs.Numbers.{blocks-few}
 use Rattle.listing.specs.Page.{pageText}
 use Rattle.listing.proofs.PageMost.{page-most}
-use Rattle.disk.specs.Disk.{Disk, view}
+use Rattle.disk.specs.Disk.{view}
 use Rattle.disk.specs.Call.{page, inView, lentTo, destination}
 use Rattle.disk.specs.Questions.{lookQuestions, questions, ask, firstNo, refusal}
 use Rattle.disk.specs.Perform.{Result, found, accepted, perform}

@@ -1,7 +1,7 @@
 -- What an answer says of the call's questions, and what the questions answered yes say of disk and arguments.
-use mathlib.Core.Path.{_≡_, refl, sym, ap, _∙_}
+use mathlib.Core.Path.{_≡_, refl, sym, _∙_}
 use mathlib.Core.Logic.{_≢_}
-use mathlib.Core.Bool.{Bool, true, false, _&&_, _||_, not, or-true, false≢true}
+use mathlib.Core.Bool.{Bool, true, false, _&&_, _||_, or-true, false≢true}
 use mathlib.Core.Option.{some, Option·none-ne-some, Option·some-injective}
 use mathlib.Core.List.{List, [], _∷_}
 use Prim.Native.Nat.{ℕ, zero, suc, _+_, _-_, _≤_, _<_}
@@ -13,7 +13,7 @@ use Rattle.lists.specs.State.{State, overlay}
 use Rattle.lists.proofs.Basic.{and-true, eqb-same, eqb-true, leb-true, ltb-true, le-true}
 use Rattle.lists.proofs.Times.{times-here, times-cons}
 use Rattle.log.specs.Card.{Written, cardLength}
-use Rattle.disk.specs.Record.{isOpen}
+use Rattle.disk.specs.Record.{Record, unitAt, isOpen}
 use Rattle.disk.specs.Disk.{Disk, unitOf, journalOf, persistent, committed, view}
 use Rattle.disk.specs.Sound.{lengthsRight, openUnit, isOpenUnit}
 use Rattle.disk.specs.Call.{Call, format, mount, conflictCount, onStream, inView, begin, end, flush}
@@ -101,12 +101,16 @@ module _ (d : Disk) (h : lengthsRight d ≡ true) where
   unfolding lengthsRight
   journal-data = eqb-true _ 15360 (and-true (cardLength (d .card) && eqb (length (d .queueData)) 8192) _ h .1)
 
-pub unit-range : (d : Disk) (u : ℕ) → isOpenUnit d u ≡ true → (1 ≤ u) × (u ≤ 4) × (isOpen (unitOf d u) ≡ true)
-unfolding openUnit unitOf
-unit-range d u h =
-    let (a, o) = and-true (leb 1 u && leb u 4) (isOpen (unitOf d u)) h in
+pub open-in-range : (r : Record) (u : ℕ) → openUnit r u ≡ true → (1 ≤ u) × (u ≤ 4) × (isOpen (unitAt r u) ≡ true)
+unfolding openUnit
+open-in-range r u h =
+    let (a, o) = and-true (leb 1 u && leb u 4) (isOpen (unitAt r u)) h in
     let (p, q) = and-true (leb 1 u) (leb u 4) a in
     (leb-true 1 u p, leb-true u 4 q, o)
+
+pub unit-range : (d : Disk) (u : ℕ) → isOpenUnit d u ≡ true → (1 ≤ u) × (u ≤ 4) × (isOpen (unitOf d u) ≡ true)
+unfolding unitOf
+unit-range d u h = open-in-range (d .rec) u h
 
 pub open-range : (d : Disk) (u : ℕ) → streamOpen d (suc u) ≡ true → (1 ≤ suc u) × (suc u ≤ 4) × (isOpen (unitOf d (suc u)) ≡ true)
 unfolding streamOpen

@@ -17,7 +17,8 @@ use Rattle.lists.specs.State.{Row, State, state, changed, frees, freeAfter, app
 use Rattle.lists.specs.InUse.{isNumber, isFree, brings, brought, AllNumbered}
 use Rattle.lists.proofs.Basic.{and-true, leb-true, bind-some, keep-all}
 use Rattle.lists.proofs.Apply.{apply-some}
-use Rattle.lists.proofs.Listed.{fits, once-most, Exact, Listed, listed-step, listed-range, Reached, reached-step, reached-exact}
+use Rattle.lists.proofs.Listed.{fits, Exact, Listed, listed-step, listed-range, Reached, reached-step, reached-exact}
+use Rattle.lists.proofs.Times.{once-most}
 use Rattle.lists.specs.promises.Tables.{Tables}
 use Rattle.log.specs.Raced.{Raced}
 use Rattle.log.specs.Entry.{asChange, member, raw, mapEntry, legal, legalChange}

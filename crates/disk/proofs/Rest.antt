@@ -13,8 +13,8 @@ use Rattle.lists.specs.State.{Row, State, state, applies, changed, frees, freeA
 use Rattle.lists.specs.InUse.{inUse}
 use Rattle.lists.specs.Numbers.{isNumber, allNumbers, brings, brought}
 use Rattle.lists.proofs.Basic.{or-both, not-true, eqb-false, eq-true, keep-all, keep-append}
-use Rattle.lists.proofs.Times.{times-append, times-keep, keep-alike, all-standing}
-use Rattle.lists.proofs.Listed.{number-range, once-most}
+use Rattle.lists.proofs.Times.{times-append, times-keep, keep-alike, all-standing, once-most}
+use Rattle.lists.proofs.Listed.{number-range}
 use Rattle.log.specs.Card.{Written}
 use Rattle.disk.specs.Record.{holderOf, listedIn, blankRecord, freshRecord}
 use Rattle.disk.specs.Disk.{Disk, journalOf, persistent, committed, listing}

@@ -8,23 +8,23 @@ use Prim.Native.Nat.{ℕ, zero, suc, _+_, _*_, _/_, _≤_, _<_}
 use native.Mathlib.Omega.{arith}
 use native.Mathlib.Decide.{ℕ-discrete}
 use lib.Dec.{eqb}
-use lib.ListN.{length, take, getD, set, length-set}
+use lib.ListN.{length, take, getD, length-set}
 use lib.Seq.{getD-set-same, getD-set-other}
 use Rattle.lists.proofs.Basic.{eqb-true, eqb-neq}
 use Rattle.log.specs.declared.place.Place.{Place}
 use Rattle.log.specs.Entry.{Entry}
 use Rattle.log.specs.Card.{Written, cardLength, segmentsIn, count}
-use Rattle.log.specs.Store.{Store, doStores, formatStores, home, tail, entryStores}
+use Rattle.log.specs.Store.{doStores, formatStores, home, entryStores}
 use Rattle.log.specs.Flush.{Flow, Flushed, Ending, stopped, nextStore, flushFrom}
-use Rattle.log.specs.Turns.{InTurn, Clearable, storedAt, clearedAt, Steps, noStep, more, last, Clears, noClear, clear}
+use Rattle.log.specs.Turns.{InTurn, storedAt, clearedAt, Steps, noStep, more, last, Clears, noClear, clear}
 use Rattle.log.proofs.CardLength.{card-size}
 use Rattle.log.proofs.Segment.{carries-segments}
 use Rattle.log.proofs.Allowance.{none-left, stopped-flush, moved-flush}
 use Rattle.log.proofs.Places.{addTo}
 use Rattle.log.proofs.Flows.{endOf, Flows, flowFor, store-more, store-last, next-more, next-last, next-none, next-full, add-length}
-use Rattle.disk.specs.Disk.{Disk, queued}
-use Rattle.disk.specs.Perform.{flowOf, flushed, formatted}
-use Rattle.disk.specs.Statements.{StepsOfFlush, FlushInOrder, StepsOfFormat, FormatInOrder, CutFormat}
+use Rattle.disk.specs.Disk.{queued}
+use Rattle.disk.specs.Perform.{flushed, formatted}
+use Rattle.disk.specs.Statements.{FlushInOrder, FormatInOrder, CutFormat}
 use Rattle.disk.proofs.Clauses.{right}
 use Rattle.disk.proofs.Standing.{home-same}
 use Rattle.disk.proofs.Turns.{in-turn}

@@ -1,25 +1,22 @@
 -- The window of a unit: an accepted Begin of the unit sets it; every other call keeps it, or closes the unit.
-use mathlib.Core.Path.{_≡_, refl, sym, ap, _∙_}
+use mathlib.Core.Path.{_≡_, refl, ap, _∙_}
 use mathlib.Core.Logic.{_≢_, _⊎_, inl, inr}
 use mathlib.Core.Bool.{Bool, true, false, false≢true}
 use mathlib.Core.Option.{Option, none, some}
 use mathlib.Core.List.{List, [], _∷_}
 use Prim.Native.Nat.{ℕ, zero, suc, _-_, _≤_}
-use native.Mathlib.Omega.{arith}
-use native.Mathlib.Decide.{ℕ-discrete}
 use lib.Dec.{leb, eqb}
-use lib.ListN.{length, getD, set}
-use lib.Seq.{getD-set-other}
+use lib.ListN.{getD, set}
 use Rattle.lists.specs.Change.{Change}
 use Rattle.lists.specs.State.{Row, State, overlay}
 use Rattle.lists.specs.Numbers.{allNumbers}
 use Rattle.lists.proofs.Basic.{and-true, leb-true}
 use Rattle.log.specs.Card.{Written}
-use Rattle.disk.specs.Record.{Unit, Record, noUnit, freshUnit, blankRecord, freshRecord, unitAt, emptied, journaled, withListed}
+use Rattle.disk.specs.Record.{Unit, noUnit, freshUnit, blankRecord, freshRecord, unitAt, withListed}
 use Rattle.disk.specs.Disk.{Disk, unitOf, journalOf, persistent, committed, listing}
 use Rattle.disk.specs.Call.{Call, format, mount, conflictCount, onStream, inView, begin, end, flush, ends, resets}
 use Rattle.disk.specs.Questions.{questions, refusal}
-use Rattle.disk.specs.Perform.{enqueue, enqueueAll, journalAdd, change, hold, relisted, noted, made, numberGiven, changeFor, opening, closing, conflicted, unitEntries, afterFlush, accepted, refused, perform}
+use Rattle.disk.specs.Perform.{enqueue, enqueueAll, journalAdd, change, hold, relisted, noted, made, numberGiven, changeFor, closing, conflicted, unitEntries, afterFlush, accepted, refused, perform}
 use Rattle.disk.proofs.Held.{noted-by}
 use Rattle.disk.proofs.Clauses.{right}
 use Rattle.disk.proofs.Performing.{perform-accepted, perform-refused}

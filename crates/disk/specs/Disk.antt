@@ -1,10 +1,10 @@
 -- The disk: the card, the lent data and the record; what the queue and the journals say, and the views.
-use mathlib.Core.Bool.{Bool, true, false, cond}
+use mathlib.Core.Bool.{cond}
 use mathlib.Core.Option.{Option, none, some}
-use mathlib.Core.List.{List, [], _∷_}
+use mathlib.Core.List.{List}
 use Prim.Native.Nat.{ℕ, _+_, _-_, _*_}
 use lib.Dec.{eqb}
-use lib.ListN.{length, getD}
+use lib.ListN.{getD}
 use Rattle.lists.specs.Basic.{bind, from}
 use Rattle.lists.specs.Change.{Change, mapChange}
 use Rattle.lists.specs.State.{State, state, empty, overlay}

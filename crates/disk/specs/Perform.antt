@@ -2,9 +2,9 @@
 use mathlib.Core.Bool.{true, false, _&&_, not}
 use mathlib.Core.Option.{Option, none, some}
 use mathlib.Core.List.{List, [], _∷_, _++_, map}
-use Prim.Native.Nat.{ℕ, zero, suc, _+_, _-_, _*_, _/_, _%_, min}
+use Prim.Native.Nat.{ℕ, zero, suc, _+_, _-_, _*_, _%_}
 use lib.Dec.{eqb}
-use lib.ListN.{length, drop, take, set}
+use lib.ListN.{length, drop, take}
 use Rattle.lists.specs.Basic.{orElse, keep, times}
 use Rattle.lists.specs.Change.{Change, takeList, putFirst, putAfter, write, delBlock, delList, carriedBy}
 use Rattle.lists.specs.State.{Row, State, frees, overlay}

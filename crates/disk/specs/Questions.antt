@@ -6,7 +6,7 @@ use Prim.Native.Nat.{ℕ, _+_, _-_}
 use lib.Dec.{leb, eqb, ltb}
 use lib.ListN.{length}
 use Rattle.lists.specs.Basic.{isSome}
-use Rattle.lists.specs.State.{Row, State, taken, placed, onList, applyAll}
+use Rattle.lists.specs.State.{Row, taken, placed, onList, applyAll}
 use Rattle.lists.specs.Lookup.{written}
 use Rattle.log.specs.Entry.{isBlock, isList, isRace}
 use Rattle.log.specs.Card.{Written, slotBytes, mounted}

@@ -1,6 +1,6 @@
 -- The working record: its parts by name, the bytes that it is lent as, and the record with a part changed.
 use mathlib.Core.Bool.{Bool, _&&_, not, cond}
-use mathlib.Core.List.{List, [], _∷_, _++_, map}
+use mathlib.Core.List.{List, [], _++_, map}
 use Prim.Native.Nat.{ℕ, _+_, _-_, _*_, _%_, min}
 use lib.Dec.{eqb}
 use lib.ListN.{length, getD, set, take, replicate}

@@ -1,7 +1,7 @@
 -- Questions 1 and 3: the lent lengths, and the record's soundness, clause by clause.
 use mathlib.Core.Bool.{Bool, _&&_, _||_, not, cond}
 use mathlib.Core.List.{List, [], _∷_}
-use Prim.Native.Nat.{ℕ, _/_}
+use Prim.Native.Nat.{ℕ}
 use lib.Dec.{leb, eqb, ltb}
 use lib.ListN.{length, drop}
 use Rattle.lists.specs.Basic.{isSome, all, each, times, from}

@@ -10,7 +10,6 @@ use Rattle.log.specs.declared.place.Place.{Place}
 use Rattle.log.specs.Card.{slot, segmentsIn}
 use Rattle.log.specs.Store.{home, after, tail, entryStores}
 use Rattle.log.specs.Flush.{ahead, rest}
-use Rattle.disk.specs.Record.{ringPlace}
 use Rattle.disk.specs.Disk.{Disk, queuedAt, queued}
 use Rattle.disk.specs.Call.{flush}
 use Rattle.disk.specs.Questions.{questions}

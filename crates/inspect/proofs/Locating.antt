@@ -15,12 +15,12 @@ use Rattle.lists.specs.Lookup.{contentOf, nextAfter, listNums, takenAfter}
 use Rattle.lists.specs.promises.Tables.{Tables, IsBlock, IsList, OfShown, locatedAt}
 use Rattle.lists.proofs.Lookup.{lists-shown}
 use Rattle.lists.proofs.Naturality.{taken-map, placed-map, onList-map, change-comp, applyAll-map, overlay-map, nextAfter-map, listNums-map, contentOf-map}
-use Rattle.log.specs.Raced.{Raced, withBody}
+use Rattle.log.specs.Raced.{Raced}
 use Rattle.log.specs.Entry.{mapEntry, asChange}
 use Rattle.log.specs.Cell.{entryIn}
 use Rattle.log.specs.Reader.{Reader, replay}
-use Rattle.log.specs.Card.{Written, slot, sound, cardLength, walkCard}
-use Rattle.log.specs.promises.Location.{cardNumber, numberAt, queueLocation, journalLocation, contentAt}
+use Rattle.log.specs.Card.{Written, sound, cardLength, walkCard}
+use Rattle.log.specs.promises.Location.{cardNumber, numberAt, queueLocation, journalLocation}
 use Rattle.log.proofs.Naturality.{mapReader, entry-comp, replay-map}
 use Rattle.log.proofs.Locations.{content-queue, content-journal, sound-at}
 use Rattle.disk.specs.Record.{noCell, ringPlace}

@@ -1,17 +1,17 @@
 -- Questions 1, 3 and 4 in their order, and the views: a sound disk's unit has a journal that may be laid over its committed state.
 use mathlib.Core.Path.{_≡_, refl, sym, ap, _∙_, subst}
 use mathlib.Core.Logic.{_≢_}
-use mathlib.Core.Bool.{Bool, true, false, _&&_, cond, or-true}
+use mathlib.Core.Bool.{Bool, true, false, cond, or-true}
 use Prim.Native.Nat.{ℕ, _≤_}
-use lib.Dec.{eqb, leb}
+use lib.Dec.{eqb}
 use Rattle.lists.specs.Basic.{all, from}
 use Rattle.lists.specs.State.{overlay}
 use Rattle.lists.specs.promises.Tables.{Tables}
-use Rattle.lists.proofs.Basic.{and-true, eqb-false, leb-true, all-from, from-all}
+use Rattle.lists.proofs.Basic.{and-true, eqb-false, all-from, from-all}
 use Rattle.log.specs.Entry.{member, mapEntry, raw, legal}
 use Rattle.log.specs.declared.place.Place.{Place}
 use Rattle.log.proofs.Naturality.{raw-map}
-use Rattle.disk.specs.Record.{Record, unitAt, isOpen}
+use Rattle.disk.specs.Record.{unitAt}
 use Rattle.answers.specs.declared.Refusal.{Refusal}
 use Rattle.answers.specs.declared.Refusal.the-variants.{WrongLength, RecordUnsound, StreamClosed}
 use Rattle.disk.specs.Disk.{Disk, unitOf, journalAt, journalOf, committed, view}
@@ -19,6 +19,7 @@ use Rattle.disk.specs.Sound.{lengthsRight, recordSound, openUnit, journalSound}
 use Rattle.disk.specs.Questions.{streamOpen, viewOpen, ask, firstNo}
 use Rattle.answers.specs.Answers.{number}
 use Rattle.disk.proofs.Clauses.{right}
+use Rattle.disk.proofs.Questions.{open-in-range}
 use Rattle.inspect.specs.promises.Located.{Located, journalHere}
 use Rattle.inspect.specs.promises.Clauses.{changeIn, Overlays}
 use Rattle.inspect.specs.promises.Inspect.{Accepted, openAs, Sees, Looks}
@@ -42,13 +43,6 @@ unit-lawful d u l s p q =
           sym (ap legal (raw-map _ (λ s. refl) 0 (member (changeIn x j))))
           ∙ and-true (legal (raw 0 (member (journalAt d u j)))) _ (all-from (journalSound (d .rec) u) (journalAt d u) 0 (x .len) (k .sound) j a b) .0);
     }
-
-pub open-range : (r : Record) (u : ℕ) → openUnit r u ≡ true → (1 ≤ u) × (u ≤ 4)
-unfolding openUnit
-open-range r u h =
-    let (a, b) = and-true (leb 1 u && leb u 4) (isOpen (unitAt r u)) h in
-    let (p, q) = and-true (leb 1 u) (leb u 4) a in
-    (leb-true 1 u p, leb-true u 4 q)
 
 module _ (looked : Bool) (d : Disk) (v : ℕ) where
   -- no to question x, whatever the tables are
@@ -118,6 +112,6 @@ module _ (looked : Bool) (d : Disk) (v : ℕ) where
             located = record {
               here = overlay (journalHere (unitAt (d .rec) v) v) (x .here);
               shows = w .shows (x .here) (x .shows);
-              means = rw (eqb-false v 5 m, eqb-false v 0 n, x .means) (overlay-here d v (x .here) (open-range (d .rec) v o .1) (unit-lawful d v (a .lengths) (a .sound) (open-range (d .rec) v o .0) (open-range (d .rec) v o .1) .room));
+              means = rw (eqb-false v 5 m, eqb-false v 0 n, x .means) (overlay-here d v (x .here) (open-in-range (d .rec) v o .1) (unit-lawful d v (a .lengths) (a .sound) (open-in-range (d .rec) v o .0) (open-in-range (d .rec) v o .1) .room));
             };
           }

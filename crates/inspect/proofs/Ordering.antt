@@ -18,13 +18,9 @@ use Rattle.lists.specs.Numbers.{allNumbers}
 use Rattle.lists.proofs.Basic.{from-length, from-get, and-true, leb-true, le-true, lt-true, ge-false, gt-false, eq-true, eqb-false}
 use Rattle.lists.proofs.Dropping.{times-most}
 use Rattle.lists.proofs.Times.{times-append, times-here, times-other}
-use Rattle.disk.specs.Record.{Record, recordIn, bytesIn, holderOf, listedIn}
+use Rattle.disk.specs.Record.{Record, holderOf, listedIn}
 use Rattle.disk.specs.Sound.{orderSound, dueTimes, listedSound}
 use Rattle.inspect.proofs.Judging.{and-behind, from-one}
-
-pub order-length : (bs : List ℕ) → length (recordIn bs .tally .order) ≡ 80
-unfolding recordIn bytesIn
-order-length bs = from-length (λ k. getD bs (493 + k) 0) 0 80
 
 -- Tests of places: one of the first n, another of those behind.
 module _ (p q : ℕ → Bool) (f : ℕ → ℕ) (g : ℕ → Bool) where

@@ -7,7 +7,7 @@ use Prim.Native.Nat.{ℕ, _+_, _/_, _%_}
 use native.Mathlib.Omega.{arith}
 use lib.Dec.{leb, eqb}
 use lib.ListN.{length}
-use Rattle.lists.specs.Basic.{from, joined}
+use Rattle.lists.specs.Basic.{joined}
 use Rattle.lists.specs.State.{Row, mapRow}
 use Rattle.lists.specs.Lookup.{contentOf}
 use Rattle.lists.proofs.Basic.{and-true, leb-true, le-true, from-shift}

@@ -53,10 +53,6 @@ pub total-step : (f : ℕ → ℕ) (g m n : ℕ) → m ≡ total (from f 0 g) �
 total-step f g m n h k =
     ap₂ (λ (a b : ℕ). a + b) h (k ∙ ap f (sym (zero-add g))) ∙ sym (ap (λ (j : ℕ). total (from f 0 j)) (add-one g) ∙ total-more f 0 g)
 
-pub one-most : (b : Bool) → cond b 1 0 ≤ 1
-one-most true = omega arith
-one-most false = omega arith
-
 pub count-at : (c : List ℕ) (g : ℕ) → getD c (g * 4096 + 3584) 0 ≡ count c g
 unfolding count
 count-at c g = ap (λ (k : ℕ). getD c (k + 3584) 0) (mul-comm g 4096)

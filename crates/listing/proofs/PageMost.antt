@@ -1,5 +1,5 @@
 -- The most bytes of a page: 16 lists and 64 blocks make 21 lines at most, and some state has as many.
-use mathlib.Core.Path.{_≡_, refl, ap, _∙_}
+use mathlib.Core.Path.{_≡_, refl, _∙_}
 use mathlib.Core.Bool.{Bool, true, false, cond}
 use mathlib.Core.Option.{none}
 use mathlib.Core.List.{List, [], _∷_}

@@ -2,7 +2,7 @@
 -- (`free-exact`).
 use mathlib.Core.Path.{_≡_, refl, sym, ap, _∙_}
 use mathlib.Core.Bool.{Bool, true, false, _&&_, not, cond, and-false, true≢false}
-use mathlib.Core.Option.{Option, some, Option·map, Option·some-injective}
+use mathlib.Core.Option.{some, Option·map, Option·some-injective}
 use mathlib.Core.List.{List, [], _∷_, _++_, map}
 use Prim.Native.Nat.{ℕ, _+_, _-_, _≤_, _<_}
 use native.Mathlib.Omega.{arith}
@@ -12,13 +12,13 @@ use Rattle.lists.specs.Basic.{times}
 use Rattle.lists.specs.Change.{Change, takeList, putFirst, putAfter, write, delBlock, delList, mapChange}
 use Rattle.lists.specs.State.{Row, State, empty, taken, placed, apply, applyAll, mapRow, mapState}
 use Rattle.lists.specs.InUse.{isNumber, inUse, isFree, Numbered, AllNumbered, FreeExact}
-use Rattle.lists.specs.promises.Tables.{Tables, Away, nodes, ends, chain, isNode, Ranged, ShowsWith, ShowsAll, done, cleared}
+use Rattle.lists.specs.promises.Tables.{Tables, Away, nodes, ends, isNode, Ranged, ShowsWith, ShowsAll, done, cleared}
 use Rattle.lists.proofs.Basic.{le-true, gt-false, eqb-false, bind-some}
 use Rattle.lists.proofs.Apply.{apply-some}
 use Rattle.lists.proofs.Naturality.{taken-map, placed-map, applyAll-map}
 use Rattle.lists.proofs.Nodes.{away-taken, away-placed}
 use Rattle.lists.proofs.Owners.{untaken-away, unplaced-away}
-use Rattle.lists.proofs.Times.{times-append, times-cons, times-here, none-away, away-none}
+use Rattle.lists.proofs.Times.{times-append, times-cons, times-here, none-away, away-none, once-most}
 use Rattle.lists.proofs.Represents.{shows-changed, number-node}
 use Rattle.lists.proofs.Emptied.{shows-emptied}
 
@@ -67,17 +67,13 @@ module _ (t : Tables) (rs : List (Row ℕ)) (fs : List ℕ) (s : ShowsWith t rs 
             away-none n (255 ∷ []) ((λ e. omega arith), tt),
           )
 
-      one-most : (b : Bool) → cond b 1 0 ≤ 1
-      one-most true = omega arith
-      one-most false = omega arith
-
       -- the two ends stand there already
       beyond : n ≡ 0 → isNode n ≡ false
       beyond e = rw e
 
       outside : 80 < n → Dec (n ≡ 254) → Dec (n ≡ 255) → times n fs ≡ 0
-      outside h (yes e) d = omega (arith, parts, one-most (isNode n), ap (λ (m : ℕ). times m (254 ∷ [])) e ∙ times-here 254 [])
-      outside h (no c) (yes e) = omega (arith, parts, one-most (isNode n), ap (λ (m : ℕ). times m (255 ∷ [])) e ∙ times-here 255 [])
+      outside h (yes e) d = omega (arith, parts, once-most (isNode n), ap (λ (m : ℕ). times m (254 ∷ [])) e ∙ times-here 254 [])
+      outside h (no c) (yes e) = omega (arith, parts, once-most (isNode n), ap (λ (m : ℕ). times m (255 ∷ [])) e ∙ times-here 255 [])
       outside h (no c) (no d) =
           let k : isNode n ≡ false = rw (gt-false n 80 h, eqb-false n 254 c, eqb-false n 255 d, and-false (leb 1 n)) in
           omega (arith, parts, ap {B = ℕ} (λ z. cond z 1 0) k)

@@ -12,7 +12,8 @@ use Rattle.lists.specs.promises.Tables.{Tables, Linked, nodes, ends, Sho
 use Rattle.lists.proofs.Basic.{and-true, all-split, eqb-false}
 use Rattle.lists.proofs.Chain.{next-at, prev-at, linked-tail}
 use Rattle.lists.proofs.Free.{free-shown}
-use Rattle.lists.proofs.Listed.{number-range, free-number, once-most, fits}
+use Rattle.lists.proofs.Listed.{number-range, free-number, fits}
+use Rattle.lists.proofs.Times.{once-most}
 use Rattle.lists.proofs.Times.{standing-all}
 
 -- a number is no end of the row

@@ -10,7 +10,7 @@ use borrow.Author.Tests.{leb-false}
 use Rattle.lists.specs.Basic.{any}
 use Rattle.lists.specs.Change.{Change, takeList, putFirst, putAfter, write, delBlock, delList}
 use Rattle.lists.specs.State.{Row, State, taken, placed, changed, apply, applyAll}
-use Rattle.lists.specs.InUse.{listNumber, inUse, brings}
+use Rattle.lists.specs.InUse.{listNumber, inUse}
 pub use Rattle.lists.specs.Numbers.{brought}
 use Rattle.lists.proofs.Basic.{or-both, bind-some, eqb-true, eqb-false, eq-true}
 use Rattle.lists.proofs.Apply.{apply-some}

@@ -35,11 +35,6 @@ all-marked (x ∷ xs) h =
 pub fits : (xs : List ℕ) → all isNumber xs ≡ true → ((n : ℕ) → times n xs ≤ 1) → length xs ≤ 80
 fits xs h o = few 80 xs (once-apart xs o) (all-marked xs h)
 
--- a number that is listed or not is listed once at most
-pub once-most : (b : Bool) → cond b 1 0 ≤ 1
-once-most true = omega arith
-once-most false = omega arith
-
 pub all-kept : (p q : ℕ → Bool) (xs : List ℕ) → all p xs ≡ true → all p (keep q xs) ≡ true
 unfolding all
 all-kept p q [] h = refl

@@ -176,7 +176,7 @@ pub record RowAt (l : ℕ) (rs : List (Row ℕ)) : Type 0 where
   pub others : taken l after ≡ false
   pub nums : blocksOf rs l ≡ blockNodes blocks
 
-block-nums : (xs : List (Block ℕ)) → map (λ x. x .num) xs ≡ blockNodes xs
+pub block-nums : (xs : List (Block ℕ)) → map (λ x. x .num) xs ≡ blockNodes xs
 block-nums [] = refl
 block-nums (x ∷ xs) = ap (λ (y : List ℕ). x .num ∷ y) (block-nums xs)
 

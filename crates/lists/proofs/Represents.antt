@@ -13,14 +13,14 @@ use Rattle.lists.specs.Basic.{bind, keep, orElse}
 use Rattle.lists.specs.Change.{Change, takeList, putFirst, putAfter, write, delBlock, delList}
 use Rattle.lists.specs.State.{State, Block, Row, taken, placed, onList, insertAfter, at, put, onBlocks, otherBlock, otherRow, block, row, blocksOf, changed, frees, freeAfter, applies, apply}
 use Rattle.lists.specs.Clearing.{firstOff, stepsOff, stepsFree}
-use Rattle.lists.specs.promises.Tables.{Tables, tables, nextOf, prevOf, ownerOf, placeNode, insertNode, insertBefore, freeNode, withLocation, times, cutNode, dropFirst, dropUpTo, dropAll, cutList, putFits, putDone, suits, done, Did, Away, Apart, Linked, blockNodes, nodes, ends, chain, Whole, isNode, firstOr0, IsFirst, IsBlock, IsList, HasBlock, HasBlocks, HasLists, Shows, ShowsWith, ShowsAll, Ranged, Represents, locatedAt}
+use Rattle.lists.specs.promises.Tables.{Tables, tables, nextOf, prevOf, ownerOf, placeNode, insertNode, insertBefore, freeNode, withLocation, times, cutNode, dropFirst, dropUpTo, dropAll, cutList, putFits, putDone, suits, done, Did, Away, Apart, Linked, blockNodes, nodes, ends, chain, isNode, firstOr0, IsFirst, IsBlock, IsList, HasBlock, HasBlocks, HasLists, ShowsWith, ShowsAll, Ranged, Represents, locatedAt}
 use Rattle.lists.proofs.Basic.{either, or-both, and-true, not-false, eqb-true, eqb-neq, eqb-false, le-true, keep-all, and-swap, and-implied, not-not, gt-false, getD-set-default}
 use Rattle.lists.proofs.Times.{times-append, times-cons, times-moved, times-here, away-none, Standing, standing, without, without-once}
-use Rattle.lists.proofs.Chain.{Small, last, Chained, uncons, away-left, away-right, away-append, away-last, apart-left, apart-right, apart-out, small-middle, small-append, last-snoc, last-append, next-at, prev-at, linked-tail, cut-before, cut-behind, chained-cut, chained-insert}
+use Rattle.lists.proofs.Chain.{Small, last, Chained, uncons, away-left, away-right, away-append, away-last, apart-left, apart-right, apart-out, small-middle, last-snoc, last-append, next-at, prev-at, linked-tail, chained-cut, chained-insert}
 use Rattle.lists.proofs.Nodes.{Grown, RowAt, nodes-append, nodes-write, first-grown, after-grown, block-shrunk, row-at, onList-taken}
 use Rattle.lists.proofs.Owners.{same-refl, same-set, has-same, has-append, has-left, has-right, has-at, has-keep, has-write, blocks-after, taken-owner, unplaced-away, untaken-away}
 use Rattle.lists.proofs.Dropping.{AllOf, blocks-all, all-times, upTo-stop, upTo-more}
-use Rattle.lists.proofs.Clearing.{steps-blocks, steps-taken, steps-first, steps-kept, steps-others, steps-free, free-deleted}
+use Rattle.lists.proofs.Clearing.{steps-blocks, steps-taken, steps-first, steps-kept, steps-others}
 use Rattle.lists.proofs.Lookup.{node-of, chain-apart, nodes-apart, taken-free, taken-own, placed-free, on-own}
 
 nodes-first : (xs : List (Block ℕ)) → blockNodes (drop 1 xs) ≡ drop 1 (blockNodes xs)

@@ -2,7 +2,7 @@
 use mathlib.Core.Path.{_≡_, refl, sym, ap}
 use mathlib.Core.Logic.{_≢_, ⊎-elim}
 use mathlib.Core.Bool.{true, false}
-use mathlib.Core.List.{List, [], _∷_, map}
+use mathlib.Core.List.{List, [], _∷_}
 use Prim.Native.Nat.{ℕ, zero, suc, _+_, _≤_, _<_}
 use native.Mathlib.Omega.{arith}
 use lib.Dec.{eqb}
@@ -14,6 +14,7 @@ use Rattle.lists.proofs.Basic.{either, eqb-same, eqb-false}
 use Rattle.lists.proofs.Chain.{away-right, apart-left, apart-right}
 use Rattle.lists.proofs.Dropping.{AllOf, all-times}
 use Rattle.lists.proofs.Lookup.{nodes-apart}
+use Rattle.lists.proofs.Nodes.{block-nums}
 
 -- Numbers by their places in a list, where 0 stands for none.
 pub away-at : (x : ℕ) (xs : List ℕ) (i : ℕ) → Away x xs → i < length xs → x ≢ getD xs i 0
@@ -84,14 +85,10 @@ module _ (o p : List ℕ) where
   row-blocks l [] h d = ((tt, tt), tt)
   row-blocks l (r ∷ rs) h d = ⊎-elim
       (λ (e : eqb (r .num) l ≡ true).
-      rw (e, blocksOf, map-nodes (r .blocks))
+      rw (e, blocksOf, block-nums (r .blocks))
       ((blocks-some (r .num) (r .blocks) (h .1), apart-left (blockNodes (r .blocks)) (nodes rs) (d .1)), blocks-marked (r .num) (r .blocks) (h .1)))
       (λ (e : eqb (r .num) l ≡ false). rw (e, blocksOf) (row-blocks l rs (h .2) (apart-right (blockNodes (r .blocks)) (nodes rs) (d .1))))
       (either (eqb (r .num) l))
-    where
-      map-nodes : (xs : List (Block ℕ)) → map (λ x. x .num) xs ≡ blockNodes xs
-      map-nodes [] = refl
-      map-nodes (x ∷ xs) = ap (λ (ns : List ℕ). x .num ∷ ns) (map-nodes xs)
 
 module _ (t : Tables) (rs : List (Row ℕ)) (s : Shows t rs) where
   apart-nodes : Apart (nodes rs)

@@ -149,3 +149,8 @@ from-within n k (suc m) a b = go (ℕ-discrete k n) (from-within n (suc k) m)
     go : Dec (k ≡ n) → (suc k ≤ n → n < suc k + m → times n (from (λ i. i) (suc k) m) ≡ 1) → times n (k ∷ from (λ i. i) (suc k) m) ≡ 1
     go (yes e) ih = omega (arith, ap (λ (j : ℕ). times n (j ∷ from (λ i. i) (suc k) m)) e ∙ times-here n (from (λ i. i) (suc k) m), from-below n (suc k) m (omega arith))
     go (no e) ih = times-other n k (from (λ i. i) (suc k) m) e ∙ ih (omega arith) (omega arith)
+
+-- a number that is listed or not is listed once at most
+pub once-most : (b : Bool) → cond b 1 0 ≤ 1
+once-most true = omega arith
+once-most false = omega arith

@@ -1,6 +1,5 @@
 -- An entry in four bytes, put there and read again.
 use mathlib.Core.Path.{_≡_, refl}
-use mathlib.Core.Bool.{true, false}
 use Prim.Native.Nat.{ℕ, zero, suc}
 use Rattle.lists.specs.Change.{Change, takeList, putFirst, putAfter, write, delBlock, delList, mapChange}
 use Rattle.log.specs.Raced.{Raced, raced, withBody}

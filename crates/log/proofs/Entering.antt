@@ -3,10 +3,10 @@ use mathlib.Core.Path.{_≡_, refl, sym, ap, _∙_}
 use mathlib.Core.Bool.{Bool, true, false}
 use mathlib.Core.Option.{Option, none, some, Option·none-ne-some, Option·some-injective}
 use mathlib.Core.List.{List, _∷_, _++_}
-use Prim.Native.Nat.{ℕ, suc, _+_, _*_, _%_, _≤_}
+use Prim.Native.Nat.{ℕ, suc, _+_, _*_, _≤_}
 use native.Mathlib.Omega.{arith}
 use native.Mathlib.Nat.{add-zero}
-use lib.ListN.{length, set, length-append}
+use lib.ListN.{length, length-append}
 use borrow.Author.Tests.{leb-true}
 use Rattle.lists.specs.Basic.{guard, bind}
 use Rattle.lists.specs.Change.{Change, takeList, putFirst, putAfter, write, delBlock, delList, mapChange, carriedBy}
@@ -28,6 +28,7 @@ use Rattle.log.specs.declared.entry.LogEntry.the-variants.{Take, PutFirs
 use Rattle.log.proofs.Decode.{decode-complete}
 use Rattle.log.proofs.Parsing.{part-size}
 use Rattle.log.proofs.Feeding.{NoCommit, fieldsChange, numberOf, ended, legal-ranged, read-now, read-later}
+use Rattle.log.proofs.Places.{used-one}
 
 -- A parsed entry, which is x, read.
 module _ (m : Memory) (run : ℕ) (e x : LogEntry) (q : e ≡ x) (d : ℕ) (f : 1 ≤ d) where
@@ -118,11 +119,6 @@ length-encode (member (write b s)) = refl
 length-encode (member (delBlock b)) = refl
 length-encode (member (delList l)) = refl
 length-encode (commit n) = refl
-
-pub used-one : {D : Type 0} (o : Option D) → usedBy o ≤ 1
-unfolding usedBy
-used-one none = omega arith
-used-one (some d) = omega arith
 
 -- The items from an entry on.
 module _ (f : ℕ → Raced ℕ → ℕ) (g k n i : ℕ) (bs : List ℕ) (is : List (Item ℕ)) (r : Reader ℕ) where

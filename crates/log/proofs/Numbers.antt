@@ -73,7 +73,7 @@ module _ {D : Type 0} where
       let (u, v) = and-true (mayEnter e) (all mayEnter es) m in
       replay-range x q es v b (read-range r x e u a i)
 
-all-joined : {A : Type 0} (p : A → Bool) (xss : List (List A)) → ((h : ℕ) → h < length xss → all p (getD xss h []) ≡ true) → all p (joined xss) ≡ true
+pub all-joined : {A : Type 0} (p : A → Bool) (xss : List (List A)) → ((h : ℕ) → h < length xss → all p (getD xss h []) ≡ true) → all p (joined xss) ≡ true
 unfolding joined all
 all-joined p [] f = refl
 all-joined p (xs ∷ xss) f = all-append p xs (joined xss) (f 0 (omega arith)) (all-joined p xss (λ h l. f (suc h) (omega arith)))

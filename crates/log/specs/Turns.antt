@@ -5,12 +5,12 @@ use mathlib.Core.Path.{_≡_}
 use mathlib.Core.Bool.{true}
 use mathlib.Core.Option.{some}
 use mathlib.Core.List.{List, _∷_}
-use Prim.Native.Nat.{ℕ, zero, suc, _+_, _-_, _*_, _≤_, _<_}
+use Prim.Native.Nat.{ℕ, suc, _+_, _-_, _*_, _≤_, _<_}
 use lib.ListN.{length, take, drop, getD, set}
 use Rattle.log.specs.declared.place.Place.{Place}
 use Rattle.log.specs.Entry.{Entry}
 use Rattle.log.specs.Card.{Written, segmentsIn, count, segmentBytes, countOffset}
-use Rattle.log.specs.Store.{Store, doStores, standing, home, tail, entryStores}
+use Rattle.log.specs.Store.{doStores, standing, home, tail, entryStores}
 
 -- Store n of an entry is the next one on the card as it is: the place is the entry's behind the card's log, and the n stores before it stand.
 pub record InTurn (c : List ℕ) (p : Place) (e : Entry Written) (n : ℕ) : Type 0 where

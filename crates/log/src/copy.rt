@@ -1,7 +1,7 @@
 // 256 bytes put into a buffer at a place.
 ghost use mathlib.Core.Path.{_≡_};
-ghost use Prim.Native.Nat.{ℕ, _+_, _-_, _*_, _<_, _≤_};
-ghost use lib.ListN.{length, getD, set};
+ghost use Prim.Native.Nat.{_+_, _<_, _≤_};
+ghost use lib.ListN.{length};
 ghost use Rattle.log.specs.Card.{splice};
 
 // The first 256 bytes of src go to dest from `at` on.

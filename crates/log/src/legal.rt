@@ -1,7 +1,7 @@
 // Which numbers and entries may stand in a log.
 use crate::entry::LogEntry;
 ghost use mathlib.Core.Path.{_≡_};
-ghost use mathlib.Core.Bool.{true, false, _&&_};
+ghost use mathlib.Core.Bool.{false, _&&_};
 ghost use Rattle.log.specs.Entry.{isBlock, isList, isRace, member, legal, raw, asEntry, asChange};
 
 pub fn both(a: bool, b: bool) -> bool

@@ -15,7 +15,6 @@ use text::decimal::put_decimal;
 use text::line::part;
 use text::put::put_byte;
 use text::put::put_bytes;
-ghost use mathlib.Core.Path.{_≡_};
 ghost use Rattle.text.specs.Written.{Puts};
 ghost use Rattle.answers.specs.Answers.{replyAnswer, numberAnswer, readAnswer, mountAnswer, flushAnswer};
 ghost use Rattle.script.specs.Lines.{answerLine, numberedLine, mountLine, flushLine, endedLine, readLine, contentLine, inventoryLine, countedLine, lengthAndText, pageReply};

@@ -1,8 +1,5 @@
 -- The tests of the definition, in order. Assumes nothing.
-use Prim.Native.Nat.{_/_, _%_}
 use borrow.Author.Tests.{eq-eqb, ne-eqb, le-leb, lt-leb}
-use native.Mathlib.Omega.{arith}
-use lib.ListN.{length}
 use Rattle.listing.specs.Listing.{listable}
 use Rattle.listing.proofs.is_listable.Statement.{statement}
 use Rattle.listing.proofs.is_listable.Tie as tie

@@ -1,8 +1,8 @@
 -- The number is the first free one, and 0 is none; the change is added, then the list held and taken out of the order. Assumes nothing.
 use mathlib.Core.Path.{ap, _∙_}
-use Prim.Native.Nat.{ℕ, _+_}
+use Prim.Native.Nat.{ℕ}
 use native.Mathlib.Omega.{arith}
-use Rattle.disk.specs.Record.{Record, recordIn, listedIn}
+use Rattle.disk.specs.Record.{Record, recordIn}
 use Rattle.disk.specs.promises.Listing.{unlisted}
 use Rattle.calls.specs.promises.Giving.{heldBy}
 use Rattle.calls.proofs.Giving.{free-limit, takes-none, takes-full, takes, padded-given}

@@ -1,6 +1,6 @@
 -- The two bytes of the window's count. Assumes nothing.
 use mathlib.Core.Path.{_≡_, ap, _∙_}
-use Prim.Native.Nat.{ℕ, _+_, _-_, _*_, _/_, _%_, min}
+use Prim.Native.Nat.{_+_, _-_, _*_, _/_, _%_, min}
 use native.Mathlib.Omega.{arith}
 use Rattle.disk.specs.Record.{recordIn, countOf, withCount}
 use Rattle.disk.proofs.Bytes.{count-in}

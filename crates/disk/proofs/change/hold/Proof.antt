@@ -1,5 +1,5 @@
 -- The byte of the number. Assumes nothing.
-use Prim.Native.Nat.{ℕ, _+_, _-_, _*_, _/_, _%_}
+use Prim.Native.Nat.{_-_}
 use native.Mathlib.Omega.{arith}
 use Rattle.disk.proofs.Bytes.{holder-in}
 use borrow.Author.Needs.{needs}

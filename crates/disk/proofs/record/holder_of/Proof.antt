@@ -1,5 +1,5 @@
 -- The byte of the number; past the last there is none. Assumes nothing.
-use mathlib.Core.Path.{_≡_, refl, sym, ap, _∙_}
+use mathlib.Core.Path.{_≡_, sym}
 use native.Mathlib.Omega.{arith}
 use Rattle.disk.specs.Record.{recordIn, bytesIn}
 use Rattle.disk.proofs.Bytes.{byte-read, bytes-length}

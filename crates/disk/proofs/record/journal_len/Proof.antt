@@ -1,5 +1,5 @@
 -- The byte of the unit. Assumes nothing.
-use mathlib.Core.Path.{_≡_, refl, sym, ap, _∙_}
+use mathlib.Core.Path.{sym, ap, _∙_}
 use native.Mathlib.Omega.{arith}
 use Rattle.disk.specs.Record.{Unit, unitIn}
 use Rattle.disk.proofs.Bytes.{unit-read}

@@ -1,7 +1,6 @@
 -- Each turn counts a link. Assumes nothing.
 use mathlib.Core.Path.{_≡_}
 use Prim.Native.Nat.{_≤_, _-_}
-use native.Mathlib.Omega.{arith}
 use borrow.Author.Needs.{needs}
 use lib.ListN.{length as count}
 use Rattle.files.proofs.status.resolve.Statement.{statement}

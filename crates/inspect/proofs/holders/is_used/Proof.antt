@@ -1,5 +1,4 @@
 -- Up to 64 it is a block, above a list. Assumes nothing.
-use mathlib.Core.Path.{sym, _∙_}
 use native.Mathlib.Omega.{arith}
 use borrow.Author.Tests.{le-leb, lt-leb}
 use Rattle.lists.specs.InUse.{inUse}

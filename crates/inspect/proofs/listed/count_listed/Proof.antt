@@ -3,7 +3,8 @@ use mathlib.Core.Path.{_≡_}
 use Prim.Native.Nat.{_-_, _≤_, _<_}
 use native.Mathlib.Omega.{arith}
 use Rattle.disk.specs.Record.{recordIn, listedIn}
-use Rattle.inspect.proofs.Ordering.{Counted, order-length, counted-none, counted-few, counted-next}
+use Rattle.inspect.proofs.Ordering.{Counted, counted-none, counted-few, counted-next}
+use Rattle.disk.proofs.Bytes.{order-length}
 use borrow.Author.Needs.{needs}
 use Rattle.inspect.proofs.listed.count_listed.Statement.{statement}
 use Rattle.inspect.proofs.listed.count_listed.Tie as tie

@@ -6,10 +6,11 @@ use Rattle.lists.specs.promises.Tables.{Tables, tables, tablesIn}
 use Rattle.lists.proofs.Basic.{eqb-true, eqb-neq}
 use Rattle.disk.specs.Record.{recordIn}
 use Rattle.disk.specs.Disk.{diskIn}
-use Rattle.inspect.proofs.Looking.{unit-lawful, open-range, look-length, look-unsound, look-persistent, look-no-stream, look-committed, look-closed, look-unit}
+use Rattle.inspect.proofs.Looking.{unit-lawful, look-length, look-unsound, look-persistent, look-no-stream, look-committed, look-closed, look-unit}
 use borrow.Author.Needs.{needs}
 use Rattle.inspect.proofs.look.look.Statement.{statement}
 use Rattle.inspect.proofs.look.look.Tie as tie
+use Rattle.disk.proofs.Questions.{open-in-range}
 
 -- tables of no account
 any : Tables
@@ -83,7 +84,7 @@ enter-journal-requires c κs =
     let g = o .before .before .before in
     let x = g .before .before in
     let s = x .before .before .before .before .before .args in
-    let r = open-range (recordIn (s .rec .now)) (s .v) (sym (o .is-open .ensures) ∙ not-false (o .is-open .result) (c .before .if4 .left)) in
+    let r = open-in-range (recordIn (s .rec .now)) (s .v) (sym (o .is-open .ensures) ∙ not-false (o .is-open .result) (c .before .if4 .left)) in
     let a = rw (g .enum-told3 .given .1) at (x .examine .ensures) in
     let k = unit-lawful (diskIn (s .card .now) (s .queue-data .now) (s .journal-data .now) (s .rec .now)) (s .v) (a .lengths) (a .sound) (r .0) (r .1) in
     (k .room, r .0, r .1, k .lawful)

@@ -6,7 +6,8 @@ use borrow.Author.Needs.{needs}
 use borrow.Author.Tests.{not-true, not-false}
 use Rattle.disk.specs.Record.{recordIn}
 use Rattle.inspect.proofs.Judging.{Left, left-fails, left-passes, left-ends}
-use Rattle.inspect.proofs.Ordering.{placeGood, order-length, order-long, order-all}
+use Rattle.inspect.proofs.Ordering.{placeGood, order-long, order-all}
+use Rattle.disk.proofs.Bytes.{order-length}
 use Rattle.inspect.proofs.numbers.order_right.Statement.{statement}
 use Rattle.inspect.proofs.numbers.order_right.Tie as tie
 

@@ -4,7 +4,6 @@ use Prim.Native.Nat.{_-_, _%_}
 use native.Mathlib.Omega.{arith}
 use borrow.Author.Needs.{needs}
 use Rattle.listing.specs.Listing.{total}
-use Rattle.listing.specs.promises.Shown.{sumAt}
 use Rattle.listing.proofs.Lines.{part-length, sum-in, sum-out}
 use Rattle.listing.proofs.block_lines.sum_at.Statement.{statement}
 use Rattle.listing.proofs.block_lines.sum_at.Tie as tie

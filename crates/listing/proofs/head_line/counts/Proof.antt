@@ -1,5 +1,5 @@
 -- Each turn adds one segment's count. Assumes nothing.
-use mathlib.Core.Path.{_≡_, refl, sym, ap, _∙_}
+use mathlib.Core.Path.{_≡_, refl, ap, _∙_}
 use mathlib.Core.Bool.{cond}
 use Prim.Native.Nat.{ℕ, _+_, _-_, _*_, _/_, _≤_}
 use native.Mathlib.Omega.{arith}
@@ -8,9 +8,10 @@ use lib.ListN.{length, getD}
 use Rattle.lists.specs.Basic.{from}
 use Rattle.log.specs.Card.{count}
 use Rattle.listing.specs.Listing.{total, used, entries}
-use Rattle.listing.proofs.Lines.{total-step, one-most, count-at}
+use Rattle.listing.proofs.Lines.{total-step, count-at}
 use Rattle.listing.proofs.head_line.counts.Statement.{statement}
 use Rattle.listing.proofs.head_line.counts.Tie as tie
+use Rattle.lists.proofs.Times.{once-most}
 
 abbrev Inv-loop : tie.InvT-loop
 Inv-loop card n used₀ entries₀ g₀ u e g =
@@ -37,7 +38,7 @@ one-if-used-requires : tie.Need-one-if-used-requires Inv-loop μ-loop
 one-if-used-requires c κs = tt
 
 add-used : tie.Need-add-used Inv-loop μ-loop
-add-used c = omega (arith, c .one-if-used .ensures, one-most (ltb 0 (getD (c .before .before .before .before .before .args .card .now) (c .before .before .before .loop .g * 4096 + 3584) 0)))
+add-used c = omega (arith, c .one-if-used .ensures, once-most (ltb 0 (getD (c .before .before .before .before .before .args .card .now) (c .before .before .before .loop .g * 4096 + 3584) 0)))
 
 cast-entries : tie.Need-cast-entries Inv-loop μ-loop
 cast-entries c = omega (arith, c .before .shared-slice-known2 .given (c .before .before .before .loop .g * 4096 + 3584))
@@ -57,7 +58,7 @@ loop-again c =
     let card = s .before .before .args .card .now in
     let g = s .loop .g in
     let byte = c .before .shared-slice-known2 .given (g * 4096 + 3584) in
-    let one = one-most (ltb 0 (getD card (g * 4096 + 3584) 0)) in (
+    let one = once-most (ltb 0 (getD card (g * 4096 + 3584) 0)) in (
       omega arith,
       refl,
       omega (arith, c .one-if-used .ensures),

@@ -1,5 +1,4 @@
 -- By the test. Assumes nothing.
-use mathlib.Core.Path.{sym}
 use borrow.Author.Tests.{lt-ltb, le-ltb}
 use Rattle.listing.proofs.head_line.one_if_used.Statement.{statement}
 use Rattle.listing.proofs.head_line.one_if_used.Tie as tie

@@ -1,5 +1,4 @@
 -- The parts of the line, one after the other. Assumes nothing.
-use mathlib.Core.Path.{_∙_}
 use borrow.Author.Needs.{needs}
 use Rattle.text.proofs.Writing.{puts-more}
 use Rattle.listing.specs.Listing.{headLine}

@@ -1,7 +1,6 @@
 -- A blank, then the digits. Assumes nothing.
-use mathlib.Core.Path.{_∙_}
 use borrow.Author.Needs.{needs}
-use Rattle.text.proofs.Writing.{puts-more, puts-length}
+use Rattle.text.proofs.Writing.{puts-more}
 use Rattle.listing.proofs.Lines.{numbers-one}
 use Rattle.listing.proofs.list_lines.put_number.Statement.{statement}
 use Rattle.listing.proofs.list_lines.put_number.Tie as tie

@@ -1,5 +1,5 @@
 -- Nothing where the list is not taken; else 41 bytes for each of its lines. Assumes nothing.
-use mathlib.Core.Path.{_≡_, refl, sym, _∙_}
+use mathlib.Core.Path.{_≡_, sym, _∙_}
 use mathlib.Core.Bool.{true}
 use Rattle.lists.proofs.Lookup.{taken-said}
 use Rattle.lists.specs.State.{taken}

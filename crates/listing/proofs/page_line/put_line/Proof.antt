@@ -1,6 +1,6 @@
 -- The margin, the blocks, the blanks that they leave and the line's end. Assumes nothing.
 use native.Mathlib.Omega.{arith}
-use mathlib.Core.Path.{ap, _∙_}
+use mathlib.Core.Path.{ap}
 use Rattle.text.proofs.Writing.{puts-more}
 use lib.ListN.{length}
 use Rattle.listing.specs.Page.{onLine}

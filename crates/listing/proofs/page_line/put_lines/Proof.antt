@@ -1,14 +1,13 @@
 -- Each turn puts one line more. Assumes nothing.
-use mathlib.Core.Path.{_≡_, refl, _∙_}
+use mathlib.Core.Path.{_≡_}
 use Prim.Native.Nat.{_-_, _≤_}
 use native.Mathlib.Omega.{arith}
 use native.Mathlib.Numerals.{add-one}
 use native.Mathlib.Nat.{zero-add}
-use lib.ListN.{length}
 use Rattle.lists.specs.Basic.{from, joined}
 use Rattle.text.specs.Written.{Puts}
 use Rattle.text.proofs.Writing.{puts-none, puts-more, puts-length}
-use Rattle.listing.specs.Page.{pageLine, lineCount}
+use Rattle.listing.specs.Page.{pageLine}
 use Rattle.listing.proofs.Lines.{joined-more}
 use Rattle.listing.proofs.Pages.{count-few}
 use Rattle.listing.proofs.page_line.put_lines.Statement.{statement}

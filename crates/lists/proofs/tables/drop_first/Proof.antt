@@ -4,7 +4,7 @@ use Prim.Native.Nat.{ℕ, _+_, _<_}
 use native.Mathlib.Omega.{arith}
 use lib.ListN.{length}
 use borrow.Author.Needs.{needs}
-use Rattle.lists.specs.promises.Tables.{Tables, nextOf, prevOf, withOwner, linkNodes, dropFirst, IsFirst, Drops}
+use Rattle.lists.specs.promises.Tables.{Tables, nextOf, withOwner, linkNodes, dropFirst, IsFirst, Drops}
 use Rattle.lists.proofs.Bytes.{next-length}
 use Rattle.lists.proofs.Dropping.{drop-next}
 use Rattle.lists.proofs.Lookup.{node-of}

@@ -1,6 +1,6 @@
 -- Out of the chain, and in again before its end. Assumes nothing.
 use mathlib.Core.Path.{_∙_, ap}
-use Rattle.lists.specs.promises.Tables.{Tables, insertBefore, freeNode}
+use Rattle.lists.specs.promises.Tables.{insertBefore, freeNode}
 use borrow.Author.Needs.{needs}
 use Rattle.lists.proofs.tables.free.Statement.{statement}
 use Rattle.lists.proofs.tables.free.Tie as tie

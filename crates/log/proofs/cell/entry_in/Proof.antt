@@ -1,5 +1,4 @@
 -- A commit by its whole map, any other entry by its map without the mark. Assumes nothing.
-use mathlib.Core.Path.{_∙_}
 use borrow.Author.Needs.{needs}
 use borrow.Author.Tests.{ne-eqb}
 use Rattle.log.specs.Cell.{entryIn}

@@ -1,5 +1,4 @@
 -- The two ways of the definition. Assumes nothing.
-use borrow.Author.Needs.{needs}
 use Rattle.log.proofs.walk.go.Statement.{statement}
 use Rattle.log.proofs.walk.go.Tie as tie
 use Rattle.log.proofs.walk.go.Reads as reads

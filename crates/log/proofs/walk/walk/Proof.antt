@@ -1,7 +1,6 @@
 -- The invariant: the walk has come to segment g, the tables keep its reader, and the items left are those of the segments from g on.
 -- Assumes nothing.
 use mathlib.Core.Path.{_≡_, refl, sym, subst}
-use mathlib.Core.List.{[]}
 use Prim.Native.Nat.{_-_, _*_, _≤_}
 use native.Mathlib.Omega.{arith}
 use lib.ListN.{length}
