@@ -90,6 +90,6 @@ module _ (c : List ℕ) (s : State) (f : Fits c s) (n : ℕ) (many : n ≡ min (
             fits = rw t f;
           })
 
-      pub cut-runs : (y : NumberReply) → Breaks b (take n c) x y → Loses y q j s out at q′ j′ out′ r → Cuts
-      cut-runs (Number k) h l = cut-made k h l
-      cut-runs (Refused y) h l = cut-refused y h l
+      pub broken-runs : (y : NumberReply) → Breaks b (take n c) x y → Loses y q j s out at q′ j′ out′ r → Cuts
+      broken-runs (Number k) h l = cut-made k h l
+      broken-runs (Refused y) h l = cut-refused y h l

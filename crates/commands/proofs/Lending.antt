@@ -6,11 +6,10 @@ use native.Mathlib.Omega.{arith}
 use native.Mathlib.Decide.{decLe}
 use native.Mathlib.Nat.{min-eq-left, zero-add}
 use lib.ListN.{length, take, drop, replicate, length-take, drop-of-length-le}
-use lib.Seq.{length-take-le, length-front, take-all, take-at, take-take, take-add, take-append-add, drop-at, drop-append-add, drop-drop, sets-eq}
+use lib.Seq.{length-take-le, length-front, take-all, take-at, take-take, take-add, take-append-add, drop-at, drop-append-add, drop-drop, slice}
 use Rattle.disk.specs.Disk.{diskIn}
 use Rattle.crash.specs.Event.{partOf, putBack, lend}
-use Rattle.text.specs.Written.{written}
-use Rattle.text.proofs.Lines.{drop-least}
+use Rattle.text.proofs.Lines.{take-least, drop-least}
 use Rattle.commands.specs.declared.state.State.{State}
 use Rattle.commands.specs.Shell.{shellOf, firstBytes, lentDisk}
 use Rattle.commands.specs.Ran.{Fits}
@@ -27,10 +26,16 @@ lent-back n l x e = go (decLe n (length l))
     go (yes h) = take-at x (drop (min n (length l)) l) n (omega arith)
     go (no h) = rw (drop-of-length-le l {i = min n (length l)} (omega arith), append-nil x) (take-all n x (omega arith))
 
--- bytes put at the front of zeros
-pub padded : (x : List ℕ) → length x ≡ 256 → written (replicate 300 0) 0 x ≡ x ++ replicate 44 0
-unfolding written
-padded x e = sets-eq x (replicate 300 0) 0 (omega arith) ∙ rw e
+-- so many of the zeros that a look-up is lent, or all of them
+abbrev zeros : List ℕ
+zeros = replicate 1000 0
+
+module _ (n k : ℕ) (e : k ≡ min n 1000) where
+  pub zeros-lent : take k zeros ≡ take n zeros
+  zeros-lent = rw e (take-least n zeros)
+
+  pub zeros-back : (x : List ℕ) → length x ≡ length (take k zeros) → slice 0 n (x ++ drop k zeros) ≡ x
+  zeros-back x h = rw e (lent-back n zeros x (h ∙ rw e (sym (lent-count n zeros))))
 
 -- the first n bytes of a buffer are replaced, of which m are looked at
 module _ (n m : ℕ) (c x : List ℕ) (h : n ≤ m) (l : m ≤ length c) (e : length x ≡ n) where

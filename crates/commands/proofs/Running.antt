@@ -4,8 +4,8 @@ use mathlib.Core.List.{List, [], _∷_, _++_}
 use Prim.Native.Nat.{ℕ, _%_, _≤_, _<_, min}
 use native.Mathlib.Omega.{arith}
 use borrow.Author.Tests.{lt-ltb, le-ltb}
-use lib.ListN.{length, take, drop, set, replicate, length-take, length-replicate, length-set}
-use lib.Seq.{take-at, take-set-lt, drop-set-lt}
+use lib.ListN.{length, take, drop, set, replicate, length-replicate, length-set}
+use lib.Seq.{length-take-le, take-at, take-set-lt, drop-set-lt}
 use Rattle.disk.specs.Disk.{Disk, diskIn}
 use Rattle.disk.specs.Call.{Call}
 use Rattle.disk.specs.Perform.{perform}
@@ -86,18 +86,18 @@ cut-runs c q j s r f k t = runs (cutBetween (shellOf c q j s)) _ r k (record { l
 
 -- a byte of the card
 module _ (a b : ℕ) (c q j : List ℕ) (s : State) {out out′ : List ℕ} {at : ℕ} (r : Ran) (f : Fits c s) (k : r .state ≡ s) where
-  pub poked-inside : a < min (s .size) (length c) → Puts out at (bytes "ok" ++ 10 ∷ []) out′ (r .at)
+  pub poked-inside : a < s .size → Puts out at (bytes "ok" ++ 10 ∷ []) out′ (r .at)
       → Runs (poked a b (shellOf c q j s)) c out at (set c a (b % 256)) q j out′ r
   unfolding poked
   poked-inside h t =
-      rw (length-take (s .size) c, lt-ltb a (min (s .size) (length c)) h, poked)
+      rw (length-take-le (s .size) c (f .whole), lt-ltb a (s .size) h, poked)
       (runs (ok _) s r k
       (record { longest = rw (length-set c a (b % 256)) (f .longest); whole = rw (length-set c a (b % 256)) (f .whole) })
       (drop-set-lt (s .size) c a (b % 256) (omega arith))
       (rw (take-set-lt (s .size) c a (b % 256) (omega arith)))
       t)
 
-  pub poked-outside : min (s .size) (length c) ≤ a → Puts out at (bytes "?" ++ 10 ∷ []) out′ (r .at)
+  pub poked-outside : s .size ≤ a → Puts out at (bytes "?" ++ 10 ∷ []) out′ (r .at)
       → Runs (poked a b (shellOf c q j s)) c out at c q j out′ r
   unfolding poked
-  poked-outside h t = rw (length-take (s .size) c, le-ltb a (min (s .size) (length c)) h, poked) (runs (unknown _) s r k f refl refl t)
+  poked-outside h t = rw (length-take-le (s .size) c (f .whole), le-ltb a (s .size) h, poked) (runs (unknown _) s r k f refl refl t)

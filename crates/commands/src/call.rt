@@ -1,6 +1,5 @@
 // The commands that are calls, on what is lent to them.
 use crate::look::look;
-use answers::Reply;
 use disk::record::RECORD;
 use script::command::Edit;
 use script::command::Request;
@@ -10,16 +9,9 @@ use script::replies::put_mounted;
 use script::replies::put_numbered;
 use text::hex::hex;
 use text::line::part;
-use text::put::put_bytes;
-use text::word::Word;
-ghost use mathlib.Core.List.{[], _++_};
-ghost use lib.ListN.{take, replicate};
 ghost use Rattle.disk.specs.Disk.{diskIn};
-ghost use Rattle.disk.specs.Call.{writeBlock, onStream};
-ghost use Rattle.answers.specs.Answers.{replyAnswer};
-ghost use Rattle.calls.specs.Performs.{Performs};
-ghost use Rattle.script.specs.Arguments.{textOf};
-ghost use Rattle.commands.specs.Called.{editOf, callOf, dataLent, Calls};
+ghost use Rattle.disk.specs.Call.{onStream};
+ghost use Rattle.commands.specs.Called.{editOf, callOf, Calls};
 
 // The position behind the call's line.
 pub fn call(
@@ -112,8 +104,10 @@ fn edit(
             race,
             digits,
         } => {
-            write(
-                line,
+            // The data lent are the first of the digits' bytes, and zeros behind them.
+            let mut content = [0u8; 300];
+            hex(part(line, digits.start, digits.end), &mut content[0..256]);
+            let reply = calls::write::write(
                 card,
                 queue,
                 journal,
@@ -121,11 +115,9 @@ fn edit(
                 stream,
                 block as usize,
                 race as usize,
-                lent as usize,
-                digits,
-                out,
-                at,
-            )
+                part(&content, 0, lent as usize),
+            );
+            put_answer(out, at, reply)
         }
         Edit::DeleteBlock { block } => {
             let b = block as usize;
@@ -138,54 +130,4 @@ fn edit(
             put_answer(out, at, reply)
         }
     }
-}
-
-fn write(
-    line: &[u8],
-    card: &[u8],
-    queue: &mut [u8],
-    journal: &mut [u8],
-    rec: &mut [u8; RECORD],
-    stream: usize,
-    block: usize,
-    race: usize,
-    lent: usize,
-    digits: Word,
-    out: &mut [u8],
-    at: usize,
-) -> usize
-    ensures { λ r. ⌜ Calls (onStream stream (writeBlock block race (dataLent (textOf (now (line .entry)) digits) lent))) (diskIn (now (card .entry)) (now (queue .entry)) (now (journal .entry)) (now (rec .entry))) (diskIn (now (card .entry)) (now (queue .exit)) (now (journal .exit)) (now (rec .exit))) (now (out .entry)) at (now (out .exit)) r ⌝ }
-{
-    let mut bytes = [0u8; 256];
-    hex(part(line, digits.start, digits.end), &mut bytes);
-    let reply = write_part(&bytes, lent, card, queue, journal, rec, stream, block, race);
-    put_answer(out, at, reply)
-}
-
-// The data lent are the first of these bytes, and zeros behind them.
-fn write_part(
-    bytes: &[u8; 256],
-    lent: usize,
-    card: &[u8],
-    queue: &mut [u8],
-    journal: &mut [u8],
-    rec: &mut [u8; RECORD],
-    stream: usize,
-    block: usize,
-    race: usize,
-) -> Reply
-    ensures { λ r. ⌜ Performs (onStream stream (writeBlock block race (take lent (now (bytes .entry) ++ replicate 44 0)))) (diskIn (now (card .entry)) (now (queue .entry)) (now (journal .entry)) (now (rec .entry))) (diskIn (now (card .entry)) (now (queue .exit)) (now (journal .exit)) (now (rec .exit))) (replyAnswer r) [] ⌝ }
-{
-    let mut content = [0u8; 300];
-    put_bytes(&mut content, 0, bytes);
-    calls::write::write(
-        card,
-        queue,
-        journal,
-        rec,
-        stream,
-        block,
-        race,
-        part(&content, 0, lent),
-    )
 }

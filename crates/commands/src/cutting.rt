@@ -4,7 +4,6 @@ use crate::state::Ran;
 use crate::state::State;
 use crate::state::least;
 use crate::state::with_record;
-use crate::state::within;
 use answers::FlushReply;
 use answers::NumberReply;
 use answers::Refusal;
@@ -16,42 +15,13 @@ use log::layout::SEGMENT;
 use log::store::format_stores;
 use script::lines::put_cut;
 use script::lines::put_number;
-use text::line::part;
 ghost use mathlib.Core.Path.{_≡_};
 ghost use Rattle.disk.specs.Record.{Record};
 ghost use Rattle.disk.specs.Disk.{disk, diskIn};
-ghost use Rattle.commands.specs.Shell.{shellOf};
-ghost use Rattle.commands.specs.Cut.{cutAllowance, brokenFlush, brokenFormat, cutFlush, cutFormat, Breaks, Loses};
-ghost use Rattle.commands.specs.Ran.{Fits, Runs};
-
-pub fn cut_flush(
-    card: &mut [u8],
-    queue: &mut [u8],
-    journal: &mut [u8],
-    state: State,
-    allowance: usize,
-    stores: usize,
-    out: &mut [u8],
-    at: usize,
-) -> Ran
-    requires { ⌜ Fits (now card) state ⌝ }
-    ensures { λ r. ⌜ Runs (cutFlush allowance stores (shellOf (now (card .entry)) (now (queue .entry)) (now (journal .entry)) state)) (now (card .entry)) (now (out .entry)) at (now (card .exit)) (now (queue .exit)) (now (journal .exit)) (now (out .exit)) r ⌝ }
-{
-    let n = within(least(state.card, state.size), card);
-    let mut rec = state.rec;
-    let broken = broken_flush(
-        &mut card[..n],
-        part(queue, 0, state.queue),
-        part(journal, 0, state.journal),
-        &mut rec,
-        allowance,
-        stores,
-    );
-    cut_short(broken, queue, journal, state, out, at)
-}
+ghost use Rattle.commands.specs.Cut.{cutAllowance, brokenFlush, brokenFormat, Breaks, Loses};
 
 // How many stores were made, or why none was.
-fn broken_flush(
+pub fn broken_flush(
     card: &mut [u8],
     queue: &[u8],
     journal: &[u8],
@@ -80,30 +50,8 @@ fn cut_allowance(allowance: usize, stores: usize) -> usize
     }
 }
 
-pub fn cut_format(
-    card: &mut [u8],
-    queue: &mut [u8],
-    journal: &mut [u8],
-    state: State,
-    stores: usize,
-    out: &mut [u8],
-    at: usize,
-) -> Ran
-    requires { ⌜ Fits (now card) state ⌝ }
-    ensures { λ r. ⌜ Runs (cutFormat stores (shellOf (now (card .entry)) (now (queue .entry)) (now (journal .entry)) state)) (now (card .entry)) (now (out .entry)) at (now (card .exit)) (now (queue .exit)) (now (journal .exit)) (now (out .exit)) r ⌝ }
-{
-    let n = within(least(state.card, state.size), card);
-    let broken = broken_format(
-        &mut card[..n],
-        part(queue, 0, state.queue),
-        part(journal, 0, state.journal),
-        stores,
-    );
-    cut_short(broken, queue, journal, state, out, at)
-}
-
 // Formatting asks the lengths only.
-fn broken_format(card: &mut [u8], queue: &[u8], journal: &[u8], stores: usize) -> NumberReply
+pub fn broken_format(card: &mut [u8], queue: &[u8], journal: &[u8], stores: usize) -> NumberReply
     ensures { λ r. ⌜ ((rec : Record) → Breaks (brokenFormat stores (disk (now (card .entry)) (now (queue .entry)) (now (journal .entry)) rec)) (now (card .entry)) (now (card .exit)) r) ⌝ }
 {
     if !lengths_right(card, queue, journal) {
@@ -115,7 +63,7 @@ fn broken_format(card: &mut [u8], queue: &[u8], journal: &[u8], stores: usize) -
 }
 
 // Refused, there is no cut.
-fn cut_short(
+pub fn cut_short(
     broken: NumberReply,
     queue: &mut [u8],
     journal: &mut [u8],

@@ -1,7 +1,5 @@
 // The look-ups in a view; read, the inventory and the page, on so many bytes as are lent to them.
-use crate::state::within;
-use answers::NumberReply;
-use answers::ReadReply;
+use crate::state::least;
 use disk::record::RECORD;
 use script::command::Look;
 use script::replies::put_inventory;
@@ -9,11 +7,8 @@ use script::replies::put_numbered;
 use script::replies::put_page;
 use script::replies::put_read;
 use text::line::part;
-ghost use lib.ListN.{take};
 ghost use Rattle.disk.specs.Disk.{diskIn};
 ghost use Rattle.disk.specs.Call as call;
-ghost use Rattle.answers.specs.Answers.{readAnswer, numberAnswer};
-ghost use Rattle.calls.specs.Performs.{Performs};
 ghost use Rattle.commands.specs.Called.{lookOf, bytesLent, Calls};
 
 // The most bytes that are lent as a destination: a page's.
@@ -76,25 +71,9 @@ fn read(
     ensures { λ r. ⌜ Calls (call.inView view (call.readBlock block (bytesLent lent))) (diskIn (now (card .entry)) (now (queue .entry)) (now (journal .entry)) (now (rec .entry))) (diskIn (now (card .entry)) (now (queue .entry)) (now (journal .entry)) (now (rec .entry))) (now (out .entry)) at (now (out .exit)) r ⌝ }
 {
     let mut content = [0u8; PART];
-    let reply = read_part(card, queue, journal, rec, view, block, lent, &mut content);
+    let n = least(lent, PART);
+    let reply = calls::read::read(card, queue, journal, rec, view, block, &mut content[..n]);
     put_read(out, at, reply, part(&content, 0, lent))
-}
-
-// The destination is the first so many bytes.
-fn read_part(
-    card: &[u8],
-    queue: &[u8],
-    journal: &[u8],
-    rec: &[u8; RECORD],
-    view: usize,
-    block: usize,
-    lent: usize,
-    content: &mut [u8],
-) -> ReadReply
-    ensures { λ r. ⌜ Performs (call.inView view (call.readBlock block (take lent (now (content .entry))))) (diskIn (now (card .entry)) (now (queue .entry)) (now (journal .entry)) (now (rec .entry))) (diskIn (now (card .entry)) (now (queue .entry)) (now (journal .entry)) (now (rec .entry))) (readAnswer r) (take lent (now (content .exit))) ⌝ }
-{
-    let n = within(lent, content);
-    calls::read::read(card, queue, journal, rec, view, block, &mut content[..n])
 }
 
 fn inventory(
@@ -110,23 +89,9 @@ fn inventory(
     ensures { λ r. ⌜ Calls (call.inView view (call.inventory (bytesLent lent))) (diskIn (now (card .entry)) (now (queue .entry)) (now (journal .entry)) (now (rec .entry))) (diskIn (now (card .entry)) (now (queue .entry)) (now (journal .entry)) (now (rec .entry))) (now (out .entry)) at (now (out .exit)) r ⌝ }
 {
     let mut lists = [0u8; PART];
-    let reply = inventory_part(card, queue, journal, rec, view, lent, &mut lists);
+    let n = least(lent, PART);
+    let reply = calls::inventory::inventory(card, queue, journal, rec, view, &mut lists[..n]);
     put_inventory(out, at, reply, part(&lists, 0, lent))
-}
-
-fn inventory_part(
-    card: &[u8],
-    queue: &[u8],
-    journal: &[u8],
-    rec: &[u8; RECORD],
-    view: usize,
-    lent: usize,
-    lists: &mut [u8],
-) -> NumberReply
-    ensures { λ r. ⌜ Performs (call.inView view (call.inventory (take lent (now (lists .entry))))) (diskIn (now (card .entry)) (now (queue .entry)) (now (journal .entry)) (now (rec .entry))) (diskIn (now (card .entry)) (now (queue .entry)) (now (journal .entry)) (now (rec .entry))) (numberAnswer r) (take lent (now (lists .exit))) ⌝ }
-{
-    let n = within(lent, lists);
-    calls::inventory::inventory(card, queue, journal, rec, view, &mut lists[..n])
 }
 
 fn page(
@@ -142,21 +107,7 @@ fn page(
     ensures { λ r. ⌜ Calls (call.inView view (call.page (bytesLent lent))) (diskIn (now (card .entry)) (now (queue .entry)) (now (journal .entry)) (now (rec .entry))) (diskIn (now (card .entry)) (now (queue .entry)) (now (journal .entry)) (now (rec .entry))) (now (out .entry)) at (now (out .exit)) r ⌝ }
 {
     let mut buffer = [0u8; PART];
-    let reply = page_part(card, queue, journal, rec, view, lent, &mut buffer);
+    let n = least(lent, PART);
+    let reply = calls::page::page(card, queue, journal, rec, view, &mut buffer[..n]);
     put_page(out, at, reply, part(&buffer, 0, lent))
-}
-
-fn page_part(
-    card: &[u8],
-    queue: &[u8],
-    journal: &[u8],
-    rec: &[u8; RECORD],
-    view: usize,
-    lent: usize,
-    buffer: &mut [u8],
-) -> NumberReply
-    ensures { λ r. ⌜ Performs (call.inView view (call.page (take lent (now (buffer .entry))))) (diskIn (now (card .entry)) (now (queue .entry)) (now (journal .entry)) (now (rec .entry))) (diskIn (now (card .entry)) (now (queue .entry)) (now (journal .entry)) (now (rec .entry))) (numberAnswer r) (take lent (now (buffer .exit))) ⌝ }
-{
-    let n = within(lent, buffer);
-    calls::page::page(card, queue, journal, rec, view, &mut buffer[..n])
 }

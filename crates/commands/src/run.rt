@@ -1,7 +1,8 @@
 // One line of a script, run.
 use crate::call::call;
-use crate::cutting::cut_flush;
-use crate::cutting::cut_format;
+use crate::cutting::broken_flush;
+use crate::cutting::broken_format;
+use crate::cutting::cut_short;
 use crate::power::cut;
 use crate::power::fill;
 use crate::show::show;
@@ -18,7 +19,6 @@ use script::command::Command;
 use script::command::Cut;
 use script::command::Lend;
 use script::command::Print;
-use script::command::Request;
 use script::command::Tool;
 use script::lines::put_number;
 use script::parse::command;
@@ -32,11 +32,8 @@ ghost use lib.ListN.{length as Len};
 ghost use lib.ListN.{drop, replicate};
 ghost use Rattle.text.specs.Written.{Puts};
 ghost use Rattle.script.specs.Commands.{commandOf};
-ghost use Rattle.commands.specs.Shell.{shellOf, lentDisk};
-ghost use Rattle.commands.specs.Called.{callOf, called};
-ghost use Rattle.commands.specs.Cut.{cutBetween};
-ghost use Rattle.commands.specs.Shown.{shown};
-ghost use Rattle.commands.specs.Ran.{ok, inserted, poked, lending, cutting, printing, worked, longestCard, ran, Fits, Runs};
+ghost use Rattle.commands.specs.Shell.{shellOf};
+ghost use Rattle.commands.specs.Ran.{poked, lending, cutting, printing, worked, longestCard, ran, Fits, Runs};
 
 pub fn run(
     line: &[u8],
@@ -50,26 +47,30 @@ pub fn run(
     requires { ⌜ Fits (now card) state ⌝ }
     ensures { λ r. ⌜ Runs (ran (now (line .entry)) (commandOf (now (line .entry))) (shellOf (now (card .entry)) (now (queue .entry)) (now (journal .entry)) state)) (now (card .entry)) (now (out .entry)) at (now (card .exit)) (now (queue .exit)) (now (journal .exit)) (now (out .exit)) r ⌝ }
 {
-    run_command(command(line), line, card, queue, journal, state, out, at)
-}
-
-fn run_command(
-    c: Command,
-    line: &[u8],
-    card: &mut [u8],
-    queue: &mut [u8],
-    journal: &mut [u8],
-    state: State,
-    out: &mut [u8],
-    at: usize,
-) -> Ran
-    requires { ⌜ Fits (now card) state ⌝ }
-    ensures { λ r. ⌜ Runs (ran (now (line .entry)) c (shellOf (now (card .entry)) (now (queue .entry)) (now (journal .entry)) state)) (now (card .entry)) (now (out .entry)) at (now (card .exit)) (now (queue .exit)) (now (journal .exit)) (now (out .exit)) r ⌝ }
-{
-    match c {
+    match command(line) {
         Command::Nothing => Ran { state, at },
         Command::Unknown => said(state, out, at, b"?\n"),
-        Command::Call(q) => lent(q, line, card, queue, journal, state, out, at),
+        Command::Call(q) => {
+            // A call sees only what is lent.
+            let n = least(state.card, state.size);
+            let m = within(state.queue, queue);
+            let k = within(state.journal, journal);
+            let mut rec = state.rec;
+            let next = call(
+                q,
+                line,
+                &mut card[..n],
+                &mut queue[..m],
+                &mut journal[..k],
+                &mut rec,
+                out,
+                at,
+            );
+            Ran {
+                state: with_record(state, rec),
+                at: next,
+            }
+        }
         Command::Tool(t) => work(t, card, queue, journal, state, out, at),
     }
 }
@@ -89,7 +90,9 @@ fn work(
 {
     match tool {
         Tool::Card { length, byte } => {
-            put_in(card, queue, journal, length as usize, byte, out, at)
+            let n = refill(card, length as usize, (byte % 256) as u8);
+            let rec = cut(queue, journal);
+            said(with_card(rec, n), out, at, b"ok\n")
         }
         Tool::Poke { at: place, byte } => poke(card, state, place as usize, byte, out, at),
         Tool::Cut(x) => cut_power(x, card, queue, journal, state, out, at),
@@ -114,19 +117,32 @@ fn cut_power(
     ensures { λ r. ⌜ Runs (cutting x (shellOf (now (card .entry)) (now (queue .entry)) (now (journal .entry)) state)) (now (card .entry)) (now (out .entry)) at (now (card .exit)) (now (queue .exit)) (now (journal .exit)) (now (out .exit)) r ⌝ }
 {
     match x {
-        Cut::Between => cut_between(queue, journal, state, out, at),
-        Cut::Flush { allowance, stores } => cut_flush(
-            card,
-            queue,
-            journal,
-            state,
-            allowance as usize,
-            stores as usize,
-            out,
-            at,
-        ),
+        Cut::Between => {
+            let rec = cut(queue, journal);
+            said(with_record(state, rec), out, at, b"cut\n")
+        }
+        Cut::Flush { allowance, stores } => {
+            let n = least(state.card, state.size);
+            let mut rec = state.rec;
+            let broken = broken_flush(
+                &mut card[..n],
+                part(queue, 0, state.queue),
+                part(journal, 0, state.journal),
+                &mut rec,
+                allowance as usize,
+                stores as usize,
+            );
+            cut_short(broken, queue, journal, state, out, at)
+        }
         Cut::Format { stores } => {
-            cut_format(card, queue, journal, state, stores as usize, out, at)
+            let n = least(state.card, state.size);
+            let broken = broken_format(
+                &mut card[..n],
+                part(queue, 0, state.queue),
+                part(journal, 0, state.journal),
+                stores as usize,
+            );
+            cut_short(broken, queue, journal, state, out, at)
         }
     }
 }
@@ -175,83 +191,19 @@ fn print(
             put_number(out, at, sum as u64)
         }
         Print::Listing => listing::listing(part(card, 0, state.size), out, at),
-        Print::Show { view } => show_lent(card, queue, journal, state, view as usize, out, at),
+        Print::Show { view } => {
+            let rec = state.rec;
+            show(
+                part(card, 0, least(state.card, state.size)),
+                part(queue, 0, state.queue),
+                part(journal, 0, state.journal),
+                &rec,
+                view as usize,
+                out,
+                at,
+            )
+        }
     }
-}
-
-// A call sees only what is lent.
-fn lent(
-    q: Request,
-    line: &[u8],
-    card: &mut [u8],
-    queue: &mut [u8],
-    journal: &mut [u8],
-    state: State,
-    out: &mut [u8],
-    at: usize,
-) -> Ran
-    requires { ⌜ Fits (now card) state ⌝ }
-    ensures { λ r. ⌜ Runs (called (callOf (now (line .entry)) q) (shellOf (now (card .entry)) (now (queue .entry)) (now (journal .entry)) state)) (now (card .entry)) (now (out .entry)) at (now (card .exit)) (now (queue .exit)) (now (journal .exit)) (now (out .exit)) r ⌝ }
-{
-    let n = within(least(state.card, state.size), card);
-    let m = within(state.queue, queue);
-    let k = within(state.journal, journal);
-    let mut rec = state.rec;
-    let next = call(
-        q,
-        line,
-        &mut card[..n],
-        &mut queue[..m],
-        &mut journal[..k],
-        &mut rec,
-        out,
-        at,
-    );
-    Ran {
-        state: with_record(state, rec),
-        at: next,
-    }
-}
-
-fn show_lent(
-    card: &[u8],
-    queue: &[u8],
-    journal: &[u8],
-    state: State,
-    view: usize,
-    out: &mut [u8],
-    at: usize,
-) -> usize
-    ensures { λ r. ⌜ Puts (now (out .entry)) at (shown view (lentDisk (shellOf (now (card .entry)) (now (queue .entry)) (now (journal .entry)) state))) (now (out .exit)) r ⌝ }
-{
-    let rec = state.rec;
-    show(
-        part(card, 0, least(state.card, state.size)),
-        part(queue, 0, state.queue),
-        part(journal, 0, state.journal),
-        &rec,
-        view,
-        out,
-        at,
-    )
-}
-
-// Another card is put in.
-fn put_in(
-    card: &mut [u8],
-    queue: &mut [u8],
-    journal: &mut [u8],
-    length: usize,
-    byte: u64,
-    out: &mut [u8],
-    at: usize,
-) -> Ran
-    requires { ⌜ longestCard ≤ Len (now card) ⌝ }
-    ensures { λ r. ⌜ ((state : State) → Runs (ok (inserted length byte (shellOf (now (card .entry)) (now (queue .entry)) (now (journal .entry)) state))) (now (card .entry)) (now (out .entry)) at (now (card .exit)) (now (queue .exit)) (now (journal .exit)) (now (out .exit)) r) ⌝ }
-{
-    let n = refill(card, length, (byte % 256) as u8);
-    let rec = cut(queue, journal);
-    said(with_card(rec, n), out, at, b"ok\n")
 }
 
 // The length of what is filled.
@@ -264,20 +216,12 @@ fn refill(card: &mut [u8], length: usize, byte: u8) -> usize
     n
 }
 
-fn cut_between(queue: &mut [u8], journal: &mut [u8], state: State, out: &mut [u8], at: usize) -> Ran
-    ensures { λ r. ⌜ ((card : List ℕ) → Fits card state → Runs (cutBetween (shellOf card (now (queue .entry)) (now (journal .entry)) state)) card (now (out .entry)) at card (now (queue .exit)) (now (journal .exit)) (now (out .exit)) r) ⌝ }
-{
-    let rec = cut(queue, journal);
-    said(with_record(state, rec), out, at, b"cut\n")
-}
-
 // Someone else writes a byte of the card.
 fn poke(card: &mut [u8], state: State, place: usize, byte: u64, out: &mut [u8], at: usize) -> Ran
     requires { ⌜ Fits (now card) state ⌝ }
     ensures { λ r. ⌜ ((queue journal : List ℕ) → Runs (poked place byte (shellOf (now (card .entry)) queue journal state)) (now (card .entry)) (now (out .entry)) at (now (card .exit)) queue journal (now (out .exit)) r) ⌝ }
 {
-    let n = within(state.size, card);
-    if place < n {
+    if place < state.size {
         card[place] = (byte % 256) as u8;
         said(state, out, at, b"ok\n")
     } else {

@@ -1,19 +1,30 @@
 -- The call on the lent bytes, and its line. Assumes nothing.
+use mathlib.Core.Path.{sym}
+use Prim.Native.Nat.{ℕ}
+use lib.ListN.{replicate}
+use lib.Seq.{length-front}
 use Rattle.commands.specs.Replies.{lineOf, lookLine}
 use Rattle.commands.specs.Called.{bytesLent}
+use Rattle.commands.proofs.Lending.{lent-count, zeros-lent, zeros-back}
 use Rattle.commands.proofs.Calling.{calls}
 use borrow.Author.Needs.{needs}
 use Rattle.commands.proofs.look.inventory.Statement.{statement}
 use Rattle.commands.proofs.look.inventory.Tie as tie
 
-slice-aggregate-inventory-part : tie.Need-slice-aggregate-inventory-part
-slice-aggregate-inventory-part c = search needs
+least-requires : tie.Need-least-requires
+least-requires c κs = search needs
 
-inventory-part-requires : tie.Need-inventory-part-requires
-inventory-part-requires c κs = search needs
+array-borrow-prefix-lists : tie.Need-array-borrow-prefix-lists
+array-borrow-prefix-lists c = search needs
+
+slice-aggregate-inventory : tie.Need-slice-aggregate-inventory
+slice-aggregate-inventory c = rw (c .before .least .ensures) (lent-count (c .before .before .before .before .before .before .args .lent) (replicate 1000 0))
+
+inventory-requires : tie.Need-inventory-requires
+inventory-requires c κs = search needs
 
 slice-aggregate-part : tie.Need-slice-aggregate-part
-slice-aggregate-part c = search needs
+slice-aggregate-part c = sym (length-front {A = ℕ} (replicate 1000 0) (c .before .before .before .inventory .last .1 .1 .1 .1 .1 .0) (c .before .before .before .before .before .least .result) (c .before .before .before .inventory .kept .1 .1 .1 .1 .1 .0))
 
 part-requires : tie.Need-part-requires
 part-requires c κs = search needs
@@ -27,14 +38,18 @@ same-length c = search needs
 returns : tie.Need-returns
 unfolding bytesLent lineOf lookLine
 returns c =
-    calls (c .before .before .before .before .before .before .before .inventory-part .ensures) (rw (c .before .before .before .part .ensures) at (c .before .before .put-inventory .ensures))
+    let n = c .before .before .before .before .before .before .before .before .before .before .before .before .before .before .args .lent in
+    let k = c .before .before .before .before .before .before .before .before .before .least .ensures in
+    calls (rw (zeros-lent n _ k) at (c .before .before .before .before .before .before .before .inventory .ensures)) (rw (c .before .before .before .part .ensures, zeros-back n _ k _ (c .before .before .before .before .before .before .before .inventory .kept .1 .1 .1 .1 .1 .0)) at (c .before .before .put-inventory .ensures))
 
 pub inventory-spec : {M : Type 1} → statement M
 inventory-spec =
     tie.close
     (tie.spec
-    slice-aggregate-inventory-part
-    inventory-part-requires
+    least-requires
+    array-borrow-prefix-lists
+    slice-aggregate-inventory
+    inventory-requires
     slice-aggregate-part
     part-requires
     put-inventory-requires

@@ -5,9 +5,6 @@ use borrow.Author.Needs.{needs}
 use Rattle.commands.proofs.run.poke.Statement.{statement}
 use Rattle.commands.proofs.run.poke.Tie as tie
 
-within-requires : tie.Need-within-requires
-within-requires c κs = search needs
-
 cast-card : tie.Need-cast-card
 cast-card c = search needs
 
@@ -35,28 +32,24 @@ same-length-2 c = search needs
 returns : tie.Need-returns
 unfolding bytes
 returns c q j =
-    let a = c .before .before .before .before .before .before .before .before .before .before .args in
+    let a = c .before .before .before .before .before .before .before .before .before .args in
     let (k, t) = c .before .before .said .ensures in
-    poked-inside (a .place) (a .byte) (a .card .now) q j (a .state) (c .before .before .said .result) (c .before .before .before .before .before .before .before .before .before .before .pre) k (rw (c .before .before .before .before .before .before .within .ensures) at (c .before .before .before .before .before .if1 .taken)) t
+    poked-inside (a .place) (a .byte) (a .card .now) q j (a .state) (c .before .before .said .result) (c .before .before .before .before .before .before .before .before .before .pre) k (c .before .before .before .before .before .if1 .taken) t
 
 same-length-3 : tie.Need-same-length-3
 same-length-3 c = search needs
 
-same-length-4 : tie.Need-same-length-4
-same-length-4 c = search needs
-
 returns-2 : tie.Need-returns-2
 unfolding bytes
 returns-2 c q j =
-    let a = c .before .before .before .before .before .before .before .before .before .before .args in
+    let a = c .before .before .before .before .before .before .before .before .before .args in
     let (k, t) = c .before .before .said2 .ensures in
-    poked-outside (a .place) (a .byte) (a .card .now) q j (a .state) (c .before .before .said2 .result) (c .before .before .before .before .before .before .before .before .before .before .pre) k (rw (c .before .before .before .before .before .before .within .ensures) at (c .before .before .before .before .before .if1 .left)) t
+    poked-outside (a .place) (a .byte) (a .card .now) q j (a .state) (c .before .before .said2 .result) (c .before .before .before .before .before .before .before .before .before .pre) k (c .before .before .before .before .before .if1 .left) t
 
 pub poke-spec : {M : Type 1} → statement M
 poke-spec =
     tie.close
     (tie.spec
-    within-requires
     cast-card
     slice-write-card
     slice-aggregate-said
@@ -67,5 +60,4 @@ poke-spec =
     same-length-2
     returns
     same-length-3
-    same-length-4
     returns-2)

@@ -1,5 +1,6 @@
 -- Each arm is a row of the table. Assumes nothing.
 use Rattle.commands.specs.Ran.{printing}
+use Rattle.commands.proofs.Lending.{lent-disk}
 use borrow.Author.Needs.{needs}
 use Rattle.commands.proofs.run.print.Statement.{statement}
 use Rattle.commands.proofs.run.print.Tie as tie
@@ -31,8 +32,20 @@ listing-requires c κs = search needs
 enum-known-p : tie.Need-enum-known-p
 enum-known-p c = search needs
 
-show-lent-requires : tie.Need-show-lent-requires
-show-lent-requires c κs = search needs
+least-requires : tie.Need-least-requires
+least-requires c κs = search needs
+
+part-requires-3 : tie.Need-part-requires-3
+part-requires-3 c κs = search needs
+
+part-requires-4 : tie.Need-part-requires-4
+part-requires-4 c κs = search needs
+
+part-requires-5 : tie.Need-part-requires-5
+part-requires-5 c κs = search needs
+
+show-requires : tie.Need-show-requires
+show-requires c κs = search needs
 
 same-length : tie.Need-same-length
 same-length c = search needs
@@ -53,7 +66,10 @@ same-length-3 c = search needs
 
 returns-3 : tie.Need-returns-3
 unfolding printing
-returns-3 c = rw (c .before .before .before .before .before .p .given .1) (c .before .before .show-lent .ensures)
+returns-3 c =
+    let a = c .before .before .before .before .before .before .before .before .before .before .before .before .before .before .before .before .before .args in
+    rw (c .before .before .before .before .before .before .before .before .before .before .before .p .given .1, lent-disk (a .card .now) (a .queue .now) (a .journal .now) (a .state))
+    (rw (c .before .before .before .before .before .before .before .part3 .ensures, c .before .before .before .before .before .before .part4 .ensures, c .before .before .before .before .before .part5 .ensures, c .before .before .before .before .before .before .before .before .least .ensures) at (c .before .before .show .ensures))
 
 pub print-spec : {M : Type 1} → statement M
 print-spec =
@@ -68,7 +84,11 @@ print-spec =
     part-requires-2
     listing-requires
     enum-known-p
-    show-lent-requires
+    least-requires
+    part-requires-3
+    part-requires-4
+    part-requires-5
+    show-requires
     same-length
     returns
     same-length-2

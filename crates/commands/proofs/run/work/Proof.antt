@@ -1,8 +1,8 @@
 -- Each arm is a row of the table. Assumes nothing.
-use mathlib.Core.Path.{refl}
+use mathlib.Core.Path.{refl, _∙_}
 use Rattle.script.specs.Spelling.{bytes}
 use Rattle.commands.specs.Ran.{worked}
-use Rattle.commands.proofs.Running.{runs}
+use Rattle.commands.proofs.Running.{runs, inserted-runs}
 use borrow.Author.Needs.{needs}
 use Rattle.commands.proofs.run.work.Statement.{statement}
 use Rattle.commands.proofs.run.work.Tie as tie
@@ -10,8 +10,23 @@ use Rattle.commands.proofs.run.work.Tie as tie
 enum-known-tool : tie.Need-enum-known-tool
 enum-known-tool c = search needs
 
-put-in-requires : tie.Need-put-in-requires
-put-in-requires c κs = search needs
+cast-refill : tie.Need-cast-refill
+cast-refill c = search needs
+
+refill-requires : tie.Need-refill-requires
+refill-requires c κs = search needs
+
+cut-requires : tie.Need-cut-requires
+cut-requires c κs = search needs
+
+with-card-requires : tie.Need-with-card-requires
+with-card-requires c κs = search needs
+
+slice-aggregate-said : tie.Need-slice-aggregate-said
+slice-aggregate-said c = search needs
+
+said-requires : tie.Need-said-requires
+said-requires c κs = search needs
 
 enum-known-tool-2 : tie.Need-enum-known-tool-2
 enum-known-tool-2 c = search needs
@@ -31,11 +46,11 @@ enum-known-tool-4 c = search needs
 lend-requires : tie.Need-lend-requires
 lend-requires c κs = search needs
 
-slice-aggregate-said : tie.Need-slice-aggregate-said
-slice-aggregate-said c = search needs
+slice-aggregate-said-2 : tie.Need-slice-aggregate-said-2
+slice-aggregate-said-2 c = search needs
 
-said-requires : tie.Need-said-requires
-said-requires c κs = search needs
+said-requires-2 : tie.Need-said-requires-2
+said-requires-2 c κs = search needs
 
 enum-known-tool-5 : tie.Need-enum-known-tool-5
 enum-known-tool-5 c = search needs
@@ -56,8 +71,13 @@ same-length-4 : tie.Need-same-length-4
 same-length-4 c = search needs
 
 returns : tie.Need-returns
-unfolding worked
-returns c = rw (c .before .before .before .before .before .before .before .before .before .before .before .before .before .before .tool .given .1) (c .before .before .before .before .before .before .before .before .put-in .ensures (c .before .before .before .before .before .before .before .before .before .before .before .before .before .before .before .before .before .before .before .before .args .state))
+unfolding worked bytes
+returns c =
+    let a = c .before .before .before .before .before .before .before .before .before .before .before .before .before .before .before .before .before .before .before .before .before .before .before .before .args in
+    let (n, e) = c .before .before .before .before .before .before .before .before .before .before .before .before .before .before .before .refill .ensures in
+    let (r, q, j) = c .before .before .before .before .before .before .before .before .before .before .cut .ensures in
+    let (k, t) = c .before .before .said .ensures in
+    rw (c .before .before .before .before .before .before .before .before .before .before .before .before .before .before .before .before .before .before .tool .given .1, e, n, q, j) (inserted-runs _ _ (a .card .now) (a .queue .now) (a .journal .now) (a .state) (c .before .before .said .result) (c .before .before .before .before .before .before .before .before .before .before .before .before .before .before .before .before .before .before .before .before .before .before .before .before .pre .longest) (k ∙ c .before .before .before .before .before .with-card .ensures ∙ rw (r, n)) t)
 
 same-length-5 : tie.Need-same-length-5
 same-length-5 c = search needs
@@ -96,7 +116,7 @@ returns-4 c =
     let a = c .before .before .before .before .before .before .before .before .before .before .before .before .before .args in
     let f = c .before .before .before .before .before .before .before .before .before .before .before .before .before .pre in
     let (n, e) = c .before .before .before .before .before .lend .ensures in
-    rw (c .before .before .before .before .before .before .before .tool4 .given .1) (runs _ (c .before .before .before .before .before .lend .result) _ (c .before .before .said .ensures .0) (record { longest = f .longest; whole = rw n (f .whole) }) refl (e (a .card .now) (a .queue .now) (a .journal .now) f) (c .before .before .said .ensures .1))
+    rw (c .before .before .before .before .before .before .before .tool4 .given .1) (runs _ (c .before .before .before .before .before .lend .result) _ (c .before .before .said2 .ensures .0) (record { longest = f .longest; whole = rw n (f .whole) }) refl (e (a .card .now) (a .queue .now) (a .journal .now) f) (c .before .before .said2 .ensures .1))
 
 same-length-12 : tie.Need-same-length-12
 same-length-12 c = search needs
@@ -122,15 +142,20 @@ work-spec =
     tie.close
     (tie.spec
     enum-known-tool
-    put-in-requires
+    cast-refill
+    refill-requires
+    cut-requires
+    with-card-requires
+    slice-aggregate-said
+    said-requires
     enum-known-tool-2
     poke-requires
     enum-known-tool-3
     cut-power-requires
     enum-known-tool-4
     lend-requires
-    slice-aggregate-said
-    said-requires
+    slice-aggregate-said-2
+    said-requires-2
     enum-known-tool-5
     print-requires
     same-length
