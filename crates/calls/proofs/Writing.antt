@@ -32,7 +32,8 @@ use Rattle.calls.specs.promises.Adds.{added, AddsAfter, InRange, placeNe
 use Rattle.calls.proofs.Refusing.{inside, seen-ranges, usual-performs-refused, performs-accepted}
 use Rattle.calls.proofs.Adding.{Decides, seen-decides}
 use Rattle.inspect.proofs.Locating.{placed-here}
-use Rattle.calls.proofs.Putting.{unit-some}
+use Rattle.disk.specs.Sound.{lengthsRight, recordSound}
+use Rattle.inspect.proofs.Looking.{Lawful, unit-lawful}
 
 change-written : (s : ℕ) (d : Disk) (b n : ℕ) (x : Content) (q j : List ℕ) → Copies s (placeNext s (d .rec)) x (d .queueData) (d .journalData) q j
     → change s (write b (raced x n)) d ≡ disk (d .card) q j (added s (Write b 0 n) (d .rec))
@@ -46,6 +47,11 @@ write-range b n m h =
     let (a, e) = and-true (isBlock b && isRace n) (eqb m 256) h in
     let (p, q) = and-true (isBlock b) (isRace n) a in
     (inside 64 b p, leb-true n 24 q, eqb-true m 256 e)
+
+-- unit 1 stands for none
+unit-some : (d : Disk) (s : ℕ) → lengthsRight d ≡ true → recordSound d ≡ true → s ≤ 4 → Lawful d s
+unit-some d zero l h n = let w = unit-lawful d 1 l h (omega arith) (omega arith) in record { room = w .room; lawful = w .lawful }
+unit-some d (suc s) l h n = unit-lawful d (suc s) l h (omega arith) n
 
 -- what finding the place needs
 pub write-ranges : (d : Disk) (s : ℕ) (t : Tables) → Sees false d s t → InRange s (d .rec)

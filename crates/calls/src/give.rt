@@ -10,20 +10,15 @@ use disk::free::first_free;
 use disk::free::withdraw;
 use disk::record::RECORD;
 use disk::record::list_number;
-use inspect::journal::enter_journal;
 use lists::tables::is_taken;
 use log::entry::LogEntry;
 ghost use mathlib.Core.Path.{_≡_};
-ghost use mathlib.Core.Bool.{true};
 ghost use mathlib.Core.List.{[]};
 ghost use Prim.Native.Nat.{_≤_, _<_};
-ghost use Rattle.lists.specs.Basic.{all, from};
 ghost use Rattle.lists.specs.promises.Tables.{tablesIn, OfShown, IsList};
-ghost use Rattle.log.specs.Entry.{legal, raw, member};
-ghost use Rattle.disk.specs.Record.{recordIn, unitAt};
+ghost use Rattle.disk.specs.Record.{recordIn};
 ghost use Rattle.disk.specs.promises.Listing.{Padded};
-ghost use Rattle.inspect.specs.promises.Clauses.{changeIn};
-ghost use Rattle.calls.specs.promises.Giving.{Takes, heldBy, putEntry, Gives, putQuestions, rangedPutQuestions, Lays, PutsFree};
+ghost use Rattle.calls.specs.promises.Giving.{Takes, heldBy, putEntry, Gives, putQuestions, PutsFree};
 
 // Number n held by unit s, by none on stream 0.
 fn held(rec: &mut [u8; RECORD], s: usize, n: u8)
@@ -102,47 +97,20 @@ fn put_on(nodes: &[u8; 1280], rec: &mut [u8; RECORD], s: usize, l: u8, p: u8, b:
     put_block(rec, s, l, p, b)
 }
 
-// 5 before them.
-fn put_ranged(
+// 5 before them. The number is the first free one; the list and the predecessor are of the stream's view, which the tables show.
+pub fn put_free(
     nodes: &[u8; 1280],
     rec: &mut [u8; RECORD],
     s: usize,
     l: usize,
     p: usize,
-    b: u8,
 ) -> NumberReply
-    requires { ⌜ (s ≤ 4) × (recordIn (now rec) .ring .head < 32) × (b ≤ 64) × Padded (recordIn (now rec)) ⌝ }
-    ensures { λ r. ⌜ OfShown (tablesIn (now (nodes .entry))) (λ rs. Gives (rangedPutQuestions l p b rs) s l p b (recordIn (now (rec .entry))) r (recordIn (now (rec .exit)))) ⌝ }
+    requires { ⌜ (s ≤ 4) × (recordIn (now rec) .ring .head < 32) × Padded (recordIn (now rec)) ⌝ }
+    ensures { λ r. ⌜ OfShown (tablesIn (now (nodes .entry))) (λ rs. PutsFree s l p rs (recordIn (now (rec .entry))) r (recordIn (now (rec .exit)))) ⌝ }
 {
     if !is_position(l, p) {
         return NumberReply::Refused(Refusal::OutOfRange);
     }
-    put_on(nodes, rec, s, l as u8, p as u8, b)
-}
-
-// The journal of unit s laid over the committed state; on stream 0 there is none.
-fn lay_stream(nodes: &mut [u8; 1280], rec: &[u8; RECORD], s: usize)
-    requires { ⌜ (s ≤ 4) × (unitAt (recordIn (now rec)) s .len ≤ 15) × (all (λ c. legal (raw 0 (member c))) (from (changeIn (unitAt (recordIn (now rec)) s)) 0 (unitAt (recordIn (now rec)) s .len)) ≡ true) ⌝ }
-    ensures { λ r. ⌜ Lays (tablesIn (now (nodes .entry))) (recordIn (now (rec .entry))) s (tablesIn (now (nodes .exit))) ⌝ }
-{
-    if s == 0 {
-        return;
-    }
-    enter_journal(nodes, rec, s);
-}
-
-// The number is the first free one; the list and the predecessor are of the stream's view, laid over the committed state that the tables show.
-pub fn put_free(
-    nodes: &mut [u8; 1280],
-    rec: &mut [u8; RECORD],
-    s: usize,
-    l: usize,
-    p: usize,
-) -> NumberReply
-    requires { ⌜ Padded (recordIn (now rec)) × (s ≤ 4) × (recordIn (now rec) .ring .head < 32) × (unitAt (recordIn (now rec)) s .len ≤ 15) × (all (λ c. legal (raw 0 (member c))) (from (changeIn (unitAt (recordIn (now rec)) s)) 0 (unitAt (recordIn (now rec)) s .len)) ≡ true) ⌝ }
-    ensures { λ r. ⌜ PutsFree (tablesIn (now (nodes .entry))) s l p (recordIn (now (rec .entry))) r (recordIn (now (rec .exit))) ⌝ }
-{
     let b = first_free(rec, 0, LogEntry::BLOCKS);
-    lay_stream(nodes, rec, s);
-    put_ranged(nodes, rec, s, l, p, b)
+    put_on(nodes, rec, s, l as u8, p as u8, b)
 }

@@ -1,9 +1,9 @@
 // NewBlock: a free block put on a list, first or behind another.
-use crate::enter::enter;
 use crate::give::put_free;
 use answers::NumberReply;
 use disk::record::RECORD;
 use inspect::look::Looked;
+use inspect::look::look_stream;
 ghost use Rattle.disk.specs.Call.{newBlock, onStream};
 ghost use Rattle.answers.specs.Answers.{numberAnswer};
 ghost use Rattle.calls.specs.Performs.{ChangesRecord};
@@ -21,19 +21,11 @@ pub fn new_block(
     ensures { λ r. ⌜ ChangesRecord (onStream stream (newBlock list predecessor)) (now (card .entry)) (now (queue_data .entry)) (now (journal_data .entry)) (now (rec .entry)) (now (rec .exit)) (numberAnswer r) ⌝ }
 {
     let mut nodes = [0u8; 1280];
-    match enter(
-        card,
-        queue_data,
-        journal_data,
-        rec,
-        true,
-        stream,
-        &mut nodes,
-    ) {
+    match look_stream(card, queue_data, journal_data, rec, stream, &mut nodes) {
         Looked::Refused(x) => {
             return NumberReply::Refused(x);
         }
         Looked::Seen => {}
     }
-    put_free(&mut nodes, rec, stream, list, predecessor)
+    put_free(&nodes, rec, stream, list, predecessor)
 }

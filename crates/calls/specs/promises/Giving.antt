@@ -7,19 +7,17 @@ use Prim.Native.Nat.{ℕ}
 use lib.Dec.{leb, eqb}
 use Rattle.lists.specs.Basic.{isSome, orElse}
 use Rattle.lists.specs.InUse.{listNumber}
-use Rattle.lists.specs.State.{Row, State, taken, onList, overlay}
-use Rattle.lists.specs.promises.Tables.{Tables, ShowsAll}
+use Rattle.lists.specs.State.{Row, taken, onList}
 use Rattle.log.specs.declared.entry.LogEntry.{LogEntry}
 use Rattle.log.specs.declared.entry.LogEntry.the-variants.{Take, PutFirst, PutAfter}
 use Rattle.log.specs.Entry.{isList}
-use Rattle.disk.specs.Record.{Record, unitAt, listedIn, holding}
+use Rattle.disk.specs.Record.{Record, listedIn, holding}
 use Rattle.answers.specs.declared.NumberReply.{NumberReply}
 use Rattle.answers.specs.declared.NumberReply.the-variants.{Number, Refused}
 use Rattle.disk.specs.Disk.{Disk}
 use Rattle.disk.specs.Questions.{firstFree, firstNo}
 use Rattle.answers.specs.Answers.{number}
 use Rattle.disk.specs.promises.Listing.{unlisted}
-use Rattle.inspect.specs.promises.Located.{journalHere}
 use Rattle.calls.specs.promises.Adds.{added, rooms}
 
 abbrev pub freeListIn : Record → Option ℕ
@@ -59,15 +57,6 @@ putQuestions l p b rs = (7, taken l rs) ∷ (9, eqb p 0 || onList l p rs) ∷ (1
 abbrev pub rangedPutQuestions : {D : Type 0} → ℕ → ℕ → ℕ → List (Row D) → List (ℕ × Bool)
 rangedPutQuestions l p b rs = (5, isList l && leb p 64) ∷ putQuestions l p b rs
 
--- stream s's view over the committed state
-abbrev pub viewHere : Record → ℕ → State ℕ → State ℕ
-viewHere r s st = cond (eqb s 0) st (overlay (journalHere (unitAt r s) s) st)
-
-abbrev pub Lays : Tables → Record → ℕ → Tables → Type 0
-Lays t r s t′ = (st : State ℕ) → ShowsAll t st → ShowsAll t′ (viewHere r s st)
-
--- the tables show the committed state
-abbrev pub PutsFree : Tables → ℕ → ℕ → ℕ → Record → NumberReply → Record → Type 0
-PutsFree t s l p r a r′ =
-    (st : State ℕ) → ShowsAll t st
-    → (let b = orElse 0 (freeBlockIn r) in Gives (rangedPutQuestions l p b (viewHere r s st .lists)) s l p b r a r′)
+-- the number given is the first free one; rs are the lists of the stream's view
+abbrev pub PutsFree : {D : Type 0} → ℕ → ℕ → ℕ → List (Row D) → Record → NumberReply → Record → Type 0
+PutsFree s l p rs r a r′ = let b = orElse 0 (freeBlockIn r) in Gives (rangedPutQuestions l p b rs) s l p b r a r′
