@@ -1,6 +1,6 @@
 -- The calls' answers as their numbers: "Each enum answer has a definition that gives this paper's number and values for each of its cases."
 use Rattle.std.specs.Prelude.{ℕ}
-use Rattle.log.specs.Flush.{Ending, drained, full, spent}
+use Rattle.card_log.specs.Flush.{Ending, drained, full, spent}
 use Rattle.answers.specs.declared.Refusal.{Refusal}
 use Rattle.answers.specs.declared.Refusal.TheVariants.{WrongLength, LogFault, RecordUnsound, StreamClosed, OutOfRange, UnitOpen, ListNotTaken, BlockNotPlaced, PredecessorElsewhere, NoNumberFree, JournalFull, Conflict, QueueFull, BufferTooShort, Unwritten}
 use Rattle.answers.specs.declared.Reply as R

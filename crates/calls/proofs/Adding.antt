@@ -16,11 +16,11 @@ use Rattle.lists.specs.promises.Tables.{Tables, OfShown}
 use Rattle.lists.proofs.Basic.{eqb-false, le-true, lt-true, gt-false, ge-false}
 use Rattle.lists.proofs.Naturality.{blocks_of-map}
 use Rattle.lists.proofs.Lookup.{lists-shown}
-use Rattle.log.specs.declared.entry.LogEntry.{LogEntry}
-use Rattle.log.specs.declared.entry.LogEntry.TheVariants.{DeleteBlock, DeleteList}
-use Rattle.log.specs.Card.{Written}
-use Rattle.log.specs.Entry.{plain, map_entry, raw, carried, is_block, is_list, as_entry}
-use Rattle.log.specs.Cell.{cell_of}
+use Rattle.card_log.specs.declared.entry.LogEntry.{LogEntry}
+use Rattle.card_log.specs.declared.entry.LogEntry.TheVariants.{DeleteBlock, DeleteList}
+use Rattle.card_log.specs.Card.{Written}
+use Rattle.card_log.specs.Entry.{plain, map_entry, raw, carried, is_block, is_list, as_entry}
+use Rattle.card_log.specs.Cell.{cell_of}
 use Rattle.disk.specs.Record.{Record, unit_at, listed_in, with_listed, appended, journal_grown}
 use Rattle.disk.specs.promises.Listing.{Padded, listed_last, pushed_all, relisted_by}
 use Rattle.answers.specs.declared.Refusal.{Refusal}

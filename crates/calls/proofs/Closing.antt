@@ -16,7 +16,7 @@ use Rattle.lists.specs.InUse.{in_use, brings}
 use Rattle.lists.specs.Numbers.{all_numbers}
 use Rattle.lists.proofs.Times.{keep-alike}
 use Rattle.lists.proofs.Naturality.{taken-map, placed-map, changed-map, free_after-map, apply_all-map}
-use Rattle.log.specs.Card.{Written}
+use Rattle.card_log.specs.Card.{Written}
 use Rattle.disk.specs.Record.{Record, Tally, holder_of, listed_in, with_listed, unit_turned, releasing}
 use Rattle.disk.specs.Disk.{Disk, journal_of, committed, listing}
 use Rattle.disk.specs.Perform.{relisted, given_up, closing}

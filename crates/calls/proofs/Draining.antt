@@ -9,21 +9,21 @@ use native.Mathlib.Decide.{dec_lt}
 use lib.ListN.{length, take, drop, get_or, length-take, length-drop}
 use Rattle.lists.specs.Basic.{from}
 use Rattle.lists.proofs.Basic.{from-length, from_step, from-none}
-use Rattle.log.specs.declared.entry.LogEntry.{LogEntry}
-use Rattle.log.specs.declared.place.Place.{Place}
-use Rattle.log.specs.Entry.{Entry}
-use Rattle.log.specs.Cell.{member_in, entry_in}
-use Rattle.log.specs.Card.{Content, Written, slot, segments_in}
-use Rattle.log.specs.Store.{home, tail, entry_stores}
-use Rattle.log.specs.Flush.{Flushed, Ending, drained, full, spent, next_store, flush_from}
-use Rattle.log.specs.promises.Within.{Within}
-use Rattle.log.proofs.Allowance.{stopped-flush}
-use Rattle.log.proofs.EntryStores.{entry-stores-length}
-use Rattle.log.proofs.Places.{raw-length, add_to}
-use Rattle.log.proofs.Flows.{end_of, tail-end, end-add, head_at_lem, Flows}
-use Rattle.log.proofs.Segment.{carries-walk, carries-segments}
-use Rattle.log.proofs.Sequence.{ReadyHead}
-use Rattle.log.proofs.LogStores.{going}
+use Rattle.card_log.specs.declared.entry.LogEntry.{LogEntry}
+use Rattle.card_log.specs.declared.place.Place.{Place}
+use Rattle.card_log.specs.Entry.{Entry}
+use Rattle.card_log.specs.Cell.{member_in, entry_in}
+use Rattle.card_log.specs.Card.{Content, Written, slot, segments_in}
+use Rattle.card_log.specs.Store.{home, tail, entry_stores}
+use Rattle.card_log.specs.Flush.{Flushed, Ending, drained, full, spent, next_store, flush_from}
+use Rattle.card_log.specs.promises.Within.{Within}
+use Rattle.card_log.proofs.Allowance.{stopped-flush}
+use Rattle.card_log.proofs.EntryStores.{entry-stores-length}
+use Rattle.card_log.proofs.Places.{raw-length, add_to}
+use Rattle.card_log.proofs.Flows.{end_of, tail-end, end-add, head_at_lem, Flows}
+use Rattle.card_log.proofs.Segment.{carries-walk, carries-segments}
+use Rattle.card_log.proofs.Sequence.{ReadyHead}
+use Rattle.card_log.proofs.LogStores.{going}
 use Rattle.disk.specs.Record.{Record, no_cell, ring_place, with_flow}
 use Rattle.answers.specs.declared.FlushReply as reply
 use Rattle.disk.specs.Disk.{Disk, disk, queued_at, queued}

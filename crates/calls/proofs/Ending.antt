@@ -16,12 +16,12 @@ use Rattle.lists.specs.State.{State, apply_all, overlay}
 use Rattle.lists.specs.promises.Tables.{Tables, ShowsAll, OfShown}
 use Rattle.lists.proofs.Basic.{some_of, from_step, from-none, all_from, le-true, gt-false}
 use Rattle.lists.proofs.Lookup.{lists-shown}
-use Rattle.log.specs.contracts.entry.LogEntry.{the_type}
-use Rattle.log.specs.declared.entry.LogEntry.{LogEntry}
-use Rattle.log.specs.declared.entry.LogEntry.TheVariants.{Take, PutFirst, PutAfter, Write, DeleteBlock, DeleteList, Commit}
-use Rattle.log.specs.Card.{Written, slot, slot_bytes, splice}
-use Rattle.log.specs.Entry.{member, commit, map_entry, carried, raw, legal, legal_change, as_change, as_entry}
-use Rattle.log.specs.Cell.{cell_of, entry_in}
+use Rattle.card_log.specs.contracts.entry.LogEntry.{the_type}
+use Rattle.card_log.specs.declared.entry.LogEntry.{LogEntry}
+use Rattle.card_log.specs.declared.entry.LogEntry.TheVariants.{Take, PutFirst, PutAfter, Write, DeleteBlock, DeleteList, Commit}
+use Rattle.card_log.specs.Card.{Written, slot, slot_bytes, splice}
+use Rattle.card_log.specs.Entry.{member, commit, map_entry, carried, raw, legal, legal_change, as_change, as_entry}
+use Rattle.card_log.specs.Cell.{cell_of, entry_in}
 use Rattle.disk.specs.Record.{Unit, Record, no_cell, no_unit, ring_place, unit_at, appended, conflict_counted}
 use Rattle.answers.specs.declared.Refusal.{Refusal}
 use Rattle.answers.specs.declared.Refusal.TheVariants.{Conflict, QueueFull}

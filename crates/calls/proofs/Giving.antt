@@ -13,10 +13,10 @@ use Rattle.lists.specs.State.{Row, taken, on_list}
 use Rattle.lists.specs.InUse.{list_number}
 use Rattle.lists.specs.promises.Tables.{Tables}
 use Rattle.lists.proofs.Basic.{eqb-false}
-use Rattle.log.specs.declared.entry.LogEntry.{LogEntry}
-use Rattle.log.specs.declared.entry.LogEntry.TheVariants.{Take}
-use Rattle.log.specs.Entry.{map_entry, raw, is_list, as_entry}
-use Rattle.log.specs.Cell.{cell_of}
+use Rattle.card_log.specs.declared.entry.LogEntry.{LogEntry}
+use Rattle.card_log.specs.declared.entry.LogEntry.TheVariants.{Take}
+use Rattle.card_log.specs.Entry.{map_entry, raw, is_list, as_entry}
+use Rattle.card_log.specs.Cell.{cell_of}
 use Rattle.disk.specs.Record.{Record, listed_in, holding}
 use Rattle.answers.specs.declared.Refusal.{Refusal}
 use Rattle.answers.specs.declared.Refusal.TheVariants.{OutOfRange, ListNotTaken, PredecessorElsewhere, NoNumberFree}

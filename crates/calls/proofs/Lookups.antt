@@ -13,7 +13,7 @@ use Rattle.lists.specs.Lookup.{next_after, list_nums}
 use Rattle.lists.specs.promises.Tables.{Tables, IsList, OfShown}
 use Rattle.lists.proofs.Storing.{Stored}
 use Rattle.lists.proofs.Basic.{eqb-false, eq-true, le-true, gt-false}
-use Rattle.log.specs.Entry.{is_list}
+use Rattle.card_log.specs.Entry.{is_list}
 use Rattle.text.specs.Written.{written, Puts}
 use Rattle.listing.specs.Page.{page_text}
 use Rattle.listing.proofs.Pages.{page-map}

@@ -14,8 +14,8 @@ use Rattle.lists.specs.promises.Tables.{Tables, OfShown}
 use Rattle.lists.proofs.Basic.{or_cases, eqb-true}
 use Rattle.lists.proofs.Lookup.{lists-shown}
 use Rattle.lists.proofs.Naturality.{taken-map, on_list-map}
-use Rattle.log.specs.Entry.{is_list, map_entry, raw, as_entry}
-use Rattle.log.specs.Cell.{cell_of}
+use Rattle.card_log.specs.Entry.{is_list, map_entry, raw, as_entry}
+use Rattle.card_log.specs.Cell.{cell_of}
 use Rattle.disk.specs.Record.{Record, listed_in}
 use Rattle.answers.specs.declared.NumberReply.{NumberReply}
 use Rattle.answers.specs.declared.NumberReply.TheVariants.{Number, Refused}

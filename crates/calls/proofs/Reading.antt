@@ -12,7 +12,7 @@ use Rattle.lists.specs.State.{placed}
 use Rattle.lists.specs.Lookup.{content_of, written}
 use Rattle.lists.specs.promises.Tables.{Tables, IsBlock, OfShown, located_at}
 use Rattle.lists.proofs.Basic.{and-true, leb-true, eqb-true}
-use Rattle.log.specs.Entry.{is_block}
+use Rattle.card_log.specs.Entry.{is_block}
 use Rattle.answers.specs.declared.Refusal.{Refusal}
 use Rattle.answers.specs.declared.Refusal.TheVariants.{OutOfRange, BlockNotPlaced, Unwritten}
 use Rattle.answers.specs.declared.ReadReply as R

@@ -9,7 +9,7 @@ use native.Mathlib.Omega.{arith}
 use lib.Dec.{leb, eqb}
 use Rattle.lists.specs.promises.Tables.{Tables, IsList}
 use Rattle.lists.proofs.Basic.{and-true, or_cases, leb-true, eqb-true, eqb-false, gt-false}
-use Rattle.log.specs.Entry.{is_list}
+use Rattle.card_log.specs.Entry.{is_list}
 use Rattle.answers.specs.declared.Refusal.{Refusal}
 use Rattle.answers.specs.declared.Refusal.TheVariants.{WrongLength, LogFault, RecordUnsound, StreamClosed, OutOfRange, UnitOpen, ListNotTaken, BlockNotPlaced, PredecessorElsewhere, NoNumberFree, JournalFull, Conflict, QueueFull, BufferTooShort, Unwritten}
 use Rattle.disk.specs.Disk.{Disk, view}

@@ -9,20 +9,20 @@ use native.Mathlib.Nat.{add-zero, add-suc, suc-add, zero-add}
 use lib.ListN.{length, take, drop, get_or, set, length-drop}
 use lib.Seq.{drop-cons, take_all}
 use Rattle.lists.proofs.Basic.{eq-true, eqb-false}
-use Rattle.log.specs.declared.entry.LogEntry.{LogEntry}
-use Rattle.log.specs.declared.place.Place.{Place}
-use Rattle.log.specs.declared.place.Home.{Home}
-use Rattle.log.specs.declared.place.Home.TheVariants.{At, Full}
-use Rattle.log.specs.Entry.{Entry, carried, as_entry}
-use Rattle.log.specs.Card.{Content, Written, segments_in}
-use Rattle.log.specs.Store.{Store, do_stores, after, home, entry_stores}
-use Rattle.log.specs.Flush.{full, spent, stored, store_next, next_store, flush_from}
-use Rattle.log.specs.promises.Within.{Storable, as_place}
-use Rattle.log.specs.Turns.{AllInTurn}
-use Rattle.log.proofs.Allowance.{stopped-flush, moved-flush}
-use Rattle.log.proofs.Places.{entry-short, used-one}
-use Rattle.log.proofs.LogStores.{going, stores-many}
-use Rattle.log.proofs.Within.{within-home, within-after, home-of-entry, after-of-entry}
+use Rattle.card_log.specs.declared.entry.LogEntry.{LogEntry}
+use Rattle.card_log.specs.declared.place.Place.{Place}
+use Rattle.card_log.specs.declared.place.Home.{Home}
+use Rattle.card_log.specs.declared.place.Home.TheVariants.{At, Full}
+use Rattle.card_log.specs.Entry.{Entry, carried, as_entry}
+use Rattle.card_log.specs.Card.{Content, Written, segments_in}
+use Rattle.card_log.specs.Store.{Store, do_stores, after, home, entry_stores}
+use Rattle.card_log.specs.Flush.{full, spent, stored, store_next, next_store, flush_from}
+use Rattle.card_log.specs.promises.Within.{Storable, as_place}
+use Rattle.card_log.specs.Turns.{AllInTurn}
+use Rattle.card_log.proofs.Allowance.{stopped-flush, moved-flush}
+use Rattle.card_log.proofs.Places.{entry-short, used-one}
+use Rattle.card_log.proofs.LogStores.{going, stores-many}
+use Rattle.card_log.proofs.Within.{within-home, within-after, home-of-entry, after-of-entry}
 use Rattle.calls.specs.promises.Flushing.{flow, HeadReady, Heads}
 use Rattle.calls.specs.declared.drain.Headed.TheVariants as headed
 

@@ -8,13 +8,13 @@ use native.Mathlib.Omega.{arith}
 use native.Mathlib.Nat.{add-zero, add-suc, suc-add}
 use lib.ListN.{length, drop, get_or, set, length-drop}
 use lib.Seq.{take_all}
-use Rattle.log.specs.declared.place.Place.{Place}
-use Rattle.log.specs.Entry.{Entry}
-use Rattle.log.specs.Card.{Written}
-use Rattle.log.specs.Store.{Store, do_stores, home, entry_stores}
-use Rattle.log.specs.Turns.{InTurn, AllInTurn}
-use Rattle.log.proofs.Places.{add_to}
-use Rattle.log.proofs.Flows.{end_of, Flows, store-more, store-last}
+use Rattle.card_log.specs.declared.place.Place.{Place}
+use Rattle.card_log.specs.Entry.{Entry}
+use Rattle.card_log.specs.Card.{Written}
+use Rattle.card_log.specs.Store.{Store, do_stores, home, entry_stores}
+use Rattle.card_log.specs.Turns.{InTurn, AllInTurn}
+use Rattle.card_log.proofs.Places.{add_to}
+use Rattle.card_log.proofs.Flows.{end_of, Flows, store-more, store-last}
 use Rattle.disk.proofs.Turns.{in-turn}
 use Rattle.calls.proofs.Storing.{several, stores-none, stores_one, stores-next, stores-done}
 

@@ -10,11 +10,11 @@ use Rattle.lists.specs.Change.{write, map_change, carried_by}
 use Rattle.lists.specs.State.{placed}
 use Rattle.lists.specs.promises.Tables.{Tables, IsBlock, OfShown}
 use Rattle.lists.proofs.Basic.{and-true, leb-true, eqb-true}
-use Rattle.log.specs.declared.entry.LogEntry.TheVariants.{Write}
-use Rattle.log.specs.Raced.{raced}
-use Rattle.log.specs.Card.{Content, slot_bytes}
-use Rattle.log.specs.Entry.{map_entry, raw, is_block, is_race, carried, as_entry}
-use Rattle.log.specs.Cell.{cell_of}
+use Rattle.card_log.specs.declared.entry.LogEntry.TheVariants.{Write}
+use Rattle.card_log.specs.Raced.{raced}
+use Rattle.card_log.specs.Card.{Content, slot_bytes}
+use Rattle.card_log.specs.Entry.{map_entry, raw, is_block, is_race, carried, as_entry}
+use Rattle.card_log.specs.Cell.{cell_of}
 use Rattle.disk.specs.Record.{Record}
 use Rattle.answers.specs.declared.Refusal.{Refusal}
 use Rattle.answers.specs.declared.Reply.{Reply}

@@ -4,9 +4,9 @@ ghost use Rattle.disk.specs.Record.{record_in};
 ghost use Rattle.calls.specs.promises.Adds.{Adds};
 
 use answers::{Refusal, Reply};
+use card_log::entry::LogEntry;
 use disk::change::{append, journal};
 use disk::record::{RECORD, Record, Unit, journal_len, len};
-use log::entry::LogEntry;
 
 // 11. Has the unit's journal room? 13. Has the queue, for stream 0?
 pub fn add(rec: &mut [u8; RECORD], s: usize, e: LogEntry) -> Reply

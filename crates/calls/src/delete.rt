@@ -1,18 +1,18 @@
 // A deletion added on a stream, and the numbers that it frees.
 ghost use Rattle.std.specs.Prelude.{◌≡◌, true, ◌≤◌, ◌<◌};
 ghost use Rattle.lists.specs.promises.Tables.{tables_in};
-ghost use Rattle.log.specs.Entry.{legal, raw, member, as_change};
+ghost use Rattle.card_log.specs.Entry.{legal, raw, member, as_change};
 ghost use Rattle.disk.specs.Record.{record_in};
 ghost use Rattle.disk.specs.promises.Listing.{Padded};
 ghost use Rattle.calls.specs.promises.Adds.{added, Leaves, relisted_on, OfDeletion};
 
 use crate::add::add;
 use answers::Reply;
+use card_log::entry::LogEntry;
+use card_log::feed::fields_of;
 use disk::free::relist;
 use disk::record::RECORD;
 use lists::tables::{UNWRITTEN, act, last_free};
-use log::entry::LogEntry;
-use log::feed::fields_of;
 
 // On stream 0 they join the record's order. What a unit frees it frees when it ends. A deletion has no content, and so no location.
 fn list_freed(nodes: &mut [u8; 1280], rec: &mut [u8; RECORD], s: usize, e: LogEntry)

@@ -3,8 +3,8 @@ ghost use Rattle.std.specs.Prelude.{[], ◌∷◌, ◌≤◌, ◌<◌};
 ghost use Rattle.lists.specs.Change.{del_list};
 ghost use Rattle.lists.specs.State.{taken};
 ghost use Rattle.lists.specs.promises.Tables.{tables_in, OfShown};
-ghost use Rattle.log.specs.declared.entry.LogEntry.TheVariants as E;
-ghost use Rattle.log.specs.Entry.{is_list};
+ghost use Rattle.card_log.specs.declared.entry.LogEntry.TheVariants as E;
+ghost use Rattle.card_log.specs.Entry.{is_list};
 ghost use Rattle.disk.specs.Record.{record_in};
 ghost use Rattle.disk.specs.promises.Listing.{Padded};
 ghost use Rattle.disk.specs.Call.{delete_list, on_stream};
@@ -15,10 +15,10 @@ ghost use Rattle.calls.specs.Performs.{ChangesRecord};
 use crate::delete::delete;
 use crate::ranges::is_list;
 use answers::{Refusal, Reply};
+use card_log::entry::LogEntry;
 use disk::record::RECORD;
 use inspect::look::{Looked, look_stream};
 use lists::tables::is_taken;
-use log::entry::LogEntry;
 
 // Questions 5, 7, 11 and 13, over the stream's view.
 fn delete_taken(rec: &mut [u8; RECORD], nodes: &mut [u8; 1280], s: usize, l: usize) -> Reply

@@ -1,21 +1,21 @@
 // The stores of a flush.
 ghost use Rattle.std.specs.Prelude.{◌≡◌, ◌+◌, ◌-◌, ◌%◌, ◌≤◌, ◌<◌, length, take, drop};
-ghost use Rattle.log.specs.Raced.{with_body};
-ghost use Rattle.log.specs.Entry.{map_entry, as_entry};
-ghost use Rattle.log.specs.Store.{do_stores, entry_stores};
-ghost use Rattle.log.specs.promises.Within.{Storable};
-ghost use Rattle.log.specs.Turns.{AllInTurn};
+ghost use Rattle.card_log.specs.Raced.{with_body};
+ghost use Rattle.card_log.specs.Entry.{map_entry, as_entry};
+ghost use Rattle.card_log.specs.Store.{do_stores, entry_stores};
+ghost use Rattle.card_log.specs.promises.Within.{Storable};
+ghost use Rattle.card_log.specs.Turns.{AllInTurn};
 ghost use Rattle.disk.specs.Record.{record_in, with_flow};
 ghost use Rattle.calls.specs.promises.Flushing.{HeadReady, Heads, Flushable, Flushes};
 
 use answers::FlushReply;
+use card_log::entry::LogEntry;
+use card_log::layout::{SEGMENT, SLOT};
+use card_log::place::{Home, Place, after, home_of};
+use card_log::store::{store_step, stores_of};
 use disk::change::flow;
 use disk::record;
 use disk::record::{RECORD, Record, head, len, queue_entry};
-use log::entry::LogEntry;
-use log::layout::{SEGMENT, SLOT};
-use log::place::{Home, Place, after, home_of};
-use log::store::{store_step, stores_of};
 
 // What a flush makes of the queue's head: it has no place; the allowance ended when so many of its stores were done; or it is on the card, with the
 // place behind it and the stores that it took.

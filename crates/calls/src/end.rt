@@ -1,7 +1,7 @@
 // End: a unit closed, its journal queued whole or, at a conflict, dropped.
 ghost use Rattle.std.specs.Prelude.{◌≡◌, true, [], ◌+◌, ◌≤◌, ◌<◌, length};
 ghost use Rattle.lists.specs.promises.Tables.{tables_in, OfShown};
-ghost use Rattle.log.specs.Entry.{legal, raw, member, as_change};
+ghost use Rattle.card_log.specs.Entry.{legal, raw, member, as_change};
 ghost use Rattle.disk.specs.Record.{record_in, unit_at};
 ghost use Rattle.disk.specs.Disk.{disk_in};
 ghost use Rattle.disk.specs.Call.{end};
@@ -12,14 +12,14 @@ ghost use Rattle.calls.specs.Performs.{Performs};
 
 use crate::enter::enter;
 use answers::{Refusal, Reply};
+use card_log::copy::copy_in;
+use card_log::entry::LogEntry;
+use card_log::layout::SLOT;
 use disk::change::{append, count_conflict, empty, release};
 use disk::record::{RECORD, Record, Unit, head, journal_entry, journal_len, len, window};
 use inspect::give_up::give_up;
 use inspect::journal::{enter_journal, relist_journal};
 use inspect::look::Looked;
-use log::copy::copy_in;
-use log::entry::LogEntry;
-use log::layout::SLOT;
 
 // The window of a closed unit.
 const CLOSED: u8 = 0;

@@ -7,11 +7,11 @@ ghost use Rattle.calls.specs.Performs.{Performs};
 
 use crate::renew::renew_from;
 use answers::{Refusal, Reply};
+use card_log::layout::SEGMENT;
+use card_log::store::format_stores;
 use disk::record::RECORD;
 use inspect::lengths::lengths_right;
 use lists::tables::clear;
-use log::layout::SEGMENT;
-use log::store::format_stores;
 
 // Questions: 1 lengths. The record is not looked at.
 pub fn format(

@@ -8,11 +8,11 @@ ghost use Rattle.calls.specs.promises.Giving.{Takes, held_by, put_entry, Gives, 
 use crate::add::add;
 use crate::ranges::{follows, is_position};
 use answers::{NumberReply, Refusal, Reply};
+use card_log::entry::LogEntry;
 use disk::change::hold;
 use disk::free::{first_free, withdraw};
 use disk::record::{RECORD, list_number};
 use lists::tables::is_taken;
-use log::entry::LogEntry;
 
 // Number n held by unit s, by none on stream 0.
 fn held(rec: &mut [u8; RECORD], s: usize, n: u8)

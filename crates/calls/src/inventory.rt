@@ -7,10 +7,10 @@ ghost use Rattle.answers.specs.Answers.{number_answer};
 ghost use Rattle.calls.specs.Performs.{ChangesNothing};
 
 use answers::{NumberReply, Refusal};
+use card_log::entry::LogEntry;
 use disk::record::RECORD;
 use inspect::look::{Looked, look_view};
 use lists::tables::list_after;
-use log::entry::LogEntry;
 
 const LISTS: usize = LogEntry::LISTS as usize;
 

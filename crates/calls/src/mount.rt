@@ -5,9 +5,9 @@ ghost use Rattle.calls.specs.Performs.{ChangesRecord};
 
 use crate::renew::renew_from;
 use answers::{MountReply, Refusal};
+use card_log::mount::{Mounted, mount_on};
 use disk::record::RECORD;
 use inspect::lengths::data_right;
-use log::mount::{Mounted, mount_on};
 
 // Questions: 1 lengths, of which the walk asks the card's, 2 log. The record is not looked at.
 pub fn mount(

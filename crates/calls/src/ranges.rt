@@ -2,13 +2,13 @@
 ghost use Rattle.std.specs.Prelude.{◌≡◌, ◌&&◌, ◌||◌, ◌≤◌, leb, eqb};
 ghost use Rattle.lists.specs.State.{on_list};
 ghost use Rattle.lists.specs.promises.Tables.{tables_in, OfShown, IsList};
-ghost use Rattle.log.specs.Entry.{is_block, is_list, is_race};
+ghost use Rattle.card_log.specs.Entry.{is_block, is_list, is_race};
 ghost use Rattle.disk.specs.Questions.{is_window};
 
+use card_log::entry::LogEntry;
+use card_log::legal::both;
 use disk::record::Record;
 use lists::tables::is_on;
-use log::entry::LogEntry;
-use log::legal::both;
 
 const BLOCKS: usize = LogEntry::BLOCKS as usize;
 

@@ -5,13 +5,13 @@ ghost use Rattle.calls.specs.Performs.{ChangesNothing};
 
 use crate::ranges::is_block;
 use answers::{ReadReply, Refusal};
+use card_log::content::copy_content;
+use card_log::layout::SLOT;
+use card_log::legal::both;
+use card_log::location::race_in;
 use disk::record::RECORD;
 use inspect::look::{Looked, look_view};
 use lists::tables::{UNWRITTEN, is_placed, location_of};
-use log::content::copy_content;
-use log::layout::SLOT;
-use log::legal::both;
-use log::location::race_in;
 
 // Block b of view v goes to dest.
 // Questions: 1 lengths, 3 record, 4 view, 5 block and destination, 8 on a list, 15 written.

@@ -2,9 +2,9 @@
 ghost use Rattle.std.specs.Prelude.{◌≡◌, ◌&&◌, [], ◌∷◌, ◌≤◌, ◌<◌, eqb, length};
 ghost use Rattle.lists.specs.State.{placed};
 ghost use Rattle.lists.specs.promises.Tables.{tables_in, OfShown};
-ghost use Rattle.log.specs.declared.entry.LogEntry.TheVariants as E;
-ghost use Rattle.log.specs.Card.{slot_bytes};
-ghost use Rattle.log.specs.Entry.{is_block, is_race};
+ghost use Rattle.card_log.specs.declared.entry.LogEntry.TheVariants as E;
+ghost use Rattle.card_log.specs.Card.{slot_bytes};
+ghost use Rattle.card_log.specs.Entry.{is_block, is_race};
 ghost use Rattle.disk.specs.Record.{record_in};
 ghost use Rattle.disk.specs.Disk.{disk_in};
 ghost use Rattle.disk.specs.Call.{write_block, on_stream};
@@ -15,13 +15,13 @@ ghost use Rattle.calls.specs.Performs.{Performs};
 use crate::add::add;
 use crate::ranges::{is_block, is_race};
 use answers::{Refusal, Reply};
+use card_log::copy::copy_in;
+use card_log::entry::LogEntry;
+use card_log::layout::SLOT;
+use card_log::legal::both;
 use disk::record::{RECORD, Record, Unit, head, journal_len, len};
 use inspect::look::{Looked, look_stream};
 use lists::tables::is_placed;
-use log::copy::copy_in;
-use log::entry::LogEntry;
-use log::layout::SLOT;
-use log::legal::both;
 
 // The place of the data of the entry that the stream takes next.
 fn place_next(rec: &[u8; RECORD], s: usize) -> usize

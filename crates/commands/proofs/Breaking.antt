@@ -6,7 +6,7 @@ use Prim.Native.Nat.{ℕ, zero, suc, min}
 use lib.ListN.{length, take, drop, replicate, take-append-drop}
 use lib.Seq.{slice}
 use Rattle.lists.proofs.Basic.{eqb-false}
-use Rattle.log.specs.Card.{segments_in}
+use Rattle.card_log.specs.Card.{segments_in}
 use Rattle.answers.specs.declared.Refusal.{Refusal}
 use Rattle.answers.specs.declared.Refusal.TheVariants.{WrongLength}
 use Rattle.answers.specs.declared.NumberReply.{NumberReply}

@@ -9,9 +9,9 @@ use native.Mathlib.Decide.{dec_le}
 use native.Mathlib.Nat.{zero-add}
 use lib.ListN.{length, take, drop, drop_of_length-le}
 use lib.Seq.{take_all}
-use Rattle.log.specs.Card.{segments_in}
-use Rattle.log.specs.Store.{Store, do_stores, format_stores}
-use Rattle.log.proofs.Formatting.{format-length}
+use Rattle.card_log.specs.Card.{segments_in}
+use Rattle.card_log.specs.Store.{Store, do_stores, format_stores}
+use Rattle.card_log.proofs.Formatting.{format-length}
 use Rattle.lists.specs.Basic.{each}
 use Rattle.disk.specs.Record.{record_in, shaped}
 use Rattle.disk.specs.Disk.{Disk, disk}

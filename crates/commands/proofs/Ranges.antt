@@ -12,7 +12,7 @@ use Rattle.lists.specs.Basic.{any}
 use Rattle.lists.specs.State.{Block, Row, is_block_num, on_row, placed}
 use Rattle.lists.specs.Lookup.{blocks_of, next_in, next_after}
 use Rattle.lists.proofs.Basic.{or-both, eqb-false, eqb-neq, gt-false}
-use Rattle.log.specs.Card.{Written}
+use Rattle.card_log.specs.Card.{Written}
 use Rattle.disk.specs.Disk.{Disk, view}
 use Rattle.disk.specs.Call.{block_after, in_view}
 use Rattle.disk.specs.Questions.{view_open, questions, refusal}

@@ -1,6 +1,6 @@
 -- Power cuts, between calls and inside a flush or a formatting.
 use Rattle.std.specs.Prelude.{◌≡◌, cond, List, [], ◌∷◌, ◌++◌, ℕ, min, eqb, leb, length, replicate}
-use Rattle.log.specs.Card.{segments_in}
+use Rattle.card_log.specs.Card.{segments_in}
 use Rattle.disk.specs.Record.{Record, record_in}
 use Rattle.disk.specs.Disk.{Disk}
 use Rattle.disk.specs.Call.{format, flush}

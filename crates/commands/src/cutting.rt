@@ -8,10 +8,10 @@ use crate::power::cut;
 use crate::state::{Ran, State, least, with_record};
 use answers::{FlushReply, NumberReply, Refusal, number_of};
 use calls::flush::ALLOWANCE;
+use card_log::layout::SEGMENT;
+use card_log::store::format_stores;
 use disk::record::RECORD;
 use inspect::lengths::lengths_right;
-use log::layout::SEGMENT;
-use log::store::format_stores;
 use script::lines::{put_cut, put_number};
 
 // How many stores were made, or why none was.

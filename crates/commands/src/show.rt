@@ -6,8 +6,8 @@ ghost use Rattle.disk.specs.Disk.{disk_in};
 ghost use Rattle.commands.specs.Shown.{block_behind, blocks_on, list_shown, lists_shown, block_shown, blocks_shown, contents_on, contents_shown, view_shown, shown};
 
 use answers::{NumberReply, ReadReply, number_of};
+use card_log::entry::LogEntry;
 use disk::record::RECORD;
-use log::entry::LogEntry;
 use script::lines::{put_block, put_list, put_number, put_unwritten};
 use text::line::part;
 

@@ -11,8 +11,8 @@ use Rattle.lists.specs.Basic.{joined}
 use Rattle.lists.specs.Change.{Change}
 use Rattle.lists.proofs.Basic.{get_or-set-default}
 use Rattle.lists.proofs.Takings.{TakenOnce}
-use Rattle.log.specs.Entry.{Entry}
-use Rattle.log.specs.Card.{Written}
+use Rattle.card_log.specs.Entry.{Entry}
+use Rattle.card_log.specs.Card.{Written}
 use Rattle.crash.specs.Book.{Book, Waiting, entries_of, batch_of, with_batch, keep_first}
 
 -- Entries.

@@ -13,9 +13,9 @@ use Rattle.lists.proofs.Basic.{and-true, not-false, leb-true, some_of}
 use Rattle.lists.proofs.Count.{takes}
 use Rattle.lists.proofs.InUse.{brought, takes-brings}
 use Rattle.lists.proofs.Takings.{once_more}
-use Rattle.log.specs.Entry.{plain}
-use Rattle.log.specs.Card.{Written}
-use Rattle.log.proofs.Places.{Good, plain-sized}
+use Rattle.card_log.specs.Entry.{plain}
+use Rattle.card_log.specs.Card.{Written}
+use Rattle.card_log.proofs.Places.{Good, plain-sized}
 use Rattle.disk.specs.Record.{is_open, holder_of, with_listed}
 use Rattle.disk.specs.Disk.{Disk, unit_of, queued, journal_of, committed, listing}
 use Rattle.disk.specs.Sound.{is_open_unit}

@@ -8,12 +8,12 @@ use native.Mathlib.Omega.{arith}
 use lib.ListN.{length}
 use Rattle.lists.specs.Basic.{joined}
 use Rattle.lists.proofs.Basic.{and-true, not-false}
-use Rattle.log.specs.declared.place.Place.{Place}
-use Rattle.log.specs.Entry.{Entry}
-use Rattle.log.specs.Card.{Written, segments_in}
-use Rattle.log.specs.Store.{home}
-use Rattle.log.specs.Flush.{Flow, Ending, drained, full, spent, Next, stored, stopped, store_next, next_store, flush_from}
-use Rattle.log.proofs.Flows.{flow_for}
+use Rattle.card_log.specs.declared.place.Place.{Place}
+use Rattle.card_log.specs.Entry.{Entry}
+use Rattle.card_log.specs.Card.{Written, segments_in}
+use Rattle.card_log.specs.Store.{home}
+use Rattle.card_log.specs.Flush.{Flow, Ending, drained, full, spent, Next, stored, stopped, store_next, next_store, flush_from}
+use Rattle.card_log.proofs.Flows.{flow_for}
 use Rattle.answers.specs.declared.FlushReply.TheVariants.{Drained}
 use Rattle.disk.specs.Disk.{Disk}
 use Rattle.disk.specs.Call.{flush, resets}

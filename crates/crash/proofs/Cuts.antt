@@ -7,9 +7,9 @@ use lib.ListN.{length, take}
 use Rattle.lists.specs.Numbers.{all_numbers}
 use Rattle.lists.proofs.Basic.{get_or-same}
 use Rattle.lists.proofs.Takings.{TakenOnce}
-use Rattle.log.specs.Card.{segments_in}
-use Rattle.log.specs.Store.{do_stores, format_stores}
-use Rattle.log.proofs.Segment.{Carries}
+use Rattle.card_log.specs.Card.{segments_in}
+use Rattle.card_log.specs.Store.{do_stores, format_stores}
+use Rattle.card_log.proofs.Segment.{Carries}
 use Rattle.disk.specs.Record.{Record, blank_record, fresh_record, with_listed}
 use Rattle.disk.specs.Disk.{Disk, with_record, persistent}
 use Rattle.disk.specs.Call.{format, mount}

@@ -9,9 +9,9 @@ use lib.Dec.{leb, eqb, eqb-suc-zero}
 use lib.ListN.{length, take, length-replicate}
 use Rattle.lists.proofs.Basic.{and-true, not-false, leb-true}
 use Rattle.lists.specs.Numbers.{all_numbers}
-use Rattle.log.specs.Card.{card_length, segments_in}
-use Rattle.log.specs.Store.{do_stores, format_stores}
-use Rattle.log.proofs.CardLength.{card-size, card-small}
+use Rattle.card_log.specs.Card.{card_length, segments_in}
+use Rattle.card_log.specs.Store.{do_stores, format_stores}
+use Rattle.card_log.proofs.CardLength.{card-size, card-small}
 use Rattle.disk.specs.Record.{fresh_record}
 use Rattle.disk.specs.Disk.{Disk}
 use Rattle.disk.specs.Call.{Call, format, mount, conflict_count, on_stream, in_view, begin, end, flush, resets}

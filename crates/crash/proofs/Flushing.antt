@@ -8,10 +8,10 @@ use lib.ListN.{length, drop, get_or, length-map}
 use Rattle.lists.specs.Change.{Change}
 use Rattle.lists.proofs.Basic.{map-drop}
 use Rattle.lists.proofs.Takings.{TakenOnce}
-use Rattle.log.specs.Card.{Written, segments_in}
-use Rattle.log.specs.Flush.{Flow}
-use Rattle.log.proofs.Segment.{Carries}
-use Rattle.log.proofs.Flows.{tail-end, flow_for}
+use Rattle.card_log.specs.Card.{Written, segments_in}
+use Rattle.card_log.specs.Flush.{Flow}
+use Rattle.card_log.proofs.Segment.{Carries}
+use Rattle.card_log.proofs.Flows.{tail-end, flow_for}
 use Rattle.disk.specs.Disk.{Disk}
 use Rattle.disk.specs.Call.{flush}
 use Rattle.disk.specs.Perform.{flow_of, flushed, after_flush, accepted}

@@ -7,12 +7,12 @@ use native.Mathlib.Omega.{arith}
 use native.Mathlib.Decide.{dec_lt, ℕ_discrete}
 use lib.ListN.{length, take, get_or, set, replicate, length-set, length-map}
 use lib.Seq.{get_or-set_same, take_all}
-use Rattle.log.specs.Entry.{Entry}
-use Rattle.log.specs.Card.{Written}
-use Rattle.log.specs.Store.{do_stores, format_stores}
-use Rattle.log.proofs.Segment.{Holds, Empties, Packed, Carries}
-use Rattle.log.proofs.EntryStores.{holds-free}
-use Rattle.log.proofs.Formatting.{holds-none, nils, format-length, formatted-carries}
+use Rattle.card_log.specs.Entry.{Entry}
+use Rattle.card_log.specs.Card.{Written}
+use Rattle.card_log.specs.Store.{do_stores, format_stores}
+use Rattle.card_log.proofs.Segment.{Holds, Empties, Packed, Carries}
+use Rattle.card_log.proofs.EntryStores.{holds-free}
+use Rattle.card_log.proofs.Formatting.{holds-none, nils, format-length, formatted-carries}
 use Rattle.crash.specs.Book.{Book, entries_of, placed_entries, keep_first, book_format, empty_book}
 use Rattle.crash.proofs.Book.{get_or-keep, get_or-emptied, length-keep, keep_all, keep-entries}
 

@@ -15,9 +15,9 @@ use Rattle.lists.specs.Change.{Change}
 use Rattle.lists.specs.State.{State, apply, apply_all}
 use Rattle.lists.proofs.Basic.{eqb-false, eqb-neq, any-joined}
 use Rattle.lists.proofs.Listed.{apply_all-append}
-use Rattle.log.specs.Entry.{Entry, plain, member, commit}
-use Rattle.log.specs.Reader.{Reader, reader, settled, last_of, read, replay}
-use Rattle.log.specs.Card.{Written}
+use Rattle.card_log.specs.Entry.{Entry, plain, member, commit}
+use Rattle.card_log.specs.Reader.{Reader, reader, settled, last_of, read, replay}
+use Rattle.card_log.specs.Card.{Written}
 use Rattle.crash.specs.Book.{Act, Waiting, longest, closing_on_card, is_number, member_of, entries_of}
 
 -- the serial history that entries tell to a reader with a run behind it

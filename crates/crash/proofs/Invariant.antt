@@ -5,8 +5,8 @@ use mathlib.Core.List.{List}
 use Prim.Native.Nat.{ℕ, ◌≤◌}
 use lib.ListN.{length, length-map}
 use Rattle.lists.proofs.Takings.{TakenOnce}
-use Rattle.log.specs.Card.{segments_in}
-use Rattle.log.proofs.Segment.{Carries, carries-segments}
+use Rattle.card_log.specs.Card.{segments_in}
+use Rattle.card_log.proofs.Segment.{Carries, carries-segments}
 use Rattle.disk.specs.Disk.{Disk, queued, journal_of}
 use Rattle.crash.specs.Event.{World}
 use Rattle.crash.specs.Book.{Book, batch_of, entries_of, placed_entries, settle}

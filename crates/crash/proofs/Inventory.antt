@@ -10,8 +10,8 @@ use Rattle.lists.specs.Lookup.{list_nums}
 use Rattle.lists.specs.Takings.{undeleted, in_force}
 use Rattle.lists.proofs.Basic.{and-true, not-false}
 use Rattle.lists.proofs.Takings.{TakenOnce, lists-by-takings, in-force-append, lists-overlaid}
-use Rattle.log.specs.Reader.{start}
-use Rattle.log.specs.Card.{Written}
+use Rattle.card_log.specs.Reader.{start}
+use Rattle.card_log.specs.Card.{Written}
 use Rattle.disk.specs.Disk.{Disk, journal_of, persistent, committed, view}
 use Rattle.disk.specs.Sound.{is_open_unit}
 use Rattle.disk.specs.Call.{Call, inventory, in_view, resets}

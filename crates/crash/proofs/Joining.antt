@@ -10,13 +10,13 @@ use Rattle.lists.specs.Basic.{bind, joined}
 use Rattle.lists.specs.Change.{Change, carried_by}
 use Rattle.lists.specs.State.{State, apply, apply_all}
 use Rattle.lists.proofs.Takings.{TakenOnce}
-use Rattle.log.specs.Entry.{Entry, plain, commit}
-use Rattle.log.specs.Reader.{Reader, settled, start, read, replay}
-use Rattle.log.specs.Card.{Written, sound, mounted}
-use Rattle.log.proofs.Replay.{replay-append}
-use Rattle.log.proofs.Segment.{Sized, carries-walk}
-use Rattle.log.proofs.Places.{Good}
-use Rattle.log.proofs.Flows.{AllGood, flows-append}
+use Rattle.card_log.specs.Entry.{Entry, plain, commit}
+use Rattle.card_log.specs.Reader.{Reader, settled, start, read, replay}
+use Rattle.card_log.specs.Card.{Written, sound, mounted}
+use Rattle.card_log.proofs.Replay.{replay-append}
+use Rattle.card_log.proofs.Segment.{Sized, carries-walk}
+use Rattle.card_log.proofs.Places.{Good}
+use Rattle.card_log.proofs.Flows.{AllGood, flows-append}
 use Rattle.disk.specs.Record.{with_listed}
 use Rattle.disk.specs.Disk.{Disk, queued, unit_of, journal_of, reader_of, committed_reader, committed}
 use Rattle.disk.specs.Perform.{enqueue, enqueue_all, journal_add, relisted, closing as closing_unit, unit_entries}

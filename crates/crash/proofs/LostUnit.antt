@@ -13,10 +13,10 @@ use lib.Seq.{set-set, set_comm}
 use Rattle.lists.specs.Basic.{bind}
 use Rattle.lists.specs.Change.{Change}
 use Rattle.lists.proofs.Basic.{and-true, eqb-true}
-use Rattle.log.specs.Entry.{commit}
-use Rattle.log.specs.Card.{Written}
-use Rattle.log.specs.Store.{home}
-use Rattle.log.specs.declared.place.Place.{Place}
+use Rattle.card_log.specs.Entry.{commit}
+use Rattle.card_log.specs.Card.{Written}
+use Rattle.card_log.specs.Store.{home}
+use Rattle.card_log.specs.declared.place.Place.{Place}
 use Rattle.disk.specs.Call.{Edit, Call, format, mount, conflict_count, on_stream, in_view, begin, end, flush, ends, resets}
 use Rattle.disk.specs.Perform.{change_for}
 use Rattle.answers.specs.Answers.{Answer}

@@ -9,9 +9,9 @@ use lib.Seq.{take-append_seam}
 use Rattle.lists.specs.Basic.{is_some, joined}
 use Rattle.lists.specs.State.{State, empty, apply_all}
 use Rattle.lists.proofs.Basic.{eq-true, le-true}
-use Rattle.log.specs.Reader.{Reader, start, replay}
-use Rattle.log.specs.Card.{Written, card_length, sound, mounted}
-use Rattle.log.proofs.Segment.{Carries, carries-walk}
+use Rattle.card_log.specs.Reader.{Reader, start, replay}
+use Rattle.card_log.specs.Card.{Written, card_length, sound, mounted}
+use Rattle.card_log.proofs.Segment.{Carries, carries-walk}
 use Rattle.disk.specs.Record.{fresh_record, listed_in, with_listed}
 use Rattle.disk.specs.Disk.{with_record, reader_of, state_of, persistent, view}
 use Rattle.disk.specs.Sound.{lengths_right}

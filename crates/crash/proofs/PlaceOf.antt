@@ -4,12 +4,12 @@ use mathlib.Core.List.{List, [], ◌∷◌}
 use Prim.Native.Nat.{ℕ, zero, suc, ◌+◌, ◌-◌}
 use native.Mathlib.Omega.{arith}
 use lib.ListN.{get_or}
-use Rattle.log.specs.Entry.{Entry}
-use Rattle.log.specs.Card.{Written}
-use Rattle.log.specs.Store.{opened, after_all}
-use Rattle.log.proofs.Segment.{Empties, Packed}
-use Rattle.log.proofs.Places.{used}
-use Rattle.log.proofs.Flows.{end_of}
+use Rattle.card_log.specs.Entry.{Entry}
+use Rattle.card_log.specs.Card.{Written}
+use Rattle.card_log.specs.Store.{opened, after_all}
+use Rattle.card_log.proofs.Segment.{Empties, Packed}
+use Rattle.card_log.proofs.Places.{used}
+use Rattle.card_log.proofs.Flows.{end_of}
 use Rattle.crash.specs.Book.{last_in_use, place_of}
 
 last-empties : (l g : ℕ) (ss : List (List (Entry Written))) → Empties ss → last_in_use l g ss ≡ l

@@ -9,7 +9,7 @@ use native.Mathlib.Decide.{ℕ_discrete}
 use lib.Dec.{eqb}
 use lib.ListN.{length-set}
 use Rattle.lists.specs.State.{State}
-use Rattle.log.specs.Card.{Written}
+use Rattle.card_log.specs.Card.{Written}
 use Rattle.lists.proofs.Basic.{eqb-true}
 use Rattle.disk.specs.Record.{with_listed}
 use Rattle.disk.specs.Disk.{Disk, unit_of, journal_of}

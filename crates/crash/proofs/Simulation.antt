@@ -12,16 +12,16 @@ use lib.Seq.{drop-drop}
 use Rattle.lists.specs.Basic.{joined}
 use Rattle.lists.specs.Change.{Change}
 use Rattle.lists.proofs.Basic.{eqb-true, eqb-neq}
-use Rattle.log.specs.declared.place.Place.{Place}
-use Rattle.log.specs.Entry.{Entry, carried}
-use Rattle.log.specs.Card.{Written}
-use Rattle.log.specs.Store.{home, entry_stores}
-use Rattle.log.specs.Flush.{Flow, Ending, drained, full, stored, stopped, next_store, flush_from}
-use Rattle.log.proofs.Segment.{Sized, Empties, Packed, data-length}
-use Rattle.log.proofs.EntryStores.{entry-stores-length}
-use Rattle.log.proofs.Places.{used, add_to, raw-length, At}
-use Rattle.log.proofs.Allowance.{none_left}
-use Rattle.log.proofs.Flows.{end_of, joined-add, add-length, Flows, flow_for, card_next, head_at, store-more, next_more, store-last, next_last, next-none, next-full}
+use Rattle.card_log.specs.declared.place.Place.{Place}
+use Rattle.card_log.specs.Entry.{Entry, carried}
+use Rattle.card_log.specs.Card.{Written}
+use Rattle.card_log.specs.Store.{home, entry_stores}
+use Rattle.card_log.specs.Flush.{Flow, Ending, drained, full, stored, stopped, next_store, flush_from}
+use Rattle.card_log.proofs.Segment.{Sized, Empties, Packed, data-length}
+use Rattle.card_log.proofs.EntryStores.{entry-stores-length}
+use Rattle.card_log.proofs.Places.{used, add_to, raw-length, At}
+use Rattle.card_log.proofs.Allowance.{none_left}
+use Rattle.card_log.proofs.Flows.{end_of, joined-add, add-length, Flows, flow_for, card_next, head_at, store-more, next_more, store-last, next_last, next-none, next-full}
 use Rattle.crash.specs.Book.{Book, Waiting, Act, place_of, placed_entries, entries_of, cost, move_to, book_store, book_flush}
 use Rattle.crash.proofs.PlaceOf.{place_end}
 

@@ -10,10 +10,10 @@ use lib.Seq.{take_at}
 use Rattle.lists.specs.Basic.{joined}
 use Rattle.lists.specs.Change.{Change}
 use Rattle.lists.proofs.Basic.{bind-some, joined-nils}
-use Rattle.log.specs.Entry.{Entry}
-use Rattle.log.specs.Reader.{Reader, start, replay}
-use Rattle.log.specs.Card.{Written}
-use Rattle.log.proofs.Replay.{replay-append}
+use Rattle.card_log.specs.Entry.{Entry}
+use Rattle.card_log.specs.Reader.{Reader, start, replay}
+use Rattle.card_log.specs.Card.{Written}
+use Rattle.card_log.proofs.Replay.{replay-append}
 use Rattle.crash.specs.Book.{Book, Waiting, Act, longest, closing_on_card, on_card, settle, keep_first, book_format, with_batch, empty_book}
 use Rattle.crash.proofs.History.{tell, tell-append, run_after, label, label-append, label-take, on-card}
 use Rattle.crash.proofs.Book.{joined-keep}

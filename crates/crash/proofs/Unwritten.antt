@@ -17,7 +17,7 @@ use Rattle.lists.proofs.Count.{puts}
 use Rattle.lists.proofs.Distinct.{Distinct, empty-distinct, apply-distinct}
 use Rattle.lists.proofs.Placed.{placed-changed}
 use Rattle.lists.proofs.Written.{writes, written-changed, written-put}
-use Rattle.log.specs.Card.{Written}
+use Rattle.card_log.specs.Card.{Written}
 use Rattle.disk.specs.Record.{blank_record}
 use Rattle.disk.specs.Disk.{Disk, persistent, view}
 use Rattle.disk.specs.Call.{mount}

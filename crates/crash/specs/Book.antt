@@ -3,10 +3,10 @@ use Rattle.std.specs.Prelude.{Bool, true, false, List, [], ◌∷◌, ◌++◌, 
 use Rattle.std.proofs.Math.Option.{Option, none, some}
 use Rattle.lists.specs.Basic.{bind, any}
 use Rattle.lists.specs.Change.{Change}
-use Rattle.log.specs.Entry.{Entry, plain, member, commit, carried, entry_length}
-use Rattle.log.specs.Card.{Written, used_by, slot_bytes}
-use Rattle.log.specs.Store.{opened, after_all, home}
-use Rattle.log.specs.declared.place.Place.{Place}
+use Rattle.card_log.specs.Entry.{Entry, plain, member, commit, carried, entry_length}
+use Rattle.card_log.specs.Card.{Written, used_by, slot_bytes}
+use Rattle.card_log.specs.Store.{opened, after_all, home}
+use Rattle.card_log.specs.declared.place.Place.{Place}
 use Rattle.disk.specs.Record.{unit_count}
 use Rattle.disk.specs.Call.{Call, format, mount, conflict_count, on_stream, in_view, begin, end, flush, ends}
 use Rattle.disk.specs.Perform.{change_for}

@@ -6,7 +6,7 @@ use Rattle.std.specs.Prelude.{◌≡◌, Bool, true, false, ◌&&◌, List, [], 
 use Rattle.std.proofs.Math.Option.{some}
 use Rattle.lists.specs.Basic.{joined}
 use Rattle.lists.specs.State.{State, empty, apply_all}
-use Rattle.log.specs.Card.{Written, segments_in}
+use Rattle.card_log.specs.Card.{Written, segments_in}
 use Rattle.disk.specs.Record.{listed_in}
 use Rattle.disk.specs.Disk.{Disk, view}
 use Rattle.disk.specs.Call.{format, mount, flush}

@@ -1,7 +1,7 @@
 -- Events on a card: calls, whole or in parts lent, and power cuts; the world that they leave; which events may happen.
 use Rattle.std.specs.Prelude.{Bool, true, ◌&&◌, ◌||◌, not, List, ◌++◌, ℕ, ◌+◌, leb, eqb, length, drop, take}
 use Rattle.std.proofs.Math.Option.{Option, none, some}
-use Rattle.log.specs.Card.{segments_in}
+use Rattle.card_log.specs.Card.{segments_in}
 use Rattle.disk.specs.Record.{Record}
 use Rattle.disk.specs.Disk.{Disk}
 use Rattle.disk.specs.Call.{Call, format, flush, resets}

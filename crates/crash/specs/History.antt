@@ -6,7 +6,7 @@ use Rattle.lists.specs.Change.{Change, take_list, put_first, put_after, write, d
 use Rattle.lists.specs.State.{placed}
 use Rattle.lists.specs.Lookup.{written, list_nums}
 use Rattle.lists.specs.Takings.{in_force}
-use Rattle.log.specs.Card.{Written}
+use Rattle.card_log.specs.Card.{Written}
 use Rattle.disk.specs.Disk.{persistent, view}
 use Rattle.disk.specs.Call.{inventory, mount, in_view}
 use Rattle.disk.specs.Perform.{perform}

@@ -9,9 +9,9 @@ use native.Mathlib.Omega.{arith}
 use Rattle.lists.specs.State.{State, apply_all}
 use Rattle.lists.specs.Numbers.{all_numbers}
 use Rattle.lists.proofs.Basic.{some_of}
-use Rattle.log.specs.Reader.{Reader, start}
-use Rattle.log.specs.Card.{Written, segments_in, mounted}
-use Rattle.log.proofs.Reached.{mounted-reached}
+use Rattle.card_log.specs.Reader.{Reader, start}
+use Rattle.card_log.specs.Card.{Written, segments_in, mounted}
+use Rattle.card_log.proofs.Reached.{mounted-reached}
 use Rattle.disk.specs.Record.{fresh_record}
 use Rattle.disk.specs.Disk.{Disk, with_record, unit_of, queued, journal_of, reader_of, state_of, persistent, committed, listing}
 use Rattle.disk.specs.Sound.{record_sound}

@@ -5,9 +5,9 @@ use native.Mathlib.Omega.{arith}
 use native.Mathlib.Nat.{mod-add-mod}
 use lib.ListN.{length, length-drop}
 use Rattle.lists.proofs.Basic.{leb-true, le-true}
-use Rattle.log.specs.Card.{segments_in}
-use Rattle.log.specs.Flush.{Flow, Flushed, Next, stored, stopped, next_store, flush_from}
-use Rattle.log.proofs.Allowance.{stopped-flush, moved-flush, flush-add}
+use Rattle.card_log.specs.Card.{segments_in}
+use Rattle.card_log.specs.Flush.{Flow, Flushed, Next, stored, stopped, next_store, flush_from}
+use Rattle.card_log.proofs.Allowance.{stopped-flush, moved-flush, flush-add}
 use Rattle.disk.specs.Record.{with_flow}
 use Rattle.disk.specs.Disk.{Disk, queued}
 use Rattle.disk.specs.Call.{flush}

@@ -13,8 +13,8 @@ use Rattle.lists.specs.State.{Row, frees, overlay}
 use Rattle.lists.specs.InUse.{list_number}
 use Rattle.lists.proofs.Basic.{and-true, eqb_same, leb-true}
 use Rattle.lists.proofs.InUse.{brought}
-use Rattle.log.specs.Card.{Written, mounted}
-use Rattle.log.proofs.Places.{plain-sized}
+use Rattle.card_log.specs.Card.{Written, mounted}
+use Rattle.card_log.proofs.Places.{plain-sized}
 use Rattle.disk.specs.Record.{holder_of, with_listed}
 use Rattle.disk.specs.Disk.{Disk, unit_of, queued, journal_of, reader_of, state_of, persistent, committed, view, listing}
 use Rattle.disk.specs.Sound.{is_open_unit}

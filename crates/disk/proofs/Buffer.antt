@@ -8,9 +8,9 @@ use native.Mathlib.Omega.{arith}
 use native.Mathlib.Decide.{dec_lt}
 use lib.ListN.{length, drop, take, get_or, length-append, length-drop, get_or-append}
 use lib.Seq.{get_or-take, get_or-drop, get_or-append-add, length-take-le}
-use Rattle.log.specs.Card.{Content, Written, slot, splice}
-use Rattle.log.proofs.Segment.{Sized}
-use Rattle.log.proofs.Slot.{Stands, same-get_or, length-slot, get_or-slot, slot-stands}
+use Rattle.card_log.specs.Card.{Content, Written, slot, splice}
+use Rattle.card_log.proofs.Segment.{Sized}
+use Rattle.card_log.proofs.Slot.{Stands, same-get_or, length-slot, get_or-slot, slot-stands}
 use Rattle.disk.specs.Perform.{splice_some}
 
 -- Bytes put into a buffer.

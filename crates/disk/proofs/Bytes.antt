@@ -12,7 +12,7 @@ use lib.ListN.{length, get_or, set, length-set}
 use lib.Seq.{ext_get_or, get_or-set_same, get_or-set_other}
 use Rattle.lists.specs.Basic.{from}
 use Rattle.lists.proofs.Basic.{from-length, from-get, from-ext}
-use Rattle.log.specs.Cell.{Cell, cell}
+use Rattle.card_log.specs.Cell.{Cell, cell}
 use Rattle.disk.specs.Record.{Unit, unit, cells_in, bytes_in, pair_in, pairs_in, unit_in, record_in, no_cell, no_unit, unit_at, shaped, Ring, Held, Tally, with_ring, with_flow, with_held, with_tally, emptied, releasing, released}
 use Rattle.disk.specs.promises.Bytes.{cell_set}
 

@@ -17,9 +17,9 @@ use Rattle.lists.specs.InUse.{list_number, is_number, in_use, Numbered, brings, 
 use Rattle.lists.proofs.Basic.{eqb-false, eq-true, keep_all}
 use Rattle.lists.proofs.Times.{times-keep}
 use Rattle.lists.proofs.Listed.{all-kept, Listed, listed-step, listed-range, reached-step, reached-exact}
-use Rattle.log.specs.Entry.{plain}
-use Rattle.log.specs.Reader.{settled}
-use Rattle.log.specs.Card.{Written}
+use Rattle.card_log.specs.Entry.{plain}
+use Rattle.card_log.specs.Reader.{settled}
+use Rattle.card_log.specs.Card.{Written}
 use Rattle.disk.specs.Record.{Tally, holder_of, listed_in, with_listed}
 use Rattle.disk.specs.Disk.{Disk, committed_reader, committed}
 use Rattle.disk.specs.Perform.{change, enqueue, journal_add, hold, relisted, given, freed, noted, made}

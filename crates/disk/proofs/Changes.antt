@@ -16,12 +16,12 @@ use Rattle.lists.specs.State.{Row, State, state, taken, placed, applies, changed
 use Rattle.lists.specs.InUse.{list_number, in_use}
 use Rattle.lists.proofs.Basic.{and-true, not-true, eqb-true, leb-true, le-true, guard-true, all_append}
 use Rattle.lists.proofs.InUse.{brought}
-use Rattle.log.specs.Raced.{raced}
-use Rattle.log.specs.Entry.{Entry, plain, member, commit, map_entry, carried, raw, legal, legal_change, is_block, is_list, is_race}
-use Rattle.log.specs.Reader.{Reader, reader, settled, last_of, read, replay}
-use Rattle.log.specs.Card.{Content, Written}
-use Rattle.log.proofs.Places.{Good}
-use Rattle.log.proofs.Flows.{AllGood}
+use Rattle.card_log.specs.Raced.{raced}
+use Rattle.card_log.specs.Entry.{Entry, plain, member, commit, map_entry, carried, raw, legal, legal_change, is_block, is_list, is_race}
+use Rattle.card_log.specs.Reader.{Reader, reader, settled, last_of, read, replay}
+use Rattle.card_log.specs.Card.{Content, Written}
+use Rattle.card_log.proofs.Places.{Good}
+use Rattle.card_log.proofs.Flows.{AllGood}
 use Rattle.disk.specs.Record.{Record, holder_of}
 use Rattle.disk.specs.Disk.{Disk, committed, view}
 use Rattle.disk.specs.Sound.{journal_sound}

@@ -14,9 +14,9 @@ use Rattle.lists.specs.State.{State}
 use Rattle.lists.specs.InUse.{in_use, is_number}
 use Rattle.lists.specs.Numbers.{all_numbers}
 use Rattle.lists.proofs.Basic.{and-true, or_cases, not-false, eqb-true, leb-true, ltb-true, le-true, lt-true, eq-true, some_of, is-some, each_at, all_from, from_all}
-use Rattle.log.specs.Entry.{legal, raw}
-use Rattle.log.specs.Reader.{Reader}
-use Rattle.log.specs.Card.{Written, card_length, Outcome, sound, fault}
+use Rattle.card_log.specs.Entry.{legal, raw}
+use Rattle.card_log.specs.Reader.{Reader}
+use Rattle.card_log.specs.Card.{Written, card_length, Outcome, sound, fault}
 use Rattle.disk.specs.Record.{Record, unit_at, holder_of, listed_in, padded, shaped, is_open}
 use Rattle.disk.specs.Disk.{Disk, queued, unit_of, journal_of, reader_of, committed_reader, state_of, committed}
 use Rattle.disk.specs.Sound.{lengths_right, is_open_unit, journal_sound, unit_sound, holder_sound, order_sound, due_times, listed_sound, head_standing, record_sound}

@@ -19,9 +19,9 @@ use Rattle.lists.proofs.Basic.{and-true, eqb-false, eq-true, bind-some, all_appe
 use Rattle.lists.proofs.Apply.{apply_some}
 use Rattle.lists.proofs.Times.{times-append, times-keep, from-within}
 use Rattle.lists.proofs.Listed.{all-kept, Listed, listed-step, listed-range, Reached, reached-step, reached-exact}
-use Rattle.log.specs.Entry.{member, raw, legal, map_entry}
-use Rattle.log.specs.Card.{Written}
-use Rattle.log.proofs.Reached.{numbered, legal-numbered}
+use Rattle.card_log.specs.Entry.{member, raw, legal, map_entry}
+use Rattle.card_log.specs.Card.{Written}
+use Rattle.card_log.proofs.Reached.{numbered, legal-numbered}
 use Rattle.disk.specs.Record.{Record, releasing, unit_turned, holder_of, listed_in}
 use Rattle.disk.specs.Disk.{Disk, with_record, journal_of, listing}
 use Rattle.disk.specs.Sound.{journal_sound}

@@ -15,14 +15,14 @@ use Rattle.lists.specs.State.{State, overlay, map_state}
 use Rattle.lists.specs.Lookup.{content_of}
 use Rattle.lists.proofs.Basic.{eq-true, eqb-true, either}
 use Rattle.lists.proofs.Naturality.{overlay-map, content_of-map}
-use Rattle.log.specs.Raced.{with_body}
-use Rattle.log.specs.Entry.{Entry, plain, member, commit, map_entry, carried}
-use Rattle.log.specs.Reader.{Reader, start, replay}
-use Rattle.log.specs.Card.{Written, card_length, segments_in, used_by, sound, mounted}
-use Rattle.log.proofs.CardLength.{card-size}
-use Rattle.log.proofs.Naturality.{map_reader, replay-map}
-use Rattle.log.proofs.Segment.{Sized, Fine, Carries}
-use Rattle.log.proofs.Regain.{carries-read}
+use Rattle.card_log.specs.Raced.{with_body}
+use Rattle.card_log.specs.Entry.{Entry, plain, member, commit, map_entry, carried}
+use Rattle.card_log.specs.Reader.{Reader, start, replay}
+use Rattle.card_log.specs.Card.{Written, card_length, segments_in, used_by, sound, mounted}
+use Rattle.card_log.proofs.CardLength.{card-size}
+use Rattle.card_log.proofs.Naturality.{map_reader, replay-map}
+use Rattle.card_log.proofs.Segment.{Sized, Fine, Carries}
+use Rattle.card_log.proofs.Regain.{carries-read}
 use Rattle.disk.specs.Disk.{Disk, queued, journal_of, state_of, persistent, committed, view}
 use Rattle.disk.specs.Sound.{lengths_right, record_sound, is_open_unit}
 use Rattle.disk.specs.Questions.{view_open}

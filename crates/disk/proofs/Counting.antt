@@ -12,7 +12,7 @@ use lib.Seq.{get_or-set_same, get_or-set_other}
 use Rattle.lists.specs.Change.{Change}
 use Rattle.lists.specs.State.{Row}
 use Rattle.lists.proofs.Basic.{and-true, leb-true, eqb_same, eqb-false, eqb-true, get_or-same}
-use Rattle.log.specs.Card.{Written}
+use Rattle.card_log.specs.Card.{Written}
 use Rattle.disk.specs.Record.{blank_record, fresh_record, count_of, with_listed}
 use Rattle.disk.specs.Disk.{Disk, unit_of, journal_of, committed, listing}
 use Rattle.disk.specs.Call.{Call, format, mount, conflict_count, on_stream, in_view, begin, end, flush, ends, resets}

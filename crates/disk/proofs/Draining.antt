@@ -8,15 +8,15 @@ use native.Mathlib.Omega.{arith}
 use lib.ListN.{length, length-drop}
 use Rattle.lists.specs.Basic.{joined}
 use Rattle.lists.proofs.Basic.{bind-some, all_drop}
-use Rattle.log.specs.Entry.{Entry, legal, raw}
-use Rattle.log.specs.Reader.{Reader, start, replay}
-use Rattle.log.specs.Card.{Written, segments_in, mounted}
-use Rattle.log.specs.Flush.{Flow}
-use Rattle.log.proofs.CardLength.{card-size, same_length}
-use Rattle.log.proofs.Replay.{replay-append}
-use Rattle.log.proofs.Segment.{Carries, carries-walk, carries-segments}
-use Rattle.log.proofs.Regain.{carries-read}
-use Rattle.log.proofs.Flows.{tail-end, Flows, flow_for, Flushes, flush-flows}
+use Rattle.card_log.specs.Entry.{Entry, legal, raw}
+use Rattle.card_log.specs.Reader.{Reader, start, replay}
+use Rattle.card_log.specs.Card.{Written, segments_in, mounted}
+use Rattle.card_log.specs.Flush.{Flow}
+use Rattle.card_log.proofs.CardLength.{card-size, same_length}
+use Rattle.card_log.proofs.Replay.{replay-append}
+use Rattle.card_log.proofs.Segment.{Carries, carries-walk, carries-segments}
+use Rattle.card_log.proofs.Regain.{carries-read}
+use Rattle.card_log.proofs.Flows.{tail-end, Flows, flow_for, Flushes, flush-flows}
 use Rattle.disk.specs.Disk.{Disk, queued, reader_of, committed_reader}
 use Rattle.disk.specs.Sound.{head_standing}
 use Rattle.disk.specs.Call.{flush}

@@ -7,8 +7,8 @@ use Prim.Native.Nat.{ℕ, ◌+◌, ◌≤◌}
 use native.Mathlib.Omega.{arith}
 use Rattle.lists.specs.State.{State, apply_all, overlay}
 use Rattle.lists.proofs.Basic.{some_of}
-use Rattle.log.specs.Card.{Written}
-use Rattle.log.specs.Reader.{settled}
+use Rattle.card_log.specs.Card.{Written}
+use Rattle.card_log.specs.Reader.{settled}
 use Rattle.disk.specs.Record.{with_listed}
 use Rattle.disk.specs.Disk.{Disk, unit_of, journal_of, state_of, committed, listing}
 use Rattle.disk.specs.Call.{end}

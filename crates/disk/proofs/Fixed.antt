@@ -6,7 +6,7 @@ use native.Mathlib.Omega.{arith}
 use native.Mathlib.Decide.{dec_lt, ℕ_discrete}
 use lib.ListN.{get_or}
 use lib.Seq.{ext_get_or}
-use Rattle.log.specs.Cell.{Cell, cell}
+use Rattle.card_log.specs.Cell.{Cell, cell}
 use Rattle.disk.specs.Record.{Unit, Record, cells_in, bytes_in, pair_in, pairs_in, unit_in, record_in, no_cell, unit_at}
 use Rattle.disk.specs.Statements.{IsBytes, RecordFixed}
 use Rattle.disk.proofs.Bytes.{cell-read, byte-read, pair_read, unit-read}

@@ -6,11 +6,11 @@ use Prim.Native.Nat.{ℕ, ◌-◌, ◌≤◌, ◌<◌}
 use native.Mathlib.Omega.{arith}
 use lib.ListN.{length, drop, take}
 use Rattle.lists.proofs.Basic.{leb-true}
-use Rattle.log.specs.Card.{segments_in}
-use Rattle.log.specs.Store.{do_stores}
-use Rattle.log.specs.Flush.{Ending, drained, full, spent}
-use Rattle.log.proofs.Sequence.{Ended, ended}
-use Rattle.log.proofs.Stores.{AllBytes, AllIn}
+use Rattle.card_log.specs.Card.{segments_in}
+use Rattle.card_log.specs.Store.{do_stores}
+use Rattle.card_log.specs.Flush.{Ending, drained, full, spent}
+use Rattle.card_log.proofs.Sequence.{Ended, ended}
+use Rattle.card_log.proofs.Stores.{AllBytes, AllIn}
 use Rattle.disk.specs.Disk.{Disk, queued, persistent, committed, view}
 use Rattle.disk.specs.Call.{flush}
 use Rattle.disk.specs.Questions.{questions, refusal}

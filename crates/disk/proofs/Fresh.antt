@@ -8,8 +8,8 @@ use lib.Dec.{eqb}
 use lib.ListN.{get_or, replicate}
 use Rattle.lists.specs.Basic.{bind, from}
 use Rattle.lists.specs.State.{overlay}
-use Rattle.log.specs.Reader.{Reader, replay}
-use Rattle.log.specs.Card.{Written, mounted}
+use Rattle.card_log.specs.Reader.{Reader, replay}
+use Rattle.card_log.specs.Card.{Written, mounted}
 use Rattle.disk.specs.Record.{Record, no_unit, fresh_unit, blank_record, fresh_record, with_listed, unit_count}
 use Rattle.disk.specs.Disk.{Disk, queued_at, queued, unit_of, journal_at, journal_of, reader_of, committed_reader, persistent, committed, view}
 

@@ -7,7 +7,7 @@ use lib.Dec.{eqb}
 use Rattle.lists.specs.Basic.{is_some, or_else, times}
 use Rattle.lists.specs.InUse.{list_number, in_use}
 use Rattle.lists.proofs.Basic.{and-true, not-false, eqb-true, some_of}
-use Rattle.log.specs.Entry.{is_block, is_list}
+use Rattle.card_log.specs.Entry.{is_block, is_list}
 use Rattle.disk.specs.Record.{holder_of, listed_in}
 use Rattle.disk.specs.Disk.{Disk, committed}
 use Rattle.disk.specs.Sound.{record_sound}

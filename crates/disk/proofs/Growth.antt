@@ -8,15 +8,15 @@ use native.Mathlib.Omega.{arith}
 use lib.ListN.{length}
 use Rattle.lists.specs.Basic.{all}
 use Rattle.lists.proofs.Basic.{bind-some, lt-true, eqb-true, all_append}
-use Rattle.log.specs.Entry.{Entry, legal, raw}
-use Rattle.log.specs.Reader.{Reader, read, replay}
-use Rattle.log.specs.Card.{Written, segments_in, mounted}
-use Rattle.log.specs.Store.{standing, home, tail, entry_stores, head_at}
-use Rattle.log.specs.declared.place.Place.{Place}
-use Rattle.log.proofs.Replay.{replay-append}
-use Rattle.log.proofs.EntryStores.{entry-stores-length}
-use Rattle.log.proofs.Places.{Good}
-use Rattle.log.proofs.Flows.{AllGood}
+use Rattle.card_log.specs.Entry.{Entry, legal, raw}
+use Rattle.card_log.specs.Reader.{Reader, read, replay}
+use Rattle.card_log.specs.Card.{Written, segments_in, mounted}
+use Rattle.card_log.specs.Store.{standing, home, tail, entry_stores, head_at}
+use Rattle.card_log.specs.declared.place.Place.{Place}
+use Rattle.card_log.proofs.Replay.{replay-append}
+use Rattle.card_log.proofs.EntryStores.{entry-stores-length}
+use Rattle.card_log.proofs.Places.{Good}
+use Rattle.card_log.proofs.Flows.{AllGood}
 use Rattle.disk.specs.Disk.{Disk, queued, reader_of, committed_reader}
 use Rattle.disk.specs.Sound.{head_standing}
 use Rattle.disk.specs.Perform.{enqueue, enqueue_all}

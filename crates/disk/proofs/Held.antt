@@ -15,8 +15,8 @@ use Rattle.lists.specs.State.{Row, State, frees}
 use Rattle.lists.specs.InUse.{list_number, brings}
 use Rattle.lists.proofs.Basic.{and-true, or_cases, eqb_same, eqb-true, eqb-false, eq-true, all-each}
 use Rattle.lists.proofs.InUse.{brought}
-use Rattle.log.specs.Entry.{member, raw, legal}
-use Rattle.log.specs.Card.{Written}
+use Rattle.card_log.specs.Entry.{member, raw, legal}
+use Rattle.card_log.specs.Card.{Written}
 use Rattle.disk.specs.Record.{Record, holder_of, listed_in, released, with_listed}
 use Rattle.disk.specs.Disk.{Disk}
 use Rattle.disk.specs.Sound.{journal_sound}

@@ -18,11 +18,11 @@ use Rattle.lists.proofs.Count.{takes}
 use Rattle.lists.proofs.Distinct.{Distinct, empty-distinct, overlay-distinct}
 use Rattle.lists.proofs.Numbers.{may_take, numbered, overlay-numbered, lists-few}
 use Rattle.lists.proofs.Takings.{TakesNew}
-use Rattle.log.specs.Entry.{Entry, member, map_entry, raw, legal, legal_change, is_list}
-use Rattle.log.specs.Reader.{start}
-use Rattle.log.specs.Card.{Written}
-use Rattle.log.proofs.Distinct.{replay-distinct}
-use Rattle.log.proofs.Numbers.{may_enter, legal-enters, InRange, start-range, replay-range, carries-enters}
+use Rattle.card_log.specs.Entry.{Entry, member, map_entry, raw, legal, legal_change, is_list}
+use Rattle.card_log.specs.Reader.{start}
+use Rattle.card_log.specs.Card.{Written}
+use Rattle.card_log.proofs.Distinct.{replay-distinct}
+use Rattle.card_log.proofs.Numbers.{may_enter, legal-enters, InRange, start-range, replay-range, carries-enters}
 use Rattle.disk.specs.Record.{Record, holder_of}
 use Rattle.disk.specs.Disk.{Disk, queued, journal_of, state_of, persistent, committed, view}
 use Rattle.disk.specs.Sound.{is_open_unit, journal_sound}

@@ -13,13 +13,13 @@ use Rattle.lists.specs.Basic.{from}
 use Rattle.lists.specs.Change.{Change, map_change, carried_by}
 use Rattle.lists.proofs.Basic.{from-length, from-ext, from-snoc}
 use Rattle.lists.specs.State.{State}
-use Rattle.log.specs.Raced.{with_body}
-use Rattle.log.specs.Entry.{Entry, plain, member, commit, carried, as_change}
-use Rattle.log.specs.Cell.{cell_of, entry_in}
-use Rattle.log.specs.Card.{Written, slot}
-use Rattle.log.specs.Flush.{Flow}
-use Rattle.log.proofs.Segment.{Sized}
-use Rattle.log.proofs.Slot.{length-slot}
+use Rattle.card_log.specs.Raced.{with_body}
+use Rattle.card_log.specs.Entry.{Entry, plain, member, commit, carried, as_change}
+use Rattle.card_log.specs.Cell.{cell_of, entry_in}
+use Rattle.card_log.specs.Card.{Written, slot}
+use Rattle.card_log.specs.Flush.{Flow}
+use Rattle.card_log.proofs.Segment.{Sized}
+use Rattle.card_log.proofs.Slot.{length-slot}
 use Rattle.disk.specs.Record.{Unit, no_cell, no_unit, journaled, emptied, with_listed}
 use Rattle.disk.specs.Disk.{Disk, unit_of, journal_place, journal_at, journal_of}
 use Rattle.disk.specs.Perform.{enqueue, enqueue_all, after_flush, journal_add, hold, relisted, opening, closing, conflicted, unit_entries}

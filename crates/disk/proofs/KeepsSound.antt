@@ -17,15 +17,15 @@ use Rattle.lists.specs.InUse.{list_number, in_use, brings}
 use Rattle.lists.specs.Numbers.{all_numbers}
 use Rattle.lists.proofs.Basic.{and-true, not-false, eqb_same, eqb-true, leb-true, some_of, get_or-same, joined-nils}
 use Rattle.lists.proofs.InUse.{brought, in-use-changed, in-use-all}
-use Rattle.log.specs.Entry.{Entry, plain, member, map_entry, raw, legal, legal_change, is_block, is_list}
-use Rattle.log.specs.Reader.{Reader, settled, start, read, replay}
-use Rattle.log.specs.Card.{Written, card_length, segments_in, sound, mounted}
-use Rattle.log.specs.Store.{format_stores}
-use Rattle.log.proofs.CardLength.{card-size, same_length}
-use Rattle.log.proofs.Segment.{Carries, carries-walk}
-use Rattle.log.proofs.Formatting.{nils, format-length, formatted-carries}
-use Rattle.log.proofs.Places.{Good, plain-sized}
-use Rattle.log.proofs.Flows.{AllGood}
+use Rattle.card_log.specs.Entry.{Entry, plain, member, map_entry, raw, legal, legal_change, is_block, is_list}
+use Rattle.card_log.specs.Reader.{Reader, settled, start, read, replay}
+use Rattle.card_log.specs.Card.{Written, card_length, segments_in, sound, mounted}
+use Rattle.card_log.specs.Store.{format_stores}
+use Rattle.card_log.proofs.CardLength.{card-size, same_length}
+use Rattle.card_log.proofs.Segment.{Carries, carries-walk}
+use Rattle.card_log.proofs.Formatting.{nils, format-length, formatted-carries}
+use Rattle.card_log.proofs.Places.{Good, plain-sized}
+use Rattle.card_log.proofs.Flows.{AllGood}
 use Rattle.disk.specs.Record.{no_unit, fresh_unit, blank_record, fresh_record, holder_of, listed_in, with_listed, is_open}
 use Rattle.disk.specs.Disk.{Disk, with_record, unit_of, journal_of, reader_of, persistent, committed, listing}
 use Rattle.disk.specs.Sound.{open_unit, is_open_unit, head_standing}

@@ -10,12 +10,12 @@ use Rattle.lists.specs.Basic.{bind, all, joined, or_else}
 use Rattle.lists.specs.Change.{Change, map_change}
 use Rattle.lists.specs.State.{State, empty, apply, apply_all, overlay}
 use Rattle.lists.proofs.Basic.{and-true, guard-some, bind-some, all_append, all_drop, all-each}
-use Rattle.log.specs.Raced.{with_body}
-use Rattle.log.specs.Entry.{Entry, plain, member, commit, map_entry, carried, raw, legal, legal_change}
-use Rattle.log.specs.Reader.{Reader, settled, start, last_of, read, replay}
-use Rattle.log.specs.Card.{Written, used_by}
-use Rattle.log.proofs.Segment.{Fine}
-use Rattle.log.proofs.Numbers.{all-joined}
+use Rattle.card_log.specs.Raced.{with_body}
+use Rattle.card_log.specs.Entry.{Entry, plain, member, commit, map_entry, carried, raw, legal, legal_change}
+use Rattle.card_log.specs.Reader.{Reader, settled, start, last_of, read, replay}
+use Rattle.card_log.specs.Card.{Written, used_by}
+use Rattle.card_log.proofs.Segment.{Fine}
+use Rattle.card_log.proofs.Numbers.{all-joined}
 use Rattle.disk.specs.Disk.{Disk, queued, journal_of, state_of, persistent, committed, view}
 use Rattle.disk.specs.Sound.{is_open_unit, journal_sound}
 use Rattle.disk.specs.Questions.{view_open}

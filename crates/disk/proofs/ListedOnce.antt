@@ -16,11 +16,11 @@ use Rattle.lists.specs.InUse.{is_number, in_use, is_free, Numbered}
 use Rattle.lists.proofs.Basic.{not-not, le-true, bind-some, get_or-same}
 use Rattle.lists.proofs.Times.{all-standing, standing-all, once-most}
 use Rattle.lists.proofs.Listed.{number-range, free-number, fits, Listed, Reached, reached-exact}
-use Rattle.log.specs.Entry.{plain, raw, legal, map_entry}
-use Rattle.log.specs.Reader.{replay}
-use Rattle.log.specs.Card.{Written, mounted}
-use Rattle.log.proofs.Reached.{numbered, legal-numbered, replay-reached, mounted-reached}
-use Rattle.log.proofs.Places.{Good}
+use Rattle.card_log.specs.Entry.{plain, raw, legal, map_entry}
+use Rattle.card_log.specs.Reader.{replay}
+use Rattle.card_log.specs.Card.{Written, mounted}
+use Rattle.card_log.proofs.Reached.{numbered, legal-numbered, replay-reached, mounted-reached}
+use Rattle.card_log.proofs.Places.{Good}
 use Rattle.disk.specs.Record.{fresh_record, blank_record, holder_of, listed_in, padded, with_listed}
 use Rattle.disk.specs.Disk.{Disk, queued, reader_of, committed_reader}
 use Rattle.disk.specs.Perform.{relisted}

@@ -8,7 +8,7 @@ use lib.Dec.{eqb, ltb}
 use Rattle.lists.specs.Basic.{all, any}
 use Rattle.lists.specs.State.{Row}
 use Rattle.lists.proofs.Basic.{and-true, ltb-true, lt-true, eqb-false}
-use Rattle.log.specs.Card.{Written}
+use Rattle.card_log.specs.Card.{Written}
 use Rattle.disk.specs.Disk.{Disk, view}
 use Rattle.disk.specs.Call.{Edit, new_list, new_block, write_block, delete_block, delete_list, Look, read_block, block_after, inventory, page, Call, format, mount, conflict_count, on_stream, in_view, begin, end, flush}
 use Rattle.disk.specs.Questions.{edit_questions, look_questions, questions}

@@ -3,7 +3,7 @@ use mathlib.Core.Path.{◌≡◌, refl}
 use mathlib.Core.Bool.{Bool, true, false}
 use Prim.Native.Nat.{ℕ, suc}
 use lib.Dec.{eqb}
-use Rattle.log.specs.Card.{Written, Outcome, sound, fault, mounted}
+use Rattle.card_log.specs.Card.{Written, Outcome, sound, fault, mounted}
 use Rattle.disk.specs.Disk.{Disk}
 use Rattle.disk.specs.Call.{Call, format, mount, conflict_count, on_stream, in_view, begin, end, flush, destination}
 use Rattle.disk.specs.Questions.{refusal}

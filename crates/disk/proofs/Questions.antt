@@ -12,7 +12,7 @@ use Rattle.lists.specs.Basic.{all, times}
 use Rattle.lists.specs.State.{State, overlay}
 use Rattle.lists.proofs.Basic.{and-true, eqb_same, eqb-true, leb-true, ltb-true, le-true}
 use Rattle.lists.proofs.Times.{times-here, times-cons}
-use Rattle.log.specs.Card.{Written, card_length}
+use Rattle.card_log.specs.Card.{Written, card_length}
 use Rattle.disk.specs.Record.{Record, unit_at, is_open}
 use Rattle.disk.specs.Disk.{Disk, unit_of, journal_of, persistent, committed, view}
 use Rattle.disk.specs.Sound.{lengths_right, open_unit, is_open_unit}

@@ -12,15 +12,15 @@ use Rattle.lists.specs.Basic.{bind, from}
 use Rattle.lists.specs.Change.{Change, take_list, put_first, put_after, write, del_block, del_list, map_change, carried_by}
 use Rattle.lists.proofs.Basic.{from-length, from-shift, from-ext, from-snoc, from-drop}
 use Rattle.lists.specs.State.{State}
-use Rattle.log.specs.Raced.{Raced, with_body}
-use Rattle.log.specs.Entry.{Entry, plain, member, commit, map_entry, carried, as_entry, as_change, raw}
-use Rattle.log.specs.Cell.{cell_of, member_in, entry_in}
-use Rattle.log.specs.Reader.{replay}
-use Rattle.log.specs.Card.{Content, Written, slot, mounted}
-use Rattle.log.specs.Flush.{Flow}
-use Rattle.log.proofs.Cells.{cell-entry, cell-change}
-use Rattle.log.proofs.Segment.{Sized}
-use Rattle.log.proofs.Slot.{length-slot}
+use Rattle.card_log.specs.Raced.{Raced, with_body}
+use Rattle.card_log.specs.Entry.{Entry, plain, member, commit, map_entry, carried, as_entry, as_change, raw}
+use Rattle.card_log.specs.Cell.{cell_of, member_in, entry_in}
+use Rattle.card_log.specs.Reader.{replay}
+use Rattle.card_log.specs.Card.{Content, Written, slot, mounted}
+use Rattle.card_log.specs.Flush.{Flow}
+use Rattle.card_log.proofs.Cells.{cell-entry, cell-change}
+use Rattle.card_log.proofs.Segment.{Sized}
+use Rattle.card_log.proofs.Slot.{length-slot}
 use Rattle.disk.specs.Record.{ring_place, no_cell, with_listed}
 use Rattle.disk.specs.Disk.{Disk, queued_at, queued, reader_of, committed_reader}
 use Rattle.disk.specs.Perform.{splice_some, enqueue, enqueue_all, after_flush, journal_add, hold, relisted, opening, closing, conflicted}

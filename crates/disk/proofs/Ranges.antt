@@ -8,9 +8,9 @@ use Rattle.lists.specs.State.{placed}
 use Rattle.lists.proofs.Basic.{and-true, not-false, not-true, eqb-false}
 use Rattle.lists.proofs.Count.{puts}
 use Rattle.lists.proofs.Placed.{placed-apply}
-use Rattle.log.specs.Raced.{with_body}
-use Rattle.log.specs.Entry.{legal_change, is_block, is_list}
-use Rattle.log.specs.Card.{Written}
+use Rattle.card_log.specs.Raced.{with_body}
+use Rattle.card_log.specs.Entry.{legal_change, is_block, is_list}
+use Rattle.card_log.specs.Card.{Written}
 use Rattle.disk.specs.Disk.{Disk, view}
 use Rattle.disk.specs.Questions.{view_open}
 use Rattle.disk.proofs.Clauses.{Right}

@@ -20,11 +20,11 @@ use Rattle.lists.proofs.Apply.{apply_some}
 use Rattle.lists.proofs.Listed.{fits, Exact, Listed, listed-step, listed-range, Reached, reached-step, reached-exact}
 use Rattle.lists.proofs.Times.{once-most}
 use Rattle.lists.specs.promises.Tables.{Tables}
-use Rattle.log.specs.Raced.{Raced}
-use Rattle.log.specs.Entry.{as_change, member, raw, map_entry, legal, legal_change}
-use Rattle.log.specs.declared.entry.LogEntry.{LogEntry}
-use Rattle.log.specs.declared.entry.LogEntry.TheVariants.{Take, PutFirst, PutAfter, Write, DeleteBlock, DeleteList, Commit}
-use Rattle.log.specs.contracts.entry.LogEntry.{the_type}
+use Rattle.card_log.specs.Raced.{Raced}
+use Rattle.card_log.specs.Entry.{as_change, member, raw, map_entry, legal, legal_change}
+use Rattle.card_log.specs.declared.entry.LogEntry.{LogEntry}
+use Rattle.card_log.specs.declared.entry.LogEntry.TheVariants.{Take, PutFirst, PutAfter, Write, DeleteBlock, DeleteList, Commit}
+use Rattle.card_log.specs.contracts.entry.LogEntry.{the_type}
 use Rattle.disk.specs.Record.{Record, listed_in, with_listed}
 use Rattle.disk.specs.promises.Listing.{Padded, unlisted, pushed_all, relisted_by, relisted_all, ListsFree, Relists}
 use Rattle.disk.proofs.Listing.{padded-places, listed-with, with-again, padded-with, with-same, with-ring, with-held, pushed_all-padded, pushed_all-ring, pushed_all-held, pushed-all, unlisted-padded}

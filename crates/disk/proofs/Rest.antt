@@ -15,7 +15,7 @@ use Rattle.lists.specs.Numbers.{is_number, all_numbers, brings, brought}
 use Rattle.lists.proofs.Basic.{or-both, not-true, eqb-false, eq-true, keep_all, keep_append}
 use Rattle.lists.proofs.Times.{times-append, times-keep, keep-alike, all-standing, once-most}
 use Rattle.lists.proofs.Listed.{number-range}
-use Rattle.log.specs.Card.{Written}
+use Rattle.card_log.specs.Card.{Written}
 use Rattle.disk.specs.Record.{holder_of, listed_in, blank_record, fresh_record}
 use Rattle.disk.specs.Disk.{Disk, journal_of, persistent, committed, listing}
 use Rattle.disk.specs.Sound.{record_sound}

@@ -12,15 +12,15 @@ use lib.Seq.{take-take}
 use Rattle.lists.specs.Basic.{from}
 use Rattle.lists.specs.Change.{Change, take_list, put_first, put_after, write, del_block, del_list, map_change, carried_by}
 use Rattle.lists.proofs.Basic.{and-true, eqb-true, ltb-true}
-use Rattle.log.specs.declared.place.Place.{Place}
-use Rattle.log.specs.Raced.{Raced, with_body}
-use Rattle.log.specs.Entry.{Entry, plain, member, commit, map_entry, carried}
-use Rattle.log.specs.Card.{Content, Written, segments_in}
-use Rattle.log.specs.Store.{Store, do_stores, standing, home, tail, entry_stores, head_at}
-use Rattle.log.proofs.Flows.{flow_for}
-use Rattle.log.specs.Flush.{ahead, rest}
-use Rattle.log.proofs.Sequence.{ReadyHead, Ready, Along, along}
-use Rattle.log.proofs.Stores.{AllBytes, AllIn, AllDataBytes, DataBytes, in-drop, bytes-slot, ahead_in, sane-tail}
+use Rattle.card_log.specs.declared.place.Place.{Place}
+use Rattle.card_log.specs.Raced.{Raced, with_body}
+use Rattle.card_log.specs.Entry.{Entry, plain, member, commit, map_entry, carried}
+use Rattle.card_log.specs.Card.{Content, Written, segments_in}
+use Rattle.card_log.specs.Store.{Store, do_stores, standing, home, tail, entry_stores, head_at}
+use Rattle.card_log.proofs.Flows.{flow_for}
+use Rattle.card_log.specs.Flush.{ahead, rest}
+use Rattle.card_log.proofs.Sequence.{ReadyHead, Ready, Along, along}
+use Rattle.card_log.proofs.Stores.{AllBytes, AllIn, AllDataBytes, DataBytes, in-drop, bytes-slot, ahead_in, sane-tail}
 use Rattle.disk.specs.Record.{ring_place}
 use Rattle.disk.specs.Disk.{Disk, queued_at, queued}
 use Rattle.disk.specs.Sound.{head_standing}

@@ -11,8 +11,8 @@ use native.Mathlib.Omega.{arith}
 use lib.Dec.{leb, ltb}
 use Rattle.lists.specs.Basic.{all}
 use Rattle.lists.proofs.Basic.{and-true, eqb-false, leb-true, le-true, ltb-true, all-each, bind-some, is-some}
-use Rattle.log.specs.Reader.{replay}
-use Rattle.log.specs.Card.{mounted}
+use Rattle.card_log.specs.Reader.{replay}
+use Rattle.card_log.specs.Card.{mounted}
 use Rattle.disk.specs.Disk.{Disk, queued, reader_of, committed_reader, view, committed}
 use Rattle.disk.specs.Sound.{lengths_right, record_sound}
 use Rattle.disk.specs.Call.{Call, format, mount, conflict_count, on_stream, in_view, begin, end, flush, ends}

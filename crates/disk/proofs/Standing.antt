@@ -8,14 +8,14 @@ use native.Mathlib.Omega.{arith}
 use lib.Dec.{eqb, ltb}
 use lib.ListN.{length, take, get_or}
 use Rattle.lists.proofs.Basic.{and-true, eqb-true, ltb-true, eq-true, lt-true, any-default}
-use Rattle.log.specs.declared.place.Place.{Place}
-use Rattle.log.specs.Entry.{Entry}
-use Rattle.log.specs.Card.{Written, segments_in}
-use Rattle.log.specs.Store.{Store, standing, home, tail, entry_stores, head_at}
-use Rattle.log.proofs.Segment.{Carries, carries-segments}
-use Rattle.log.proofs.EntryStores.{which, store_of}
-use Rattle.log.proofs.Places.{Good, store-inside}
-use Rattle.log.proofs.Flows.{end_of, tail-end, home_at, AllGood, Head}
+use Rattle.card_log.specs.declared.place.Place.{Place}
+use Rattle.card_log.specs.Entry.{Entry}
+use Rattle.card_log.specs.Card.{Written, segments_in}
+use Rattle.card_log.specs.Store.{Store, standing, home, tail, entry_stores, head_at}
+use Rattle.card_log.proofs.Segment.{Carries, carries-segments}
+use Rattle.card_log.proofs.EntryStores.{which, store_of}
+use Rattle.card_log.proofs.Places.{Good, store-inside}
+use Rattle.card_log.proofs.Flows.{end_of, tail-end, home_at, AllGood, Head}
 use Rattle.disk.specs.Sound.{head_standing}
 
 standing-at : (ss : List Store) (k : ℕ) (c : List ℕ) (j : ℕ) → standing (take k ss) c ≡ true → j < k → k ≤ length ss

@@ -11,17 +11,17 @@ use lib.Dec.{eqb}
 use lib.ListN.{length, take, get_or, length-set}
 use lib.Seq.{get_or-set_same, get_or-set_other}
 use Rattle.lists.proofs.Basic.{eqb-true, eqb-neq}
-use Rattle.log.specs.declared.place.Place.{Place}
-use Rattle.log.specs.Entry.{Entry}
-use Rattle.log.specs.Card.{Written, card_length, segments_in, count}
-use Rattle.log.specs.Store.{do_stores, format_stores, home, entry_stores}
-use Rattle.log.specs.Flush.{Flow, Flushed, Ending, stopped, next_store, flush_from}
-use Rattle.log.specs.Turns.{InTurn, stored_at, cleared_at, Steps, no_step, more, last, Clears, no_clear, clear}
-use Rattle.log.proofs.CardLength.{card-size}
-use Rattle.log.proofs.Segment.{carries-segments}
-use Rattle.log.proofs.Allowance.{none_left, stopped-flush, moved-flush}
-use Rattle.log.proofs.Places.{add_to}
-use Rattle.log.proofs.Flows.{end_of, Flows, flow_for, store-more, store-last, next_more, next_last, next-none, next-full, add-length}
+use Rattle.card_log.specs.declared.place.Place.{Place}
+use Rattle.card_log.specs.Entry.{Entry}
+use Rattle.card_log.specs.Card.{Written, card_length, segments_in, count}
+use Rattle.card_log.specs.Store.{do_stores, format_stores, home, entry_stores}
+use Rattle.card_log.specs.Flush.{Flow, Flushed, Ending, stopped, next_store, flush_from}
+use Rattle.card_log.specs.Turns.{InTurn, stored_at, cleared_at, Steps, no_step, more, last, Clears, no_clear, clear}
+use Rattle.card_log.proofs.CardLength.{card-size}
+use Rattle.card_log.proofs.Segment.{carries-segments}
+use Rattle.card_log.proofs.Allowance.{none_left, stopped-flush, moved-flush}
+use Rattle.card_log.proofs.Places.{add_to}
+use Rattle.card_log.proofs.Flows.{end_of, Flows, flow_for, store-more, store-last, next_more, next_last, next-none, next-full, add-length}
 use Rattle.disk.specs.Disk.{queued}
 use Rattle.disk.specs.Perform.{flushed, formatted}
 use Rattle.disk.specs.Statements.{FlushInOrder, FormatInOrder, CutFormat}

@@ -14,20 +14,20 @@ use lib.ListN.{length, take, get_or, set, length-set, get_or-eq_default}
 use lib.Seq.{get_or-set_same, get_or-set_other}
 use Rattle.lists.specs.Basic.{joined}
 use Rattle.lists.proofs.Basic.{and-true, lt-true, bind-some}
-use Rattle.log.specs.declared.place.Place.{Place}
-use Rattle.log.specs.Entry.{Entry}
-use Rattle.log.specs.Reader.{Reader, start, read, replay}
-use Rattle.log.specs.Card.{Written, card_length, segments_in, count, sound, mounted}
-use Rattle.log.specs.Store.{Store, standing, home, tail, entry_stores, head_at}
-use Rattle.log.specs.Turns.{InTurn, Clearable}
-use Rattle.log.proofs.CardLength.{card-size}
-use Rattle.log.proofs.Replay.{replay-append}
-use Rattle.log.proofs.Segment.{Holds, Empties, Packed, Carries, carries-walk, carries-segments}
-use Rattle.log.proofs.EntryStores.{holds-free}
-use Rattle.log.proofs.Places.{Good, add_to}
-use Rattle.log.proofs.Regain.{carries-read}
-use Rattle.log.proofs.Formatting.{holds-none}
-use Rattle.log.proofs.Flows.{end_of, Flows, head_at, store-more, store-last, joined-add}
+use Rattle.card_log.specs.declared.place.Place.{Place}
+use Rattle.card_log.specs.Entry.{Entry}
+use Rattle.card_log.specs.Reader.{Reader, start, read, replay}
+use Rattle.card_log.specs.Card.{Written, card_length, segments_in, count, sound, mounted}
+use Rattle.card_log.specs.Store.{Store, standing, home, tail, entry_stores, head_at}
+use Rattle.card_log.specs.Turns.{InTurn, Clearable}
+use Rattle.card_log.proofs.CardLength.{card-size}
+use Rattle.card_log.proofs.Replay.{replay-append}
+use Rattle.card_log.proofs.Segment.{Holds, Empties, Packed, Carries, carries-walk, carries-segments}
+use Rattle.card_log.proofs.EntryStores.{holds-free}
+use Rattle.card_log.proofs.Places.{Good, add_to}
+use Rattle.card_log.proofs.Regain.{carries-read}
+use Rattle.card_log.proofs.Formatting.{holds-none}
+use Rattle.card_log.proofs.Flows.{end_of, Flows, head_at, store-more, store-last, joined-add}
 use Rattle.disk.specs.Sound.{head_standing}
 use Rattle.disk.proofs.Standing.{home_same, standing-head, head-standing}
 

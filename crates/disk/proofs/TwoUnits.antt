@@ -16,8 +16,8 @@ use Rattle.lists.specs.Touched.{row_of}
 use Rattle.lists.proofs.Basic.{and-true, or-both, leb-true, le-true, is-some}
 use Rattle.lists.proofs.Count.{puts}
 use Rattle.lists.proofs.Touching.{Unput, named-known, either_order as changes-either}
-use Rattle.log.specs.Entry.{is_block}
-use Rattle.log.specs.Card.{Written}
+use Rattle.card_log.specs.Entry.{is_block}
+use Rattle.card_log.specs.Card.{Written}
 use Rattle.disk.specs.Record.{Unit, is_open, holder_of}
 use Rattle.disk.specs.Disk.{Disk, unit_of, journal_of, committed, view}
 use Rattle.disk.specs.Sound.{open_unit, is_open_unit}

@@ -16,10 +16,10 @@ use Rattle.lists.specs.State.{State}
 use Rattle.lists.specs.InUse.{in_use, brings}
 use Rattle.lists.proofs.Basic.{le-true, eq-true, all_append, eqb-false}
 use Rattle.lists.proofs.InUse.{brought}
-use Rattle.log.specs.Entry.{plain, member, raw, legal}
-use Rattle.log.specs.Cell.{cell_of}
-use Rattle.log.specs.Card.{Written}
-use Rattle.log.proofs.Segment.{Sized}
+use Rattle.card_log.specs.Entry.{plain, member, raw, legal}
+use Rattle.card_log.specs.Cell.{cell_of}
+use Rattle.card_log.specs.Card.{Written}
+use Rattle.card_log.proofs.Segment.{Sized}
 use Rattle.disk.specs.Record.{Unit, holder_of, journaled, emptied, released, is_open, with_listed}
 use Rattle.disk.specs.Disk.{Disk, unit_of, journal_of}
 use Rattle.disk.specs.Sound.{open_unit, is_open_unit, journal_sound}

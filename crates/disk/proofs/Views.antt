@@ -13,12 +13,12 @@ use lib.Seq.{take_at}
 use Rattle.lists.specs.Basic.{bind, joined}
 use Rattle.lists.specs.State.{overlay}
 use Rattle.lists.proofs.Basic.{eqb-false}
-use Rattle.log.specs.Entry.{Entry}
-use Rattle.log.specs.Reader.{Reader, start, replay}
-use Rattle.log.specs.Card.{Written, segments_in, mounted}
-use Rattle.log.specs.Flush.{drained}
-use Rattle.log.proofs.Replay.{replay-append}
-use Rattle.log.proofs.Sequence.{drained-empty}
+use Rattle.card_log.specs.Entry.{Entry}
+use Rattle.card_log.specs.Reader.{Reader, start, replay}
+use Rattle.card_log.specs.Card.{Written, segments_in, mounted}
+use Rattle.card_log.specs.Flush.{drained}
+use Rattle.card_log.proofs.Replay.{replay-append}
+use Rattle.card_log.proofs.Sequence.{drained-empty}
 use Rattle.disk.specs.Disk.{Disk, queued, reader_of, committed_reader, state_of, persistent, committed, view}
 use Rattle.disk.specs.Perform.{flow_of, flushed}
 use Rattle.disk.proofs.Journal.{journal-flushed}

@@ -11,7 +11,7 @@ use Rattle.lists.specs.Change.{Change}
 use Rattle.lists.specs.State.{Row, State, overlay}
 use Rattle.lists.specs.Numbers.{all_numbers}
 use Rattle.lists.proofs.Basic.{and-true, leb-true}
-use Rattle.log.specs.Card.{Written}
+use Rattle.card_log.specs.Card.{Written}
 use Rattle.disk.specs.Record.{Unit, no_unit, fresh_unit, blank_record, fresh_record, unit_at, with_listed}
 use Rattle.disk.specs.Disk.{Disk, unit_of, journal_of, persistent, committed, listing}
 use Rattle.disk.specs.Call.{Call, format, mount, conflict_count, on_stream, in_view, begin, end, flush, ends, resets}

@@ -4,11 +4,11 @@ use Rattle.std.proofs.Math.Option.{Option, none, some}
 use Rattle.lists.specs.Basic.{bind, from}
 use Rattle.lists.specs.Change.{Change, map_change}
 use Rattle.lists.specs.State.{State, state, empty, overlay}
-use Rattle.log.specs.Raced.{with_body}
-use Rattle.log.specs.Entry.{Entry, map_entry, as_entry, as_change}
-use Rattle.log.specs.Cell.{member_in, entry_in}
-use Rattle.log.specs.Reader.{Reader, replay}
-use Rattle.log.specs.Card.{Written, slot, Outcome, sound, fault, mounted}
+use Rattle.card_log.specs.Raced.{with_body}
+use Rattle.card_log.specs.Entry.{Entry, map_entry, as_entry, as_change}
+use Rattle.card_log.specs.Cell.{member_in, entry_in}
+use Rattle.card_log.specs.Reader.{Reader, replay}
+use Rattle.card_log.specs.Card.{Written, slot, Outcome, sound, fault, mounted}
 use Rattle.disk.specs.Record.{Unit, Record, record_in, no_cell, unit_at, listed_in, ring_place, journal_places}
 
 -- "Every call is lent card, queue data, journal data and record."

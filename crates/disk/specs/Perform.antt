@@ -7,12 +7,12 @@ use Rattle.lists.specs.State.{Row, State, frees, overlay}
 use Rattle.lists.specs.InUse.{list_number, in_use}
 use Rattle.lists.specs.Numbers.{all_numbers}
 use Rattle.lists.specs.Lookup.{content_of, next_after, list_nums}
-use Rattle.log.specs.Raced.{raced}
-use Rattle.log.specs.Entry.{Entry, plain, member, commit, carried}
-use Rattle.log.specs.Cell.{cell_of}
-use Rattle.log.specs.Card.{Written, slot_bytes, segments_in, Outcome, sound, fault, mounted, splice}
-use Rattle.log.specs.Store.{do_stores, format_stores, tail}
-use Rattle.log.specs.Flush.{Flow, Flushed, flush_from}
+use Rattle.card_log.specs.Raced.{raced}
+use Rattle.card_log.specs.Entry.{Entry, plain, member, commit, carried}
+use Rattle.card_log.specs.Cell.{cell_of}
+use Rattle.card_log.specs.Card.{Written, slot_bytes, segments_in, Outcome, sound, fault, mounted, splice}
+use Rattle.card_log.specs.Store.{do_stores, format_stores, tail}
+use Rattle.card_log.specs.Flush.{Flow, Flushed, flush_from}
 use Rattle.answers.specs.Answers.{Answer, ending_number}
 use Rattle.listing.specs.Page.{page_text}
 use Rattle.disk.specs.Record.{Record, ring_place, holder_of, listed_in, with_listed, with_flow, appended, journal_grown, unit_turned, holding, releasing, conflict_counted, count_of, fresh_record, queue_places}

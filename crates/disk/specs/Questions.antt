@@ -4,8 +4,8 @@ use Rattle.std.proofs.Math.Option.{Option, none, some}
 use Rattle.lists.specs.Basic.{is_some}
 use Rattle.lists.specs.State.{Row, taken, placed, on_list, apply_all}
 use Rattle.lists.specs.Lookup.{written}
-use Rattle.log.specs.Entry.{is_block, is_list, is_race}
-use Rattle.log.specs.Card.{Written, slot_bytes, mounted}
+use Rattle.card_log.specs.Entry.{is_block, is_list, is_race}
+use Rattle.card_log.specs.Card.{Written, slot_bytes, mounted}
 use Rattle.listing.specs.Page.{page_text}
 use Rattle.disk.specs.Record.{is_open, listed_in, queue_places, journal_places, unit_count, window_count}
 use Rattle.disk.specs.Disk.{Disk, unit_of, journal_of, reader_of, committed, view}

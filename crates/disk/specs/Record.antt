@@ -2,7 +2,7 @@
 use Rattle.std.specs.Prelude.{Bool, ◌&&◌, not, cond, List, [], ◌++◌, map, ℕ, ◌+◌, ◌-◌, ◌*◌, ◌%◌, min, eqb, length, get_or, set, take, replicate}
 use Rattle.lists.specs.Basic.{from}
 use Rattle.lists.specs.InUse.{number_count}
-use Rattle.log.specs.Cell.{Cell, cell}
+use Rattle.card_log.specs.Cell.{Cell, cell}
 
 -- "units 1 to 4, [..] 15 entries in a unit's journal, 32 in the queue"
 abbrev pub queue_places : ℕ

@@ -5,9 +5,9 @@ use Rattle.lists.specs.Change.{Change}
 use Rattle.lists.specs.State.{Row}
 use Rattle.lists.specs.InUse.{number_count, is_number, in_use, brings}
 use Rattle.lists.specs.Numbers.{all_numbers}
-use Rattle.log.specs.Entry.{Entry, member, raw, legal}
-use Rattle.log.specs.Card.{Written, card_length, segments_in}
-use Rattle.log.specs.Store.{home, tail, head_at}
+use Rattle.card_log.specs.Entry.{Entry, member, raw, legal}
+use Rattle.card_log.specs.Card.{Written, card_length, segments_in}
+use Rattle.card_log.specs.Store.{home, tail, head_at}
 use Rattle.disk.specs.Record.{Record, shaped, unit_at, is_open, holder_of, listed_in, queue_places, journal_places, unit_count, window_count}
 use Rattle.disk.specs.Disk.{Disk, unit_of, queued, journal_of, committed, committed_reader}
 

@@ -3,10 +3,10 @@ use Rattle.std.specs.Prelude.{◌≡◌, ◌⊎◌, ◌≢◌, true, false, ◌&
 use Rattle.std.proofs.Math.Option.{none, some}
 use Rattle.lists.specs.InUse.{list_number, in_use}
 use Rattle.lists.specs.Lookup.{list_nums}
-use Rattle.log.specs.Card.{card_length, segments_in, count}
-use Rattle.log.specs.Store.{Store, do_stores}
-use Rattle.log.specs.Flush.{rest}
-use Rattle.log.specs.Turns.{Steps, Clears}
+use Rattle.card_log.specs.Card.{card_length, segments_in, count}
+use Rattle.card_log.specs.Store.{Store, do_stores}
+use Rattle.card_log.specs.Flush.{rest}
+use Rattle.card_log.specs.Turns.{Steps, Clears}
 use Rattle.listing.specs.Page.{page_text, page_most}
 use Rattle.disk.specs.Record.{record_in, holder_of, count_of}
 use Rattle.disk.specs.Disk.{Disk, unit_of, queued, committed, view}

@@ -1,7 +1,7 @@
 // One part of the record changed: the queue, a unit, the holders, the order of the free numbers, the conflict counts.
 ghost use Rattle.std.specs.Prelude.{◌≡◌, false, cond, ◌+◌, ◌-◌, ◌*◌, ◌<◌, ◌≤◌, min, eqb, length};
-ghost use Rattle.log.specs.Entry.{as_entry};
-ghost use Rattle.log.specs.Cell.{cell_of};
+ghost use Rattle.card_log.specs.Entry.{as_entry};
+ghost use Rattle.card_log.specs.Cell.{cell_of};
 ghost use Rattle.disk.specs.Record.{record_in, unit_at, with_flow, appended, journal_grown, unit_turned, holding, releasing, conflict_counted, blank_record};
 ghost use Rattle.disk.specs.promises.Bytes.{cell_set};
 ghost use Rattle.disk.specs.promises.Listing.{with_many, with_place};
@@ -10,8 +10,8 @@ use crate::record::{
     CELL, COUNTS, DONE, HEAD, HOLDERS, JOURNALS, LEN, LENGTHS, LISTED, NUMBERS, ORDER, RECORD,
     Record, UNIT_WINDOWS, Unit, conflicts, head, journal_len, len,
 };
-use log::encode::entry_byte;
-use log::entry::LogEntry;
+use card_log::encode::entry_byte;
+use card_log::entry::LogEntry;
 
 // Nothing is done, and the compiler drops the copy: how long an array is the proof learns of a value, not of a reference.
 fn sized(rec: [u8; RECORD])

@@ -2,15 +2,15 @@
 ghost use Rattle.std.specs.Prelude.{◌≡◌, true, not, ◌≤◌, ◌<◌, eqb};
 ghost use Rattle.lists.specs.Basic.{or_else, times};
 ghost use Rattle.lists.specs.promises.Tables.{tables_in};
-ghost use Rattle.log.specs.Entry.{legal, raw, member, as_change};
+ghost use Rattle.card_log.specs.Entry.{legal, raw, member, as_change};
 ghost use Rattle.disk.specs.Record.{record_in, listed_in};
 ghost use Rattle.disk.specs.Questions.{first_free};
 ghost use Rattle.disk.specs.promises.Listing.{Padded, Reorders, unlisted, pushed, Moves, ListsFree, Relists};
 
 use crate::change::{list_first, put_listed};
 use crate::record::{NUMBERS, RECORD, list_number, listed, listed_at};
+use card_log::entry::LogEntry;
 use lists::tables::free_after;
-use log::entry::LogEntry;
 
 // A number at the end, while a place is left.
 pub fn push(rec: &mut [u8; RECORD], number: u8)

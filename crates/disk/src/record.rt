@@ -1,6 +1,6 @@
 // The working record that every call is lent, as bytes, and where its parts stand in them.
 //
-// An entry of the queue or of a journal is a cell of four bytes (`log::cell`). The queue is a ring of places: entry k from the head stands at
+// An entry of the queue or of a journal is a cell of four bytes (`card_log::cell`). The queue is a ring of places: entry k from the head stands at
 // (head + k) % QUEUE, its data at the same place of the queue data. `done` counts the head's stores that are on the card.
 //
 //     0     queue: QUEUE cells
@@ -13,13 +13,13 @@
 //     493   the free numbers, blocks and lists, in the order of their freeing: a byte for each
 ghost use Rattle.std.specs.Prelude.{◌≡◌, ◌<◌, ◌≤◌, get_or};
 ghost use Rattle.lists.specs.InUse.{list_number};
-ghost use Rattle.log.specs.Cell.{member_in, entry_in};
+ghost use Rattle.card_log.specs.Cell.{member_in, entry_in};
 ghost use Rattle.disk.specs.Record.{record_in, no_cell, unit_at, is_open, holder_of, count_of, blank_record};
 
+use card_log::cell::entry_in;
+use card_log::entry::LogEntry;
+use card_log::map;
 use lists::tables::of_bytes;
-use log::cell::entry_in;
-use log::entry::LogEntry;
-use log::map;
 
 // How many bytes a record has.
 pub const RECORD: usize = 573;

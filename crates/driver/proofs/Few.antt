@@ -6,10 +6,10 @@ use Prim.Native.Nat.{ℕ, zero, suc, ◌*◌, ◌≤◌}
 use native.Mathlib.Omega.{arith}
 use lib.ListN.{length, length-append, length-take, length-drop}
 use Rattle.lists.specs.Basic.{from}
-use Rattle.log.specs.declared.place.Place.{Place}
-use Rattle.log.specs.Card.{slot, segments_in}
-use Rattle.log.specs.Store.{home, after, tail, entry_stores}
-use Rattle.log.specs.Flush.{ahead, rest}
+use Rattle.card_log.specs.declared.place.Place.{Place}
+use Rattle.card_log.specs.Card.{slot, segments_in}
+use Rattle.card_log.specs.Store.{home, after, tail, entry_stores}
+use Rattle.card_log.specs.Flush.{ahead, rest}
 use Rattle.disk.specs.Disk.{Disk, queued_at, queued}
 use Rattle.disk.specs.Call.{flush}
 use Rattle.disk.specs.Questions.{questions}

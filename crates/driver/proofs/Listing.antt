@@ -9,8 +9,8 @@ use native.Mathlib.Nat.{add-zero}
 use lib.ListN.{length, take, drop, get_or, set, length-take, length-drop, length-map}
 use lib.Seq.{sets, sets-eq, drop-cons, drop-append-le, take-append-le, take-append-add, take-take, take_all}
 use Rattle.lists.proofs.Basic.{eqb-false}
-use Rattle.log.specs.Store.{Store, format_stores}
-use Rattle.log.proofs.Formatting.{format-length}
+use Rattle.card_log.specs.Store.{Store, format_stores}
+use Rattle.card_log.proofs.Formatting.{format-length}
 use Rattle.answers.specs.declared.Refusal.{Refusal}
 use Rattle.disk.specs.Disk.{Disk}
 use Rattle.disk.specs.Call.{Call}

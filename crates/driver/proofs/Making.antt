@@ -9,10 +9,10 @@ use lib.Seq.{take_all}
 use Rattle.lists.specs.Change.{Change}
 use Rattle.lists.specs.State.{Row}
 use Rattle.lists.proofs.Basic.{leb-true, le-true}
-use Rattle.log.specs.Entry.{Entry}
-use Rattle.log.specs.Card.{Written, segments_in}
-use Rattle.log.specs.Store.{Store, do_stores, format_stores}
-use Rattle.log.proofs.Formatting.{format-length}
+use Rattle.card_log.specs.Entry.{Entry}
+use Rattle.card_log.specs.Card.{Written, segments_in}
+use Rattle.card_log.specs.Store.{Store, do_stores, format_stores}
+use Rattle.card_log.proofs.Formatting.{format-length}
 use Rattle.disk.specs.Disk.{Disk, journal_of}
 use Rattle.disk.specs.Call.{Call, format, mount, conflict_count, on_stream, in_view, begin, end, flush}
 use Rattle.disk.specs.Questions.{questions, refusal}

@@ -7,19 +7,19 @@ use Prim.Native.Nat.{ℕ, ◌+◌, ◌-◌, ◌≤◌, ◌<◌}
 use native.Mathlib.Omega.{arith}
 use lib.ListN.{length, take, drop}
 use lib.Seq.{sets, take-nil, drop-nil}
-use Rattle.log.specs.declared.entry.LogEntry.{LogEntry}
-use Rattle.log.specs.declared.place.Place.{Place}
-use Rattle.log.specs.declared.place.Home.{Home}
-use Rattle.log.specs.declared.place.Home.TheVariants.{At, Full}
-use Rattle.log.specs.Entry.{Entry, as_entry}
-use Rattle.log.specs.Card.{Content, Written, segments_in}
-use Rattle.log.specs.Store.{Store, after, home, tail, entry_stores}
-use Rattle.log.specs.Flush.{ahead, rest}
-use Rattle.log.specs.promises.Within.{Within, as_place}
-use Rattle.log.proofs.CardLength.{card-small}
-use Rattle.log.proofs.EntryStores.{entry-stores-length}
-use Rattle.log.proofs.LogStores.{going, stores-many}
-use Rattle.log.proofs.Within.{within-home, within-after, home-of-entry, after-of-entry}
+use Rattle.card_log.specs.declared.entry.LogEntry.{LogEntry}
+use Rattle.card_log.specs.declared.place.Place.{Place}
+use Rattle.card_log.specs.declared.place.Home.{Home}
+use Rattle.card_log.specs.declared.place.Home.TheVariants.{At, Full}
+use Rattle.card_log.specs.Entry.{Entry, as_entry}
+use Rattle.card_log.specs.Card.{Content, Written, segments_in}
+use Rattle.card_log.specs.Store.{Store, after, home, tail, entry_stores}
+use Rattle.card_log.specs.Flush.{ahead, rest}
+use Rattle.card_log.specs.promises.Within.{Within, as_place}
+use Rattle.card_log.proofs.CardLength.{card-small}
+use Rattle.card_log.proofs.EntryStores.{entry-stores-length}
+use Rattle.card_log.proofs.LogStores.{going, stores-many}
+use Rattle.card_log.proofs.Within.{within-home, within-after, home-of-entry, after-of-entry}
 use Rattle.disk.specs.Record.{Record}
 use Rattle.disk.specs.Disk.{disk}
 use Rattle.disk.specs.Perform.{flow_of}

@@ -1,8 +1,8 @@
 -- The stores that a call makes on the card, listed for a driver whose card is not memory; and what the driver relies on, each statement proved under
 -- its own name in proofs.
 use Rattle.std.specs.Prelude.{◌≡◌, List, [], ◌++◌, map, ℕ, zero, suc, ◌+◌, ◌*◌, ◌/◌, ◌%◌, ◌≤◌, ◌<◌, length, take, drop}
-use Rattle.log.specs.Card.{segments_in}
-use Rattle.log.specs.Store.{Store, do_stores, format_stores}
+use Rattle.card_log.specs.Card.{segments_in}
+use Rattle.card_log.specs.Store.{Store, do_stores, format_stores}
 use Rattle.disk.specs.Disk.{Disk, disk_in}
 use Rattle.disk.specs.Call.{Call, format, mount, conflict_count, on_stream, in_view, begin, end, flush}
 use Rattle.disk.specs.Questions.{refusal}

@@ -1,6 +1,6 @@
 // The stores that a formatting would make.
 ghost use Rattle.std.specs.Prelude.{◌≡◌, ◌≤◌, length, take};
-ghost use Rattle.log.specs.Store.{format_stores};
+ghost use Rattle.card_log.specs.Store.{format_stores};
 ghost use Rattle.disk.specs.Call.{format};
 ghost use Rattle.answers.specs.Answers.{number_answer};
 ghost use Rattle.driver.specs.Stores.{Lists};
@@ -8,9 +8,9 @@ ghost use Rattle.driver.specs.promises.Listing.{listed};
 
 use super::word::joined;
 use answers::{NumberReply, Refusal};
+use card_log::layout::{COUNT_AT, SEGMENT};
 use disk::record::RECORD;
 use inspect::lengths::lengths_right;
-use log::layout::{COUNT_AT, SEGMENT};
 
 // 0 in each count byte, the last segment's first, as words; how many there are.
 fn list_counts(segments: usize, stores: &mut [u32]) -> usize

@@ -1,9 +1,9 @@
 // The stores of the queue, listed without making them.
 ghost use Rattle.std.specs.Prelude.{◌≡◌, List, map, ℕ, ◌+◌, ◌-◌, ◌≤◌, ◌<◌, length, take, drop};
 ghost use Rattle.std.proofs.lemmas.List.Edits.{sets};
-ghost use Rattle.log.specs.Raced.{with_body};
-ghost use Rattle.log.specs.Entry.{map_entry, as_entry};
-ghost use Rattle.log.specs.Store.{entry_stores};
+ghost use Rattle.card_log.specs.Raced.{with_body};
+ghost use Rattle.card_log.specs.Entry.{map_entry, as_entry};
+ghost use Rattle.card_log.specs.Store.{entry_stores};
 ghost use Rattle.disk.specs.Record.{record_in};
 ghost use Rattle.disk.specs.Disk.{disk};
 ghost use Rattle.disk.specs.Statements.{todo};
@@ -12,12 +12,12 @@ ghost use Rattle.driver.specs.Stores.{word};
 ghost use Rattle.driver.specs.promises.Listing.{listed, Listable, HeadListable, HeadLists};
 
 use super::word::word_of;
+use card_log::entry::LogEntry;
+use card_log::layout::{SEGMENT, SLOT};
+use card_log::place::{Home, Place, after, home_of};
+use card_log::store::stores_of;
 use disk::record;
 use disk::record::{RECORD, Record, head, len, queue_entry};
-use log::entry::LogEntry;
-use log::layout::{SEGMENT, SLOT};
-use log::place::{Home, Place, after, home_of};
-use log::store::stores_of;
 
 // What a listing makes of the queue's head, with the words that stand in the buffer then: it ends there, or all of the head's stores are listed, and
 // this is the place behind it.

@@ -1,14 +1,14 @@
 // A store as one number.
 ghost use Rattle.std.specs.Prelude.{◌≡◌, ◌<◌, length};
-ghost use Rattle.log.specs.Raced.{with_body};
-ghost use Rattle.log.specs.Entry.{map_entry, as_entry};
+ghost use Rattle.card_log.specs.Raced.{with_body};
+ghost use Rattle.card_log.specs.Entry.{map_entry, as_entry};
 ghost use Rattle.driver.specs.Stores.{word};
 ghost use Rattle.driver.specs.promises.Listing.{Listable, store_at};
 
-use log::encode::{entry_byte, length_of, slots_of};
-use log::entry::LogEntry;
-use log::layout::{COUNT_AT, ENTRIES_AT, SEGMENT, SLOT};
-use log::place::Place;
+use card_log::encode::{entry_byte, length_of, slots_of};
+use card_log::entry::LogEntry;
+use card_log::layout::{COUNT_AT, ENTRIES_AT, SEGMENT, SLOT};
+use card_log::place::Place;
 
 // Offset and byte. A card has at most 262,144 bytes.
 pub fn joined(at: usize, byte: u8) -> u32

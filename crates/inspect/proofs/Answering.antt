@@ -12,12 +12,12 @@ use Rattle.lists.specs.State.{Row, map_row}
 use Rattle.lists.specs.InUse.{number_count, in_use, brings}
 use Rattle.lists.specs.Numbers.{all_numbers}
 use Rattle.lists.proofs.Naturality.{taken-map, placed-map}
-use Rattle.log.specs.Raced.{Raced, with_body}
-use Rattle.log.specs.Entry.{member, raw, legal, map_entry}
-use Rattle.log.specs.Reader.{Reader, replay}
-use Rattle.log.specs.Card.{Content, Written, slot, sound, fault, mounted, card_length, walk_card}
-use Rattle.log.specs.promises.Location.{card_number}
-use Rattle.log.proofs.Naturality.{map_reader, raw-map}
+use Rattle.card_log.specs.Raced.{Raced, with_body}
+use Rattle.card_log.specs.Entry.{member, raw, legal, map_entry}
+use Rattle.card_log.specs.Reader.{Reader, replay}
+use Rattle.card_log.specs.Card.{Content, Written, slot, sound, fault, mounted, card_length, walk_card}
+use Rattle.card_log.specs.promises.Location.{card_number}
+use Rattle.card_log.proofs.Naturality.{map_reader, raw-map}
 use Rattle.disk.specs.Record.{Record, shaped, unit_at, ring_place, unit_count}
 use Rattle.disk.specs.Disk.{Disk, disk, unit_of, queued_at, queued, journal_place, journal_at, journal_of, reader_of, committed_reader, state_of, committed}
 use Rattle.disk.specs.Sound.{journal_sound, unit_sound, holder_sound, order_sound, due_times, listed_sound, head_standing, record_sound}

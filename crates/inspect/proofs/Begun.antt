@@ -10,13 +10,13 @@ use lib.Dec.{eqb}
 use lib.ListN.{get_or}
 use Rattle.lists.specs.Basic.{from}
 use Rattle.lists.proofs.Basic.{from_step}
-use Rattle.log.specs.declared.place.Place.{Place}
-use Rattle.log.specs.Entry.{Entry, as_entry}
-use Rattle.log.specs.Card.{Content, Written, slot, segments_in}
-use Rattle.log.specs.Store.{home, tail, head_at}
-use Rattle.log.proofs.Within.{home-of-entry}
-use Rattle.log.proofs.LogStores.{going}
-use Rattle.log.specs.Cell.{Cell, member_in, entry_in}
+use Rattle.card_log.specs.declared.place.Place.{Place}
+use Rattle.card_log.specs.Entry.{Entry, as_entry}
+use Rattle.card_log.specs.Card.{Content, Written, slot, segments_in}
+use Rattle.card_log.specs.Store.{home, tail, head_at}
+use Rattle.card_log.proofs.Within.{home-of-entry}
+use Rattle.card_log.proofs.LogStores.{going}
+use Rattle.card_log.specs.Cell.{Cell, member_in, entry_in}
 use Rattle.disk.specs.Record.{Record, no_cell}
 use Rattle.disk.specs.Disk.{disk, queued_at, queued}
 use Rattle.disk.specs.Sound.{head_standing}

@@ -5,17 +5,17 @@ use mathlib.Core.List.{List, []}
 use Prim.Native.Nat.{ℕ, ◌-◌, ◌<◌}
 use native.Mathlib.Omega.{arith}
 use lib.ListN.{get_or}
-use Rattle.log.specs.Entry.{Entry}
-use Rattle.log.specs.Reader.{Reader}
-use Rattle.log.specs.Card.{Written, card_length, segments_in, sound, mounted}
-use Rattle.log.specs.Store.{opened, after_all, tail}
-use Rattle.log.specs.promises.Within.{Within}
-use Rattle.log.proofs.CardLength.{card-size}
-use Rattle.log.proofs.Segment.{Holds, Carries}
-use Rattle.log.proofs.Places.{used, used_le, after-slots, after-bytes}
-use Rattle.log.proofs.Flows.{end_of, tail-end}
-use Rattle.log.proofs.Stores.{Sane, sane-tail}
-use Rattle.log.proofs.Regain.{carries-read}
+use Rattle.card_log.specs.Entry.{Entry}
+use Rattle.card_log.specs.Reader.{Reader}
+use Rattle.card_log.specs.Card.{Written, card_length, segments_in, sound, mounted}
+use Rattle.card_log.specs.Store.{opened, after_all, tail}
+use Rattle.card_log.specs.promises.Within.{Within}
+use Rattle.card_log.proofs.CardLength.{card-size}
+use Rattle.card_log.proofs.Segment.{Holds, Carries}
+use Rattle.card_log.proofs.Places.{used, used_le, after-slots, after-bytes}
+use Rattle.card_log.proofs.Flows.{end_of, tail-end}
+use Rattle.card_log.proofs.Stores.{Sane, sane-tail}
+use Rattle.card_log.proofs.Regain.{carries-read}
 
 -- behind the entries that a segment holds
 within_held : (c : List ℕ) (n g : ℕ) (es : List (Entry Written)) → Holds c g es → Sane n (after_all (opened g) es) → Within (after_all (opened g) es)

@@ -9,15 +9,15 @@ use lib.ListN.{length}
 use Rattle.lists.specs.State.{map_state}
 use Rattle.lists.specs.promises.Tables.{Tables}
 use Rattle.lists.proofs.Basic.{and-true, each_at, leb-true, ltb-true, eqb-true, some_of}
-use Rattle.log.specs.Reader.{Reader, replay}
-use Rattle.log.specs.Card.{Written, card_length, segments_in, Outcome, sound, fault, walk_card}
-use Rattle.log.specs.promises.Location.{card_number}
-use Rattle.log.specs.promises.Within.{Within}
-use Rattle.log.specs.promises.Feed.{Memory}
-use Rattle.log.specs.promises.Walk.{Sounds}
-use Rattle.log.specs.declared.place.Place.{Place}
-use Rattle.log.proofs.Naturality.{map_reader}
-use Rattle.log.proofs.Locations.{sound-at, fault-at}
+use Rattle.card_log.specs.Reader.{Reader, replay}
+use Rattle.card_log.specs.Card.{Written, card_length, segments_in, Outcome, sound, fault, walk_card}
+use Rattle.card_log.specs.promises.Location.{card_number}
+use Rattle.card_log.specs.promises.Within.{Within}
+use Rattle.card_log.specs.promises.Feed.{Memory}
+use Rattle.card_log.specs.promises.Walk.{Sounds}
+use Rattle.card_log.specs.declared.place.Place.{Place}
+use Rattle.card_log.proofs.Naturality.{map_reader}
+use Rattle.card_log.proofs.Locations.{sound-at, fault-at}
 use Rattle.disk.specs.Record.{Record, shaped}
 use Rattle.disk.specs.Disk.{Disk, disk, reader_of, state_of, persistent, committed, view}
 use Rattle.disk.specs.Sound.{lengths_right, record_sound}

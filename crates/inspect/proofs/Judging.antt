@@ -15,11 +15,11 @@ use Rattle.lists.specs.State.{Row}
 use Rattle.lists.specs.InUse.{number_count, in_use, brings}
 use Rattle.lists.specs.Numbers.{all_numbers}
 use Rattle.lists.proofs.Basic.{from_step, from-none, from-shift, eqb-true, eqb-false, le-true, gt-false}
-use Rattle.log.specs.Raced.{Raced}
-use Rattle.log.specs.Entry.{member, raw, map_entry, legal, legal_change, as_change}
-use Rattle.log.specs.declared.entry.LogEntry.{LogEntry}
-use Rattle.log.specs.declared.entry.LogEntry.TheVariants.{Take, PutFirst, PutAfter, Write, DeleteBlock, DeleteList, Commit}
-use Rattle.log.specs.contracts.entry.LogEntry.{the_type}
+use Rattle.card_log.specs.Raced.{Raced}
+use Rattle.card_log.specs.Entry.{member, raw, map_entry, legal, legal_change, as_change}
+use Rattle.card_log.specs.declared.entry.LogEntry.{LogEntry}
+use Rattle.card_log.specs.declared.entry.LogEntry.TheVariants.{Take, PutFirst, PutAfter, Write, DeleteBlock, DeleteList, Commit}
+use Rattle.card_log.specs.contracts.entry.LogEntry.{the_type}
 use Rattle.disk.specs.Record.{Unit, Record, unit_at, is_open, holder_of, unit_count}
 use Rattle.disk.specs.Sound.{open_unit, holder_sound, order_sound}
 use Rattle.inspect.specs.promises.Clauses.{numbers_right, change_right, change_in, unit_right, units_right}

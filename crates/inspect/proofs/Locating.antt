@@ -16,14 +16,14 @@ use Rattle.lists.specs.Lookup.{content_of, next_after, list_nums, taken_after}
 use Rattle.lists.specs.promises.Tables.{Tables, IsBlock, IsList, OfShown, located_at}
 use Rattle.lists.proofs.Lookup.{lists-shown}
 use Rattle.lists.proofs.Naturality.{taken-map, placed-map, on_list-map, change-comp, apply_all-map, overlay-map, next_after-map, list_nums-map, content_of-map}
-use Rattle.log.specs.Raced.{Raced}
-use Rattle.log.specs.Entry.{map_entry, as_change}
-use Rattle.log.specs.Cell.{entry_in}
-use Rattle.log.specs.Reader.{Reader, replay}
-use Rattle.log.specs.Card.{Written, sound, card_length, walk_card}
-use Rattle.log.specs.promises.Location.{card_number, number_at, queue_location, journal_location}
-use Rattle.log.proofs.Naturality.{map_reader, entry-comp, replay-map}
-use Rattle.log.proofs.Locations.{content-queue, content-journal, sound-at}
+use Rattle.card_log.specs.Raced.{Raced}
+use Rattle.card_log.specs.Entry.{map_entry, as_change}
+use Rattle.card_log.specs.Cell.{entry_in}
+use Rattle.card_log.specs.Reader.{Reader, replay}
+use Rattle.card_log.specs.Card.{Written, sound, card_length, walk_card}
+use Rattle.card_log.specs.promises.Location.{card_number, number_at, queue_location, journal_location}
+use Rattle.card_log.proofs.Naturality.{map_reader, entry-comp, replay-map}
+use Rattle.card_log.proofs.Locations.{content-queue, content-journal, sound-at}
 use Rattle.disk.specs.Record.{no_cell, ring_place}
 use Rattle.disk.specs.Disk.{Disk, queued_at, queued, unit_of, journal_place, journal_at, journal_of, reader_of, committed_reader}
 use Rattle.inspect.specs.promises.Located.{contents, Located, queued_said, queued_here, queue_here, change_here, journal_here}

@@ -8,9 +8,9 @@ use Rattle.lists.specs.Basic.{all, from}
 use Rattle.lists.specs.State.{overlay}
 use Rattle.lists.specs.promises.Tables.{Tables}
 use Rattle.lists.proofs.Basic.{and-true, eqb-false, all_from, from_all}
-use Rattle.log.specs.Entry.{member, map_entry, raw, legal}
-use Rattle.log.specs.declared.place.Place.{Place}
-use Rattle.log.proofs.Naturality.{raw-map}
+use Rattle.card_log.specs.Entry.{member, map_entry, raw, legal}
+use Rattle.card_log.specs.declared.place.Place.{Place}
+use Rattle.card_log.proofs.Naturality.{raw-map}
 use Rattle.disk.specs.Record.{unit_at}
 use Rattle.answers.specs.declared.Refusal.{Refusal}
 use Rattle.answers.specs.declared.Refusal.TheVariants.{WrongLength, RecordUnsound, StreamClosed}

@@ -14,13 +14,13 @@ use Rattle.lists.specs.State.{State, apply, apply_all, overlay}
 use Rattle.lists.specs.promises.Tables.{Tables, ShowsAll, Ranged, Represents, Did, DidSome, of_kind}
 use Rattle.lists.proofs.Basic.{and-true, leb-true, from_step, from-none, all_from}
 use Rattle.lists.proofs.Represents.{did-apply, did-overlay}
-use Rattle.log.specs.Entry.{member, map_entry, raw, legal, legal_change, is_block, is_list, is_race, as_change}
-use Rattle.log.specs.Cell.{entry_in}
-use Rattle.log.specs.declared.entry.LogEntry.{LogEntry}
-use Rattle.log.specs.declared.entry.LogEntry.TheVariants.{Take, PutFirst, PutAfter, Write, DeleteBlock, DeleteList, Commit}
-use Rattle.log.proofs.Feeding.{fields_change}
-use Rattle.log.specs.promises.Location.{number_at, journal_location}
-use Rattle.log.specs.promises.Feed.{fields_of}
+use Rattle.card_log.specs.Entry.{member, map_entry, raw, legal, legal_change, is_block, is_list, is_race, as_change}
+use Rattle.card_log.specs.Cell.{entry_in}
+use Rattle.card_log.specs.declared.entry.LogEntry.{LogEntry}
+use Rattle.card_log.specs.declared.entry.LogEntry.TheVariants.{Take, PutFirst, PutAfter, Write, DeleteBlock, DeleteList, Commit}
+use Rattle.card_log.proofs.Feeding.{fields_change}
+use Rattle.card_log.specs.promises.Location.{number_at, journal_location}
+use Rattle.card_log.specs.promises.Feed.{fields_of}
 use Rattle.disk.specs.Record.{Unit, no_cell}
 use Rattle.disk.specs.Disk.{journal_place}
 use Rattle.inspect.specs.promises.Located.{change_here, journal_here}

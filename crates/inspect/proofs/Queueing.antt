@@ -7,11 +7,11 @@ use Prim.Native.Nat.{ℕ, ◌+◌, ◌-◌, ◌≤◌, ◌<◌}
 use native.Mathlib.Omega.{arith}
 use Rattle.lists.specs.Basic.{is_some, all, from}
 use Rattle.lists.proofs.Basic.{from_step, from-none}
-use Rattle.log.specs.Raced.{Raced}
-use Rattle.log.specs.Entry.{Entry, map_entry, raw, legal}
-use Rattle.log.specs.Reader.{Reader, read, replay}
-use Rattle.log.specs.promises.Location.{number_at, queue_location}
-use Rattle.log.specs.promises.Feed.{Memory, Keeps}
+use Rattle.card_log.specs.Raced.{Raced}
+use Rattle.card_log.specs.Entry.{Entry, map_entry, raw, legal}
+use Rattle.card_log.specs.Reader.{Reader, read, replay}
+use Rattle.card_log.specs.promises.Location.{number_at, queue_location}
+use Rattle.card_log.specs.promises.Feed.{Memory, Keeps}
 use Rattle.disk.specs.Record.{Record, ring_place}
 use Rattle.inspect.specs.promises.Located.{queued_said, queued_here, queue_said, queue_here}
 use Rattle.inspect.specs.promises.Clauses.{lawful, ReplayTo}

@@ -14,12 +14,12 @@ use Rattle.lists.proofs.Basic.{bind-some, from_step, from-none}
 use Rattle.lists.proofs.Apply.{apply_some}
 use Rattle.lists.proofs.Represents.{did-apply}
 use Rattle.lists.proofs.FreeRow.{last-free-shown}
-use Rattle.log.specs.Entry.{member, raw, legal, as_change}
-use Rattle.log.specs.Cell.{entry_in}
-use Rattle.log.specs.declared.entry.LogEntry.{LogEntry}
-use Rattle.log.proofs.Feeding.{fields_change}
-use Rattle.log.specs.promises.Location.{number_at, journal_location}
-use Rattle.log.specs.promises.Feed.{fields_of}
+use Rattle.card_log.specs.Entry.{member, raw, legal, as_change}
+use Rattle.card_log.specs.Cell.{entry_in}
+use Rattle.card_log.specs.declared.entry.LogEntry.{LogEntry}
+use Rattle.card_log.proofs.Feeding.{fields_change}
+use Rattle.card_log.specs.promises.Location.{number_at, journal_location}
+use Rattle.card_log.specs.promises.Feed.{fields_of}
 use Rattle.disk.specs.Record.{Unit, Record, no_cell}
 use Rattle.disk.specs.Disk.{journal_place}
 use Rattle.disk.specs.promises.Listing.{Reorders, relisted_all, Relists}

@@ -9,8 +9,8 @@ use Rattle.lists.specs.Numbers.{all_numbers}
 use Rattle.lists.specs.State.{Row}
 use Rattle.lists.specs.promises.Tables.{Tables, OfShown}
 use Rattle.lists.proofs.Lookup.{lists-shown}
-use Rattle.log.specs.Reader.{Reader, replay}
-use Rattle.log.specs.promises.Feed.{Memory, Keeps}
+use Rattle.card_log.specs.Reader.{Reader, replay}
+use Rattle.card_log.specs.promises.Feed.{Memory, Keeps}
 use Rattle.disk.specs.Record.{Record}
 use Rattle.disk.specs.Disk.{disk, queued}
 use Rattle.disk.specs.Sound.{holder_sound, listed_sound, head_standing}

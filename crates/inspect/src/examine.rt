@@ -1,10 +1,10 @@
 // Questions 1 and 3, by one walk of the log.
 ghost use Rattle.std.specs.Prelude.{◌≡◌, true, cond, List, ℕ, ◌≤◌, ◌<◌, ◌*◌, length};
 ghost use Rattle.lists.specs.promises.Tables.{tables_in};
-ghost use Rattle.log.specs.Card.{card_length, segments_in};
-ghost use Rattle.log.specs.Store.{tail};
-ghost use Rattle.log.specs.promises.Within.{Within};
-ghost use Rattle.log.specs.promises.Feed.{memory};
+ghost use Rattle.card_log.specs.Card.{card_length, segments_in};
+ghost use Rattle.card_log.specs.Store.{tail};
+ghost use Rattle.card_log.specs.promises.Within.{Within};
+ghost use Rattle.card_log.specs.promises.Feed.{memory};
 ghost use Rattle.disk.specs.Record.{record_in};
 ghost use Rattle.disk.specs.Disk.{disk_in};
 ghost use Rattle.inspect.specs.promises.Clauses.{Settles, Settled};
@@ -17,9 +17,9 @@ use super::listed::listed_right;
 use super::numbers::numbers_right;
 use super::queue::enter_queue;
 use super::units::units_right;
+use card_log::place::Place;
+use card_log::walk::{Walked, walk};
 use disk::record::RECORD;
-use log::place::Place;
-use log::walk::{Walked, walk};
 
 // A sound disk: the place behind its log.
 #[derive(Drop)]

@@ -1,16 +1,16 @@
 // The stores of the queue's head that are done.
 ghost use Rattle.std.specs.Prelude.{◌≡◌, true, List, ℕ, ◌≤◌, ◌<◌, length};
-ghost use Rattle.log.specs.Card.{card_length, segments_in};
-ghost use Rattle.log.specs.Store.{tail};
-ghost use Rattle.log.specs.promises.Within.{Within};
+ghost use Rattle.card_log.specs.Card.{card_length, segments_in};
+ghost use Rattle.card_log.specs.Store.{tail};
+ghost use Rattle.card_log.specs.promises.Within.{Within};
 ghost use Rattle.disk.specs.Record.{record_in};
 ghost use Rattle.disk.specs.Disk.{disk_in, queued};
 ghost use Rattle.disk.specs.Sound.{head_standing};
 
+use card_log::head::is_begun;
+use card_log::layout::{SEGMENT, SLOT};
+use card_log::place::{Home, Place, home_of};
 use disk::record::{RECORD, done, head, len, queue_entry};
-use log::head::is_begun;
-use log::layout::{SEGMENT, SLOT};
-use log::place::{Home, Place, home_of};
 
 // Do they stand on the card, `place` being the place behind its log?
 pub fn head_stands(card: &[u8], queue_data: &[u8], rec: &[u8; RECORD], place: Place) -> bool

@@ -7,9 +7,9 @@ ghost use Rattle.lists.specs.promises.Tables.{tables_in, OfShown};
 ghost use Rattle.disk.specs.Record.{record_in};
 ghost use Rattle.disk.specs.Sound.{holder_sound};
 
+use card_log::entry::LogEntry;
 use disk::record::{NUMBERS, RECORD, Record, holder_of, opened};
 use lists::tables::{is_placed, is_taken};
-use log::entry::LogEntry;
 
 // Is the block on a list, or, behind the blocks, the list taken?
 pub fn is_used(nodes: &[u8; 1280], number: u8) -> bool

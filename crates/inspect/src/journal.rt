@@ -3,19 +3,19 @@ ghost use Rattle.std.specs.Prelude.{◌≡◌, true, ◌≤◌};
 ghost use Rattle.lists.specs.Basic.{all, from};
 ghost use Rattle.lists.specs.Change.{map_change};
 ghost use Rattle.lists.specs.promises.Tables.{tables_in};
-ghost use Rattle.log.specs.Entry.{legal, raw, member, as_change};
-ghost use Rattle.log.specs.promises.Location.{number_at};
+ghost use Rattle.card_log.specs.Entry.{legal, raw, member, as_change};
+ghost use Rattle.card_log.specs.promises.Location.{number_at};
 ghost use Rattle.disk.specs.Record.{record_in, unit_at};
 ghost use Rattle.disk.specs.promises.Listing.{Padded};
 ghost use Rattle.inspect.specs.promises.Clauses.{Overlays, change_in};
 ghost use Rattle.inspect.specs.promises.Relisting.{RelistsChange, RelistsJournal};
 
+use card_log::entry::LogEntry;
+use card_log::feed::fields_of;
+use card_log::location::{JOURNALS_AT, number_of};
 use disk::free::relist;
 use disk::record::{RECORD, Unit, journal_entry, journal_len};
 use lists::tables::{act, last_free};
-use log::entry::LogEntry;
-use log::feed::fields_of;
-use log::location::{JOURNALS_AT, number_of};
 
 // Unit u's changes in order; one that does not apply is skipped. Did every one apply?
 pub fn enter_journal(nodes: &mut [u8; 1280], rec: &[u8; RECORD], u: usize) -> bool

@@ -4,8 +4,8 @@ ghost use Rattle.disk.specs.Record.{Record};
 ghost use Rattle.disk.specs.Disk.{disk};
 ghost use Rattle.disk.specs.Sound.{lengths_right};
 
-use log::legal::both;
-use log::mount::is_card;
+use card_log::legal::both;
+use card_log::mount::is_card;
 
 const QUEUE_DATA: usize = 8192;
 

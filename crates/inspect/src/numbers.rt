@@ -5,8 +5,8 @@ ghost use Rattle.disk.specs.Record.{record_in};
 ghost use Rattle.disk.specs.Sound.{order_sound};
 ghost use Rattle.inspect.specs.promises.Clauses.{numbers_right};
 
+use card_log::legal::both;
 use disk::record::{NUMBERS, RECORD, Record, head, len, listed, listed_at};
-use log::legal::both;
 
 // May a place of the order hold this: a number if it is one of the listed places, else 0?
 fn place_right(full: bool, number: u8) -> bool

@@ -1,14 +1,14 @@
 // The queue, fed behind the log to the reader that lent tables keep.
 ghost use Rattle.std.specs.Prelude.{◌*◌, ◌≤◌, ◌<◌};
 ghost use Rattle.lists.specs.promises.Tables.{tables_in};
-ghost use Rattle.log.specs.promises.Feed.{memory};
+ghost use Rattle.card_log.specs.promises.Feed.{memory};
 ghost use Rattle.disk.specs.Record.{record_in};
 ghost use Rattle.inspect.specs.promises.Clauses.{Replays};
 
+use card_log::feed::{Fed, feed};
+use card_log::legal::is_legal;
+use card_log::location::QUEUE_AT;
 use disk::record::{RECORD, Record, head, len, queue_entry};
-use log::feed::{Fed, feed};
-use log::legal::is_legal;
-use log::location::QUEUE_AT;
 
 // Is the queue acceptable behind the log? If so the tables show the committed state.
 pub fn enter_queue(

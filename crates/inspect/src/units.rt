@@ -1,15 +1,15 @@
 // The units and their journals.
 ghost use Rattle.std.specs.Prelude.{◌≡◌, ◌≤◌};
-ghost use Rattle.log.specs.Entry.{as_change};
+ghost use Rattle.card_log.specs.Entry.{as_change};
 ghost use Rattle.disk.specs.Record.{record_in, unit_at};
 ghost use Rattle.inspect.specs.promises.Clauses.{change_right, unit_right, units_right};
 ghost use Rattle.disk.specs.Sound.{open_unit};
 
+use card_log::entry::LogEntry;
+use card_log::legal::is_member;
 use disk::record::{
     RECORD, Record, Unit, holder_of, journal_entry, journal_len, list_number, opened, window,
 };
-use log::entry::LogEntry;
-use log::legal::is_member;
 
 // May the entry stand in unit u's journal?
 fn entry_right(rec: &[u8; RECORD], u: u8, e: LogEntry) -> bool

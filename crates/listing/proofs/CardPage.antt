@@ -3,10 +3,10 @@ use mathlib.Core.Path.{◌≡◌}
 use mathlib.Core.Bool.{true, false}
 use mathlib.Core.List.{List, []}
 use Prim.Native.Nat.{ℕ}
-use Rattle.log.specs.Card.{sound, fault, card_length, walk_card}
-use Rattle.log.specs.Reader.{Reader}
-use Rattle.log.specs.promises.Location.{card_number, content_at}
-use Rattle.log.proofs.Locations.{sound-at, fault-at}
+use Rattle.card_log.specs.Card.{sound, fault, card_length, walk_card}
+use Rattle.card_log.specs.Reader.{Reader}
+use Rattle.card_log.specs.promises.Location.{card_number, content_at}
+use Rattle.card_log.proofs.Locations.{sound-at, fault-at}
 use Rattle.listing.specs.Listing.{refusal_line}
 use Rattle.listing.specs.Page.{page_text, outcome_page, card_page}
 use Rattle.listing.proofs.Pages.{page-map}

@@ -13,10 +13,10 @@ use Rattle.lists.specs.State.{Row, map_row}
 use Rattle.lists.specs.Lookup.{content_of}
 use Rattle.lists.proofs.Basic.{and-true, leb-true, le-true, from-shift}
 use Rattle.lists.proofs.Naturality.{taken-map, placed-map, blocks_of-map, content_of-map}
-use Rattle.log.specs.Card.{sound, fault, card_length, walk_card}
-use Rattle.log.specs.Reader.{Reader}
-use Rattle.log.specs.promises.Location.{card_number, content_at}
-use Rattle.log.proofs.Locations.{sound-at, fault-at}
+use Rattle.card_log.specs.Card.{sound, fault, card_length, walk_card}
+use Rattle.card_log.specs.Reader.{Reader}
+use Rattle.card_log.specs.promises.Location.{card_number, content_at}
+use Rattle.card_log.proofs.Locations.{sound-at, fault-at}
 use Rattle.listing.specs.Listing.{listable, refusal_line, sum_of, head_line, list_part, list_lines, content_text, block_part, block_lines, outcome_lines, listing}
 use Rattle.listing.specs.promises.Shown.{sum_at}
 

@@ -15,9 +15,9 @@ use Rattle.lists.specs.Basic.{from, joined}
 use Rattle.lists.specs.State.{Row, taken, placed}
 use Rattle.lists.specs.Lookup.{blocks_of, content_of}
 use Rattle.lists.proofs.Basic.{from-snoc, ge-false}
-use Rattle.log.specs.Card.{slot, count}
-use Rattle.log.specs.promises.Location.{bytes_at, content_at}
-use Rattle.log.proofs.Copying.{at-card}
+use Rattle.card_log.specs.Card.{slot, count}
+use Rattle.card_log.specs.promises.Location.{bytes_at, content_at}
+use Rattle.card_log.proofs.Copying.{at-card}
 use Rattle.text.specs.Decimal.{decimal}
 use Rattle.listing.specs.Listing.{total, numbers, list_line, list_part, content_text, block_line, block_part}
 use Rattle.listing.specs.promises.Shown.{sum_at}

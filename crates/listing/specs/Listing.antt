@@ -4,7 +4,7 @@ use Rattle.std.proofs.Math.Option.{Option, none, some}
 use Rattle.lists.specs.Basic.{from, joined}
 use Rattle.lists.specs.State.{Row, taken, placed}
 use Rattle.lists.specs.Lookup.{content_of, blocks_of}
-use Rattle.log.specs.Card.{Written, Outcome, sound, fault, segment_bytes, segments_in, count, mounted}
+use Rattle.card_log.specs.Card.{Written, Outcome, sound, fault, segment_bytes, segments_in, count, mounted}
 use Rattle.text.specs.Decimal.{decimal}
 
 -- "reads a card on standard input (up to 16 segments; longer is refused 1)"

@@ -4,7 +4,7 @@ use Rattle.std.proofs.Math.Seq.{slice}
 use Rattle.lists.specs.Basic.{from, joined}
 use Rattle.lists.specs.State.{Row, taken}
 use Rattle.lists.specs.Lookup.{blocks_of}
-use Rattle.log.specs.Card.{Written, Outcome, sound, fault, card_length, mounted}
+use Rattle.card_log.specs.Card.{Written, Outcome, sound, fault, card_length, mounted}
 use Rattle.text.specs.Columns.{blanks, right_aligned}
 use Rattle.listing.specs.Listing.{refusal_line}
 

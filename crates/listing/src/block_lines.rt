@@ -5,10 +5,10 @@ ghost use Rattle.text.specs.Written.{Puts};
 ghost use Rattle.listing.specs.Listing.{total, content_text, block_part, block_lines};
 ghost use Rattle.listing.specs.promises.Shown.{sum_at};
 
+use card_log::entry::LogEntry;
+use card_log::layout::SLOT;
+use card_log::location::{QUEUE_AT, RACE};
 use lists::tables::{UNWRITTEN, is_placed, location_of};
-use log::entry::LogEntry;
-use log::layout::SLOT;
-use log::location::{QUEUE_AT, RACE};
 use text::decimal::put_decimal;
 use text::line::part;
 use text::put::{put_byte, put_bytes};

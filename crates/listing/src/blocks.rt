@@ -5,8 +5,8 @@ ghost use Rattle.lists.specs.Lookup.{blocks_of};
 ghost use Rattle.lists.specs.promises.Tables.{tables_in, OfShown};
 ghost use Rattle.listing.specs.promises.Gathered.{Holds};
 
+use card_log::entry::LogEntry;
 use lists::tables::block_after;
-use log::entry::LogEntry;
 
 // No list has more blocks.
 pub const BLOCKS: usize = LogEntry::BLOCKS as usize;

@@ -4,7 +4,7 @@ ghost use Rattle.text.specs.Written.{Puts};
 ghost use Rattle.listing.specs.Listing.{head_line};
 ghost use Rattle.listing.specs.Listing.{used as Listing·used, entries as Listing·entries};
 
-use log::layout::{COUNT_AT, SEGMENT};
+use card_log::layout::{COUNT_AT, SEGMENT};
 use text::decimal::put_decimal;
 use text::put::{put_byte, put_bytes};
 

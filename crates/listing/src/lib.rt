@@ -13,8 +13,8 @@ ghost use Rattle.listing.specs.Listing.{listing as Listing·listing};
 ghost use Rattle.listing.specs.Listing.{listable};
 
 use crate::state_lines::{LENGTH, LOG, put_refusal, put_state};
-use log::layout::SEGMENT;
-use log::walk::{Walked, walk};
+use card_log::layout::SEGMENT;
+use card_log::walk::{Walked, walk};
 
 // The most segments that are listed.
 const SEGMENTS: usize = 16;

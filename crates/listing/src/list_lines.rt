@@ -5,8 +5,8 @@ ghost use Rattle.text.specs.Written.{Puts};
 ghost use Rattle.listing.specs.Listing.{numbers, list_line, list_part, list_lines};
 
 use crate::blocks::{BLOCKS, blocks_of};
+use card_log::entry::LogEntry;
 use lists::tables::is_taken;
-use log::entry::LogEntry;
 use text::decimal::put_decimal;
 use text::line::part;
 use text::put::{put_byte, put_bytes};

@@ -8,10 +8,10 @@ ghost use Rattle.listing.specs.Page.{list_page, page_text, card_page};
 use crate::blocks::{BLOCKS, blocks_of};
 use crate::page_line::{LINE, line_count, put_lines};
 use crate::state_lines::{LENGTH, LOG, put_refusal};
+use card_log::entry::LogEntry;
+use card_log::mount::is_card;
+use card_log::walk::{Walked, walk};
 use lists::tables::is_taken;
-use log::entry::LogEntry;
-use log::mount::is_card;
-use log::walk::{Walked, walk};
 use text::line::part;
 
 // The most bytes that a page has: 16 lists and 64 blocks make 21 lines at most.

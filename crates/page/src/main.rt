@@ -1,11 +1,11 @@
 // Reads a card on standard input and prints the page of its persistent state: `page < CARD`.
+use card_log::layout::SEGMENT;
+use card_log::mount::SEGMENTS;
 use files::input::{is_plain, read_input};
 use files::message::print;
 use files::transfer::Read;
 use libc::STDOUT_FILENO;
 use listing::page::{PAGE, card_page};
-use log::layout::SEGMENT;
-use log::mount::SEGMENTS;
 use text::line::part;
 
 // The longest card, and one byte more, which tells a longer one.

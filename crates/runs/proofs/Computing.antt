@@ -5,12 +5,12 @@ use Rattle.lists.specs.Change.{map_change, carried_by}
 use Rattle.lists.specs.State.{taken, placed, on_list, applies, changed, frees, free_after, apply, apply_all, overlay}
 use Rattle.lists.specs.Numbers.{all_numbers}
 use Rattle.lists.specs.InUse.{in_use}
-use Rattle.log.specs.Entry.{map_entry, carried, race_bit, race_byte, change_bytes, encode, raw, entry_length, legal_change, legal, change_of, checked, entry_of, decode, as_change, as_entry}
-use Rattle.log.specs.Cell.{cell_of, member_in, kind_in, entry_in}
-use Rattle.log.specs.Reader.{last_of, read, replay}
-use Rattle.log.specs.Card.{slot, card_slot, card_written, card_length, count, segment_entries, used_by, is_next, entry_at, items_of, segment_items, after_empty, items, walk, walk_card, mounted, splice}
-use Rattle.log.specs.Store.{do_stores, standing, format_stores, opened, after, after_all, fits, home, behind, behind_all, tail, stores_from, data_of, entry_stores, head_at}
-use Rattle.log.specs.Flush.{store_next, next_store, flush_from}
+use Rattle.card_log.specs.Entry.{map_entry, carried, race_bit, race_byte, change_bytes, encode, raw, entry_length, legal_change, legal, change_of, checked, entry_of, decode, as_change, as_entry}
+use Rattle.card_log.specs.Cell.{cell_of, member_in, kind_in, entry_in}
+use Rattle.card_log.specs.Reader.{last_of, read, replay}
+use Rattle.card_log.specs.Card.{slot, card_slot, card_written, card_length, count, segment_entries, used_by, is_next, entry_at, items_of, segment_items, after_empty, items, walk, walk_card, mounted, splice}
+use Rattle.card_log.specs.Store.{do_stores, standing, format_stores, opened, after, after_all, fits, home, behind, behind_all, tail, stores_from, data_of, entry_stores, head_at}
+use Rattle.card_log.specs.Flush.{store_next, next_store, flush_from}
 use Rattle.disk.specs.Record.{fresh_unit, blank_record, fresh_record, listed_in, with_listed, shaped, released}
 use Rattle.disk.specs.Disk.{queued_at, queued, unit_of, journal_at, journal_of, reader_of, committed_reader, state_of, persistent, committed, view, listing}
 use Rattle.disk.specs.Sound.{lengths_right, open_unit, journal_sound, unit_sound, holder_sound, order_sound, due_times, listed_sound, head_standing, record_sound}

@@ -11,7 +11,7 @@ use Rattle.lists.specs.Basic.{from, joined}
 use Rattle.lists.specs.Change.{Change, take_list, put_first}
 use Rattle.lists.specs.State.{State, state, row, block}
 use Rattle.lists.specs.Takings.{undeleted, in_force}
-use Rattle.log.specs.Card.{Written}
+use Rattle.card_log.specs.Card.{Written}
 use Rattle.disk.specs.Record.{blank_record, listed_in, with_flow}
 use Rattle.disk.specs.Disk.{Disk, view}
 use Rattle.disk.specs.Call.{new_list, new_block, delete_list, inventory, Call, mount, on_stream, in_view, begin, end, flush}

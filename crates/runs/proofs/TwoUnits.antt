@@ -11,8 +11,8 @@ use Rattle.lists.specs.Basic.{from}
 use Rattle.lists.specs.State.{Block, Row, block}
 use Rattle.lists.specs.Lookup.{list_nums}
 use Rattle.lists.specs.Touched.{lists_with, touched_by, touched, apart, row_of}
-use Rattle.log.specs.Raced.{raced}
-use Rattle.log.specs.Card.{Written}
+use Rattle.card_log.specs.Raced.{raced}
+use Rattle.card_log.specs.Card.{Written}
 use Rattle.disk.specs.Disk.{Disk, journal_of, committed}
 use Rattle.disk.specs.Call.{new_list, new_block, write_block, delete_block, format, on_stream, begin, end}
 use Rattle.disk.specs.Questions.{queue_room, refusal}

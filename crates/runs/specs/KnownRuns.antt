@@ -2,9 +2,9 @@
 -- row's calls leave says so by that disk's name.
 use Rattle.std.specs.Prelude.{◌≡◌, List, [], ◌∷◌, ◌++◌, map, ℕ, length, take, drop, replicate}
 use Rattle.lists.specs.Basic.{from, joined}
-use Rattle.log.specs.Entry.{Entry, encode, raw}
-use Rattle.log.specs.Card.{Content, Written, count_offset}
-use Rattle.log.specs.Flush.{Ending, drained, spent}
+use Rattle.card_log.specs.Entry.{Entry, encode, raw}
+use Rattle.card_log.specs.Card.{Content, Written, count_offset}
+use Rattle.card_log.specs.Flush.{Ending, drained, spent}
 use Rattle.disk.specs.Record.{blank_record, with_flow}
 use Rattle.disk.specs.Disk.{Disk, queued}
 use Rattle.disk.specs.Call.{new_list, new_block, write_block, delete_block, delete_list, read_block, block_after, inventory, Call, format, mount, conflict_count, on_stream, in_view, begin, end, flush}

@@ -4,11 +4,11 @@ use Rattle.std.proofs.Math.Option.{Option, none, some}
 use Rattle.lists.specs.Change.{Change, del_block, del_list}
 use Rattle.lists.specs.State.{Row, State, apply}
 use Rattle.lists.specs.promises.Tables.{Tables, ShowsAll}
-use Rattle.log.specs.declared.entry.LogEntry.{LogEntry}
-use Rattle.log.specs.declared.entry.LogEntry.TheVariants.{Take, PutFirst, PutAfter, Write, DeleteBlock, DeleteList, Commit}
-use Rattle.log.specs.Entry.{as_entry}
-use Rattle.log.specs.Cell.{cell_of}
-use Rattle.log.specs.Card.{slot_bytes, splice}
+use Rattle.card_log.specs.declared.entry.LogEntry.{LogEntry}
+use Rattle.card_log.specs.declared.entry.LogEntry.TheVariants.{Take, PutFirst, PutAfter, Write, DeleteBlock, DeleteList, Commit}
+use Rattle.card_log.specs.Entry.{as_entry}
+use Rattle.card_log.specs.Cell.{cell_of}
+use Rattle.card_log.specs.Card.{slot_bytes, splice}
 use Rattle.disk.specs.Record.{Record, ring_place, unit_at, appended, journal_grown}
 use Rattle.disk.specs.promises.Listing.{relisted_by}
 use Rattle.answers.specs.declared.Reply.{Reply}

@@ -5,10 +5,10 @@ use Rattle.lists.specs.Basic.{is_some, all, from}
 use Rattle.lists.specs.Change.{map_change}
 use Rattle.lists.specs.State.{Row, State, state, apply_all}
 use Rattle.lists.specs.promises.Tables.{Tables, ShowsAll}
-use Rattle.log.specs.declared.entry.LogEntry.{LogEntry}
-use Rattle.log.specs.Raced.{with_body}
-use Rattle.log.specs.Card.{slot}
-use Rattle.log.specs.Entry.{member, raw, legal, as_change}
+use Rattle.card_log.specs.declared.entry.LogEntry.{LogEntry}
+use Rattle.card_log.specs.Raced.{with_body}
+use Rattle.card_log.specs.Card.{slot}
+use Rattle.card_log.specs.Entry.{member, raw, legal, as_change}
 use Rattle.disk.specs.Record.{Record, unit_at, listed_in, unit_turned, releasing, conflict_counted}
 use Rattle.answers.specs.declared.Reply.{Reply}
 use Rattle.answers.specs.declared.Reply.TheVariants.{Accepted, Refused}

@@ -1,13 +1,13 @@
 -- What a flush asks for and promises, entry by entry: its functions do the stores of one entry, of the queue's head, and of the queue.
 use Rattle.std.specs.Prelude.{◌≡◌, true, List, [], ◌∷◌, ℕ, ◌+◌, ◌-◌, ◌≤◌, ◌<◌, length, drop}
 use Rattle.std.proofs.Math.Option.{some}
-use Rattle.log.specs.declared.place.Place.{Place}
-use Rattle.log.specs.Entry.{Entry}
-use Rattle.log.specs.Card.{Written, segments_in}
-use Rattle.log.specs.Store.{do_stores, after, home, tail, entry_stores}
-use Rattle.log.specs.Flush.{Flow, full, spent, flush_from}
-use Rattle.log.specs.promises.Within.{Within}
-use Rattle.log.specs.Turns.{AllInTurn}
+use Rattle.card_log.specs.declared.place.Place.{Place}
+use Rattle.card_log.specs.Entry.{Entry}
+use Rattle.card_log.specs.Card.{Written, segments_in}
+use Rattle.card_log.specs.Store.{do_stores, after, home, tail, entry_stores}
+use Rattle.card_log.specs.Flush.{Flow, full, spent, flush_from}
+use Rattle.card_log.specs.promises.Within.{Within}
+use Rattle.card_log.specs.Turns.{AllInTurn}
 use Rattle.disk.specs.Record.{Record}
 use Rattle.answers.specs.declared.FlushReply.{FlushReply}
 use Rattle.disk.specs.Disk.{disk, queued_at}

@@ -4,9 +4,9 @@ use Rattle.std.proofs.Math.Option.{Option, some}
 use Rattle.lists.specs.Basic.{is_some, or_else}
 use Rattle.lists.specs.InUse.{list_number}
 use Rattle.lists.specs.State.{Row, taken, on_list}
-use Rattle.log.specs.declared.entry.LogEntry.{LogEntry}
-use Rattle.log.specs.declared.entry.LogEntry.TheVariants.{Take, PutFirst, PutAfter}
-use Rattle.log.specs.Entry.{is_list}
+use Rattle.card_log.specs.declared.entry.LogEntry.{LogEntry}
+use Rattle.card_log.specs.declared.entry.LogEntry.TheVariants.{Take, PutFirst, PutAfter}
+use Rattle.card_log.specs.Entry.{is_list}
 use Rattle.disk.specs.Record.{Record, listed_in, holding}
 use Rattle.answers.specs.declared.NumberReply.{NumberReply}
 use Rattle.answers.specs.declared.NumberReply.TheVariants.{Number, Refused}

@@ -1,6 +1,6 @@
 -- The record's bytes with a cell stored in them.
 use Rattle.std.specs.Prelude.{List, ℕ, ◌+◌, set}
-use Rattle.log.specs.Cell.{Cell}
+use Rattle.card_log.specs.Cell.{Cell}
 
 -- the four bytes of a cell, from byte i on
 abbrev pub cell_set : List ℕ → ℕ → Cell → List ℕ

@@ -5,9 +5,9 @@ use Rattle.lists.specs.Change.{Change, map_change}
 use Rattle.lists.specs.State.{Row, changed, frees, free_after}
 use Rattle.lists.specs.InUse.{number_count, brings}
 use Rattle.lists.specs.promises.Tables.{Tables, ShowsWith, OfShownAll, last_or0}
-use Rattle.log.specs.Raced.{Raced}
-use Rattle.log.specs.Entry.{as_change}
-use Rattle.log.specs.declared.entry.LogEntry.{LogEntry}
+use Rattle.card_log.specs.Raced.{Raced}
+use Rattle.card_log.specs.Entry.{as_change}
+use Rattle.card_log.specs.declared.entry.LogEntry.{LogEntry}
 use Rattle.disk.specs.Record.{Record, listed_in, padded, with_tally, with_listed}
 
 -- another number in place k; so many listed

@@ -1,12 +1,12 @@
 -- What a listing asks for and promises, entry by entry: its functions list the stores of one entry, of the queue's head, and of the queue.
 use Rattle.std.specs.Prelude.{◌≡◌, true, List, ◌∷◌, map, ℕ, ◌+◌, ◌-◌, ◌≤◌, ◌<◌, length, take, drop, get_or}
 use Rattle.std.proofs.lemmas.List.Edits.{sets}
-use Rattle.log.specs.declared.place.Place.{Place}
-use Rattle.log.specs.Entry.{Entry}
-use Rattle.log.specs.Card.{Written}
-use Rattle.log.specs.Store.{Store, fits, entry_stores}
-use Rattle.log.specs.Flush.{ahead}
-use Rattle.log.specs.promises.Within.{Within}
+use Rattle.card_log.specs.declared.place.Place.{Place}
+use Rattle.card_log.specs.Entry.{Entry}
+use Rattle.card_log.specs.Card.{Written}
+use Rattle.card_log.specs.Store.{Store, fits, entry_stores}
+use Rattle.card_log.specs.Flush.{ahead}
+use Rattle.card_log.specs.promises.Within.{Within}
 use Rattle.driver.specs.Stores.{word}
 use Rattle.driver.specs.declared.queue.Listed.{Listed}
 use Rattle.driver.specs.declared.queue.Listed.TheVariants.{Ended, Behind}

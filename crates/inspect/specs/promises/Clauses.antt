@@ -7,11 +7,11 @@ use Rattle.lists.specs.State.{Row, State, apply_all, overlay}
 use Rattle.lists.specs.InUse.{brings}
 use Rattle.lists.specs.Numbers.{all_numbers}
 use Rattle.lists.specs.promises.Tables.{Tables, ShowsAll}
-use Rattle.log.specs.Raced.{Raced}
-use Rattle.log.specs.Entry.{Entry, member, raw, legal, as_change}
-use Rattle.log.specs.Cell.{entry_in}
-use Rattle.log.specs.Reader.{Reader, replay}
-use Rattle.log.specs.promises.Feed.{Memory, Keeps}
+use Rattle.card_log.specs.Raced.{Raced}
+use Rattle.card_log.specs.Entry.{Entry, member, raw, legal, as_change}
+use Rattle.card_log.specs.Cell.{entry_in}
+use Rattle.card_log.specs.Reader.{Reader, replay}
+use Rattle.card_log.specs.promises.Feed.{Memory, Keeps}
 use Rattle.disk.specs.Record.{Unit, Record, no_cell, unit_at, is_open, queue_places, journal_places, unit_count, window_count}
 use Rattle.disk.specs.Disk.{disk, queued}
 use Rattle.disk.specs.Sound.{holder_sound, order_sound, listed_sound, head_standing}

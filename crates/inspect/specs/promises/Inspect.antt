@@ -3,9 +3,9 @@ use Rattle.std.specs.Prelude.{◌≡◌, Bool, true, false, cond, [], ◌∷◌,
 use Rattle.lists.specs.Basic.{is_some, all, each}
 use Rattle.lists.specs.Numbers.{all_numbers}
 use Rattle.lists.specs.promises.Tables.{Tables}
-use Rattle.log.specs.Entry.{raw, legal}
-use Rattle.log.specs.Store.{tail}
-use Rattle.log.specs.declared.place.Place.{Place}
+use Rattle.card_log.specs.Entry.{raw, legal}
+use Rattle.card_log.specs.Store.{tail}
+use Rattle.card_log.specs.declared.place.Place.{Place}
 use Rattle.disk.specs.Disk.{Disk, queued, committed_reader, committed, view}
 use Rattle.disk.specs.Sound.{lengths_right, holder_sound, listed_sound, head_standing, record_sound}
 use Rattle.disk.specs.Questions.{stream_open, view_open, first_no}

@@ -4,11 +4,11 @@ use Rattle.lists.specs.Basic.{from}
 use Rattle.lists.specs.Change.{Change, map_change}
 use Rattle.lists.specs.State.{State, map_state}
 use Rattle.lists.specs.promises.Tables.{Tables, ShowsAll}
-use Rattle.log.specs.Raced.{Raced}
-use Rattle.log.specs.Entry.{Entry, map_entry, as_entry, as_change}
-use Rattle.log.specs.Cell.{member_in, entry_in}
-use Rattle.log.specs.Card.{Written}
-use Rattle.log.specs.promises.Location.{content_at, number_at, queue_location, journal_location}
+use Rattle.card_log.specs.Raced.{Raced}
+use Rattle.card_log.specs.Entry.{Entry, map_entry, as_entry, as_change}
+use Rattle.card_log.specs.Cell.{member_in, entry_in}
+use Rattle.card_log.specs.Card.{Written}
+use Rattle.card_log.specs.promises.Location.{content_at, number_at, queue_location, journal_location}
 use Rattle.disk.specs.Record.{Unit, Record, no_cell, ring_place}
 use Rattle.disk.specs.Disk.{Disk, journal_place}
 

@@ -12,11 +12,11 @@ use Rattle.lists.proofs.Basic.{eqb-false, eq-true}
 use Rattle.lists.proofs.Apply.{apply_some}
 use Rattle.lists.proofs.FreeRow.{last-free-shown}
 use Rattle.lists.proofs.Represents.{did-apply}
-use Rattle.log.specs.Raced.{Raced}
-use Rattle.log.specs.Entry.{member, map_entry, raw, legal, legal_change, as_change}
-use Rattle.log.specs.declared.entry.LogEntry.{LogEntry}
-use Rattle.log.specs.declared.entry.LogEntry.TheVariants.{Take, PutFirst, PutAfter, Write, DeleteBlock, DeleteList, Commit}
-use Rattle.log.proofs.Feeding.{fields_change}
+use Rattle.card_log.specs.Raced.{Raced}
+use Rattle.card_log.specs.Entry.{member, map_entry, raw, legal, legal_change, as_change}
+use Rattle.card_log.specs.declared.entry.LogEntry.{LogEntry}
+use Rattle.card_log.specs.declared.entry.LogEntry.TheVariants.{Take, PutFirst, PutAfter, Write, DeleteBlock, DeleteList, Commit}
+use Rattle.card_log.proofs.Feeding.{fields_change}
 use Rattle.disk.specs.Record.{Record, record_in}
 use Rattle.disk.specs.promises.Listing.{relisted_by, Relists}
 use Rattle.calls.specs.promises.Adds.{deletion, relisted_on}

@@ -7,7 +7,7 @@ use borrow.Author.Rules.{rules}
 use Rattle.calls.proofs.delete_block.delete_placed.Statement.{statement}
 use Rattle.lists.specs.Change.{del_block, map_change}
 use Rattle.lists.specs.State.{placed, applies, state}
-use Rattle.log.specs.Entry.{is_block, as_change, map_entry, raw, legal, legal_change}
+use Rattle.card_log.specs.Entry.{is_block, as_change, map_entry, raw, legal, legal_change}
 use Rattle.disk.specs.Record.{record_in}
 use Rattle.answers.specs.declared.Refusal.TheVariants.{OutOfRange, BlockNotPlaced}
 use Rattle.answers.specs.Answers.{number}

@@ -7,7 +7,7 @@ use borrow.Author.Rules.{rules}
 use Rattle.calls.proofs.delete_list.delete_taken.Statement.{statement}
 use Rattle.lists.specs.Change.{del_list, map_change}
 use Rattle.lists.specs.State.{taken, applies, state}
-use Rattle.log.specs.Entry.{is_list, as_change, map_entry, raw, legal, legal_change}
+use Rattle.card_log.specs.Entry.{is_list, as_change, map_entry, raw, legal, legal_change}
 use Rattle.disk.specs.Record.{record_in}
 use Rattle.answers.specs.declared.Refusal.TheVariants.{OutOfRange, ListNotTaken}
 use Rattle.answers.specs.Answers.{number}

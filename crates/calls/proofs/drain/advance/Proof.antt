@@ -3,9 +3,9 @@ use mathlib.Core.Path.{◌≡◌, refl, sym, ◌∙◌}
 use Prim.Native.Nat.{◌-◌}
 use native.Mathlib.Omega.{arith}
 use lib.ListN.{length}
-use Rattle.log.specs.Store.{do_stores, entry_stores}
-use Rattle.log.specs.Turns.{AllInTurn}
-use Rattle.log.proofs.LogStores.{going}
+use Rattle.card_log.specs.Store.{do_stores, entry_stores}
+use Rattle.card_log.specs.Turns.{AllInTurn}
+use Rattle.card_log.proofs.LogStores.{going}
 use Rattle.calls.proofs.Storing.{several, stores-next, stores-done}
 use Rattle.calls.proofs.Turns.{turn-now, turns_next}
 use Rattle.calls.proofs.drain.advance.Statement.{statement}

@@ -4,8 +4,8 @@ use Prim.Native.Nat.{◌+◌, ◌-◌, ◌%◌}
 use native.Mathlib.Omega.{arith}
 use Rattle.disk.specs.Record.{record_in}
 use borrow.Author.Rules.{rules}
-use Rattle.log.specs.Entry.{Entry}
-use Rattle.log.specs.Card.{Written}
+use Rattle.card_log.specs.Entry.{Entry}
+use Rattle.card_log.specs.Card.{Written}
 use Rattle.calls.specs.promises.Flushing.{HeadReady, Flushable}
 use Rattle.calls.proofs.Storing.{few-stores}
 use Rattle.calls.proofs.Draining.{data_at, data-size, entry-met, heads-met, Going, going_start, going-head, going_on, flushes-full, flushes-spent, flushes-drained}

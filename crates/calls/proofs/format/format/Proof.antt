@@ -8,7 +8,7 @@ use Rattle.lists.specs.Numbers.{all_numbers}
 use Rattle.lists.specs.State.{empty}
 use Rattle.lists.specs.promises.Tables.{Tables, ShowsAll}
 use Rattle.lists.proofs.Emptied.{shows-emptied}
-use Rattle.log.specs.Card.{segments_in}
+use Rattle.card_log.specs.Card.{segments_in}
 use Rattle.answers.specs.declared.Refusal.TheVariants.{WrongLength}
 use Rattle.answers.specs.declared.Reply.TheVariants.{Accepted, Refused}
 use Rattle.disk.specs.Record.{record_in, fresh_record}

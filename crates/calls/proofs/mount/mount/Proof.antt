@@ -8,9 +8,9 @@ use lib.ListN.{length}
 use borrow.Author.Rules.{rules}
 use borrow.Author.Tests.{not-true, not-false}
 use Rattle.lists.specs.Basic.{is_some}
-use Rattle.log.specs.Reader.{Reader}
-use Rattle.log.specs.Card.{Written, card_length, sound, fault, mounted}
-use Rattle.log.proofs.Mounting.{mounted-shown}
+use Rattle.card_log.specs.Reader.{Reader}
+use Rattle.card_log.specs.Card.{Written, card_length, sound, fault, mounted}
+use Rattle.card_log.proofs.Mounting.{mounted-shown}
 use Rattle.answers.specs.declared.Refusal.TheVariants.{WrongLength}
 use Rattle.answers.specs.declared.MountReply.TheVariants.{Accepted, Fault, Refused}
 use Rattle.disk.specs.Record.{fresh_record}

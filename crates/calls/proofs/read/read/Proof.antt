@@ -2,7 +2,7 @@
 use mathlib.Core.Path.{sym, ◌∙◌}
 use native.Mathlib.Omega.{arith}
 use lib.ListN.{length}
-use Rattle.log.specs.promises.Location.{content_at}
+use Rattle.card_log.specs.promises.Location.{content_at}
 use Rattle.disk.specs.Disk.{disk_in}
 use Rattle.disk.specs.Call.{lent_to}
 use Rattle.answers.specs.Answers.{read_answer}

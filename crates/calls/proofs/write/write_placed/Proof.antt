@@ -8,8 +8,8 @@ use Rattle.lists.proofs.Lookup.{placed-said}
 use borrow.Author.Rules.{rules}
 use Rattle.calls.proofs.write.write_placed.Statement.{statement}
 use Rattle.lists.specs.State.{placed}
-use Rattle.log.specs.declared.entry.LogEntry.TheVariants.{Write}
-use Rattle.log.specs.Entry.{is_block, is_race}
+use Rattle.card_log.specs.declared.entry.LogEntry.TheVariants.{Write}
+use Rattle.card_log.specs.Entry.{is_block, is_race}
 use Rattle.disk.specs.Record.{record_in}
 use Rattle.answers.specs.declared.Refusal.TheVariants.{OutOfRange, BlockNotPlaced}
 use Rattle.answers.specs.Answers.{number}

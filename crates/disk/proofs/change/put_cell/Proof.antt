@@ -1,5 +1,5 @@
 -- The bytes are those of the entry with slot 0. Assumes nothing.
-use Rattle.log.specs.Cell.{cell_of}
+use Rattle.card_log.specs.Cell.{cell_of}
 use borrow.Author.Rules.{rules}
 use Rattle.disk.proofs.change.put_cell.Statement.{statement}
 use Rattle.disk.proofs.change.put_cell.Tie as tie

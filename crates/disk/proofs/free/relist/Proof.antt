@@ -4,7 +4,7 @@ use mathlib.Core.Logic.{inl, inr}
 use Prim.Native.Nat.{ℕ, ◌+◌}
 use Rattle.lists.specs.Change.{map_change}
 use Rattle.lists.specs.State.{frees}
-use Rattle.log.specs.Entry.{as_change}
+use Rattle.card_log.specs.Entry.{as_change}
 use Rattle.disk.specs.Record.{record_in}
 use Rattle.disk.specs.promises.Listing.{Reorders, unlisted}
 use Rattle.disk.proofs.Listing.{reorders-same, reorders-unlisted}

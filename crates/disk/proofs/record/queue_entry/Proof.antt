@@ -3,7 +3,7 @@ use mathlib.Core.Path.{◌≡◌}
 use Prim.Native.Nat.{◌+◌, ◌*◌}
 use native.Mathlib.Omega.{arith}
 use native.Mathlib.Nat.{zero-add}
-use Rattle.log.specs.Cell.{member_in}
+use Rattle.card_log.specs.Cell.{member_in}
 use Rattle.disk.specs.Record.{record_in}
 use Rattle.disk.proofs.Bytes.{cell-read}
 use borrow.Author.Rules.{rules}

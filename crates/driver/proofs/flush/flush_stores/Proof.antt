@@ -8,7 +8,7 @@ use native.Mathlib.Omega.{arith}
 use lib.ListN.{length, take}
 use borrow.Author.Rules.{rules}
 use Rattle.lists.proofs.Basic.{le-true, gt-false}
-use Rattle.log.specs.Store.{Store}
+use Rattle.card_log.specs.Store.{Store}
 use Rattle.answers.specs.declared.Refusal.TheVariants.{WrongLength, RecordUnsound, OutOfRange}
 use Rattle.answers.specs.declared.NumberReply.TheVariants.{Number, Refused}
 use Rattle.disk.specs.Disk.{Disk, disk_in}

@@ -7,9 +7,9 @@ use native.Mathlib.Omega.{arith}
 use lib.ListN.{length, take}
 use borrow.Author.Rules.{rules}
 use borrow.Author.Tests.{not-true, not-false}
-use Rattle.log.specs.Card.{segments_in}
-use Rattle.log.specs.Store.{format_stores}
-use Rattle.log.proofs.CardLength.{card-small}
+use Rattle.card_log.specs.Card.{segments_in}
+use Rattle.card_log.specs.Store.{format_stores}
+use Rattle.card_log.proofs.CardLength.{card-small}
 use Rattle.answers.specs.declared.Refusal.TheVariants.{WrongLength}
 use Rattle.answers.specs.declared.NumberReply.TheVariants.{Number, Refused}
 use Rattle.disk.specs.Disk.{Disk, disk_in}

@@ -4,7 +4,7 @@ use mathlib.Core.Logic.{⊎_elim, inl, inr}
 use Prim.Native.Nat.{◌-◌, ◌≤◌}
 use native.Mathlib.Omega.{arith}
 use lib.ListN.{length, take, length-set}
-use Rattle.log.specs.Store.{format_stores}
+use Rattle.card_log.specs.Store.{format_stores}
 use Rattle.driver.specs.promises.Listing.{listed}
 use Rattle.driver.proofs.Listing.{counts_start, counts-next, listed-done}
 use Rattle.driver.proofs.format.list_counts.Statement.{statement}

@@ -3,8 +3,8 @@ use mathlib.Core.Path.{sym, ◌∙◌, subst}
 use Prim.Native.Nat.{◌+◌, ◌-◌, ◌%◌, ◌≤◌, ◌<◌}
 use native.Mathlib.Omega.{arith}
 use borrow.Author.Rules.{rules}
-use Rattle.log.specs.Entry.{Entry}
-use Rattle.log.specs.Card.{Written, segments_in}
+use Rattle.card_log.specs.Entry.{Entry}
+use Rattle.card_log.specs.Card.{Written, segments_in}
 use Rattle.disk.specs.Record.{record_in}
 use Rattle.calls.specs.promises.Flushing.{Flushable}
 use Rattle.calls.proofs.Draining.{data-size, entry-met}

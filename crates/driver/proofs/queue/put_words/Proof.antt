@@ -5,8 +5,8 @@ use Prim.Native.Nat.{ℕ, suc, ◌+◌, ◌-◌, ◌≤◌}
 use native.Mathlib.Omega.{arith}
 use lib.ListN.{length, length-set}
 use lib.Seq.{sets}
-use Rattle.log.specs.Store.{entry_stores}
-use Rattle.log.proofs.LogStores.{going}
+use Rattle.card_log.specs.Store.{entry_stores}
+use Rattle.card_log.proofs.LogStores.{going}
 use Rattle.calls.proofs.Storing.{several}
 use Rattle.driver.specs.Stores.{word}
 use Rattle.driver.proofs.Listing.{words-next, words-done}

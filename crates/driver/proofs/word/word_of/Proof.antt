@@ -6,12 +6,12 @@ use native.Mathlib.Omega.{arith}
 use native.Mathlib.Numerals.{add-one}
 use lib.ListN.{get_or}
 use borrow.Author.Rules.{rules}
-use Rattle.log.specs.Entry.{carried, encode, raw, as_entry}
-use Rattle.log.specs.Store.{Store}
-use Rattle.log.proofs.Places.{used-one}
-use Rattle.log.proofs.EntryStores.{store_of}
-use Rattle.log.proofs.Within.{entry-long}
-use Rattle.log.proofs.LogStores.{going, going-short, stores-many, store-data, store_code, store-count}
+use Rattle.card_log.specs.Entry.{carried, encode, raw, as_entry}
+use Rattle.card_log.specs.Store.{Store}
+use Rattle.card_log.proofs.Places.{used-one}
+use Rattle.card_log.proofs.EntryStores.{store_of}
+use Rattle.card_log.proofs.Within.{entry-long}
+use Rattle.card_log.proofs.LogStores.{going, going-short, stores-many, store-data, store_code, store-count}
 use Rattle.driver.specs.Stores.{word}
 use Rattle.driver.proofs.word.word_of.Statement.{statement}
 use Rattle.driver.proofs.word.word_of.Tie as tie

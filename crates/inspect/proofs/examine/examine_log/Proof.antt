@@ -1,6 +1,6 @@
 -- A fault refuses the card; else the clauses behind the log are asked, over copies where the log's state is wanted. Assumes nothing.
 use Rattle.lists.specs.promises.Tables.{tables_in}
-use Rattle.log.specs.promises.Feed.{memory}
+use Rattle.card_log.specs.promises.Feed.{memory}
 use Rattle.disk.specs.Record.{record_in}
 use Rattle.inspect.proofs.Examining.{place-asked, faulty, unsettled, settled-log, settled-queue}
 use borrow.Author.Rules.{rules}

@@ -1,6 +1,6 @@
 -- The queue, the holders, the free numbers and the head are asked in turn, each over the tables that the one before left. Assumes nothing.
 use Rattle.lists.specs.promises.Tables.{tables_in}
-use Rattle.log.specs.promises.Feed.{memory}
+use Rattle.card_log.specs.promises.Feed.{memory}
 use Rattle.disk.specs.Record.{record_in}
 use Rattle.inspect.proofs.Settling.{settles-refused, settles-held, settles-listed, settles-last}
 use borrow.Author.Rules.{rules}

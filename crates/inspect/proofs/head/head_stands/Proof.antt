@@ -4,13 +4,13 @@ use mathlib.Core.Bool.{false}
 use mathlib.Core.Option.{none, some}
 use native.Mathlib.Omega.{arith}
 use lib.ListN.{length}
-use Rattle.log.specs.Entry.{as_entry}
-use Rattle.log.specs.Card.{segments_in}
-use Rattle.log.specs.Store.{head_at}
-use Rattle.log.specs.promises.Within.{as_place}
-use Rattle.log.proofs.Slot.{length-slot}
-use Rattle.log.proofs.Copying.{slot-part}
-use Rattle.log.proofs.Within.{within-home}
+use Rattle.card_log.specs.Entry.{as_entry}
+use Rattle.card_log.specs.Card.{segments_in}
+use Rattle.card_log.specs.Store.{head_at}
+use Rattle.card_log.specs.promises.Within.{as_place}
+use Rattle.card_log.proofs.Slot.{length-slot}
+use Rattle.card_log.proofs.Copying.{slot-part}
+use Rattle.card_log.proofs.Within.{within-home}
 use Rattle.disk.specs.Record.{record_in}
 use Rattle.inspect.proofs.Begun.{head-none, head-some}
 use borrow.Author.Rules.{rules}

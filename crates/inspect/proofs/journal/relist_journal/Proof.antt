@@ -6,7 +6,7 @@ use native.Mathlib.Omega.{arith}
 use lib.ListN.{get_or}
 use Rattle.lists.specs.promises.Tables.{tables_in}
 use Rattle.lists.proofs.Basic.{all_from}
-use Rattle.log.specs.Cell.{entry_in}
+use Rattle.card_log.specs.Cell.{entry_in}
 use Rattle.disk.specs.Record.{Unit, Held, record_in, unit_at, no_cell, no_unit}
 use Rattle.disk.specs.promises.Listing.{Reorders}
 use Rattle.disk.proofs.Listing.{reorders-same, reorders-then}

@@ -2,7 +2,7 @@
 use mathlib.Core.Path.{sym}
 use lib.Dec.{eqb}
 use lib.ListN.{length}
-use Rattle.log.specs.Card.{card_length}
+use Rattle.card_log.specs.Card.{card_length}
 use Rattle.disk.specs.Sound.{lengths_right}
 use borrow.Author.Rules.{rules}
 use Rattle.inspect.proofs.Judging.{and-behind}

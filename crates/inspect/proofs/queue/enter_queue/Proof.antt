@@ -3,8 +3,8 @@ use mathlib.Core.Path.{◌≡◌, sym, ◌∙◌}
 use Prim.Native.Nat.{ℕ, ◌+◌, ◌-◌, ◌≤◌}
 use native.Mathlib.Omega.{arith}
 use borrow.Author.Tests.{not-true, not-false}
-use Rattle.log.specs.Reader.{Reader}
-use Rattle.log.specs.promises.Feed.{memory, Keeps}
+use Rattle.card_log.specs.Reader.{Reader}
+use Rattle.card_log.specs.promises.Feed.{memory, Keeps}
 use Rattle.disk.specs.Record.{record_in}
 use Rattle.inspect.proofs.Queueing.{FedUpTo, fed-none, fed-unlawful, fed-refused, fed-more, fed-all}
 use borrow.Author.Rules.{rules}

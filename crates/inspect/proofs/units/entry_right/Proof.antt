@@ -2,7 +2,7 @@
 use mathlib.Core.Path.{sym, ◌∙◌}
 use borrow.Author.Tests.{not-true, not-false}
 use Rattle.lists.specs.InUse.{list_number}
-use Rattle.log.specs.Entry.{as_change}
+use Rattle.card_log.specs.Entry.{as_change}
 use Rattle.disk.specs.Record.{record_in}
 use Rattle.disk.proofs.Relisting.{take_range}
 use Rattle.inspect.proofs.Judging.{change-wrong, change-brings, change-brings-none}

@@ -6,7 +6,7 @@ use native.Mathlib.Omega.{arith}
 use lib.Dec.{ltb}
 use lib.ListN.{length, get_or}
 use Rattle.lists.specs.Basic.{from}
-use Rattle.log.specs.Card.{count}
+use Rattle.card_log.specs.Card.{count}
 use Rattle.listing.specs.Listing.{total, used, entries}
 use Rattle.listing.proofs.Lines.{total-step, count_at}
 use Rattle.listing.proofs.head_line.counts.Statement.{statement}

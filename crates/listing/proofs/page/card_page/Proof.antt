@@ -4,7 +4,7 @@ use mathlib.Core.Bool.{true}
 use borrow.Author.Rules.{rules}
 use borrow.Author.Tests.{not-true, not-false}
 use Rattle.lists.proofs.Lookup.{lists-shown}
-use Rattle.log.specs.Card.{card_length}
+use Rattle.card_log.specs.Card.{card_length}
 use Rattle.listing.proofs.CardPage.{card-refused, card-fault, card-sound}
 use Rattle.listing.proofs.page.card_page.Statement.{statement}
 use Rattle.listing.proofs.page.card_page.Tie as tie

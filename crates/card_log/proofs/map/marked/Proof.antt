@@ -1,0 +1,28 @@
+-- The shifted mark stands past the bits of the kind, so or is a sum. Assumes nothing.
+use mathlib.Core.Path.{◌≡◌, ◌∙◌}
+use mathlib.Core.Bool.{Bool, true, false, cond}
+use Prim.Native.Nat.{ℕ, ◌+◌, ◌*◌, ◌%◌, ◌<◌}
+use native.Mathlib.Nat.{zero-add}
+use lib.Bits.{bit_or, or_shifted_r}
+use borrow.Author.Rules.{rules}
+use Rattle.card_log.proofs.map.marked.Statement.{statement}
+use Rattle.card_log.proofs.map.marked.Tie as tie
+
+mark : (k : ℕ) (m : Bool) → k < 128 → bit_or k (mir.Val.bool_byte m * 128 % 256) ≡ cond m (128 + k) k
+mark k true h = or_shifted_r 1 7 k h
+mark k false h = or_shifted_r 0 7 k h ∙ zero-add k
+
+cast-result : tie.Need-overflow-cast-result
+cast-result c = search rules
+
+cast-result-2 : tie.Need-overflow-cast-result-2
+cast-result-2 c = search rules
+
+shl-result : tie.Need-overflow-shl-result
+shl-result c = search rules
+
+returns : tie.Need-returns
+returns c = mark c.args.kind c.args.member c.requires
+
+pub marked-spec : {M : Type 1} → statement M
+marked-spec = tie.close (tie.spec cast-result cast-result-2 shl-result returns)
