@@ -3,7 +3,7 @@ ghost use Rattle.std.specs.Prelude.{◌≡◌};
 ghost use Rattle.answers.specs.Answers.{number};
 
 // The questions, as what a no to each means.
-#[derive(Drop)]
+#[derive(Clone, Copy)]
 pub enum Refusal {
     WrongLength,
     LogFault,
@@ -23,14 +23,14 @@ pub enum Refusal {
 }
 
 // A call that returns nothing but its acceptance.
-#[derive(Drop)]
+#[derive(Clone, Copy)]
 pub enum Reply {
     Accepted,
     Refused(Refusal),
 }
 
 // Mounting: a fault is refusal 2 with its segment and entry.
-#[derive(Drop)]
+#[derive(Clone, Copy)]
 pub enum MountReply {
     Accepted,
     Fault { segment: usize, entry: usize },
@@ -38,21 +38,21 @@ pub enum MountReply {
 }
 
 // A call that returns a number: one given, a block, a count.
-#[derive(Drop)]
+#[derive(Clone, Copy)]
 pub enum NumberReply {
     Number(usize),
     Refused(Refusal),
 }
 
 // Reading: the race that the block was written for, 0 for none.
-#[derive(Drop)]
+#[derive(Clone, Copy)]
 pub enum ReadReply {
     Race(u8),
     Refused(Refusal),
 }
 
 // A flush: the stores done, by its ending.
-#[derive(Drop)]
+#[derive(Clone, Copy)]
 pub enum FlushReply {
     Drained(usize),
     Full(usize),

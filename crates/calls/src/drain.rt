@@ -19,7 +19,7 @@ use disk::record::{RECORD, Record, head, len, queue_entry};
 
 // What a flush makes of the queue's head: it has no place; the allowance ended when so many of its stores were done; or it is on the card, with the
 // place behind it and the stores that it took.
-#[derive(Drop)]
+#[derive(Clone, Copy)]
 pub enum Headed {
     Full,
     Spent(usize),

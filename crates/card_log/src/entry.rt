@@ -2,7 +2,7 @@
 use lists::limits;
 
 // The seven kinds of entry. Whether a change is plain or a member of a unit stands beside it.
-#[derive(Drop)]
+#[derive(Clone, Copy)]
 pub enum LogEntry {
     Take {
         list: u8,

@@ -20,7 +20,7 @@ const MEMBER: usize = 8;
 const NO_KIND: u8 = 0;
 
 // An entry by its fields, as `tables::act` takes them; those that it has not are 0.
-#[derive(Drop)]
+#[derive(Clone, Copy)]
 pub struct Fields {
     pub kind: u8,
     pub block: u8,
@@ -31,7 +31,7 @@ pub struct Fields {
 }
 
 // An entry fed: how long the run is now; or it is refused.
-#[derive(Drop)]
+#[derive(Clone, Copy)]
 pub enum Fed {
     Run(usize),
     Refused,

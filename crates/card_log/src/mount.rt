@@ -13,7 +13,7 @@ use super::walk::{Walked, walk};
 pub const SEGMENTS: usize = 64;
 
 // What mounting finds: a length that is no card's; the segment and the entry of the first fault; or the place behind an acceptable log.
-#[derive(Drop)]
+#[derive(Clone, Copy)]
 pub enum Mounted {
     WrongLength,
     Fault(usize, usize),

@@ -11,7 +11,7 @@ use super::map;
 use super::map::{COMMIT, DELETE_BLOCK, DELETE_LIST, PUT_AFTER, PUT_FIRST, RACED, TAKE, WRITE};
 
 // An entry and the place behind it; or none: the map is not legal, a number is out of range, the slot is not the next one or the bytes end too soon.
-#[derive(Drop)]
+#[derive(Clone, Copy)]
 pub enum Parsed {
     Entry(LogEntry, usize),
     Bad,

@@ -9,7 +9,7 @@ use super::entry::LogEntry;
 use super::layout::ENTRY_BYTES;
 
 // The segment, and what it holds before this place: entries, entry bytes, slots used.
-#[derive(Drop)]
+#[derive(Clone, Copy)]
 pub struct Place {
     pub segment: usize,
     pub entries: usize,
@@ -18,7 +18,7 @@ pub struct Place {
 }
 
 // The place of an entry, if the card has one.
-#[derive(Drop)]
+#[derive(Clone, Copy)]
 pub enum Home {
     At(Place),
     Full,

@@ -12,7 +12,7 @@ use super::parse::{Parsed, byte_at, parse};
 const MARK: u8 = 1 << map::MEMBER;
 
 // The card, the segment, where on the card the next entry stands, and how many slots of the segment are used before it.
-#[derive(Drop)]
+#[derive(Clone, Copy)]
 pub struct Reader<'a> {
     pub card: &'a [u8],
     pub segment: usize,
@@ -21,7 +21,7 @@ pub struct Reader<'a> {
 }
 
 // The entry that stands there, without its mark, and the place behind it; or none that is legal.
-#[derive(Drop)]
+#[derive(Clone, Copy)]
 pub enum Found {
     Plain(LogEntry, usize),
     Member(LogEntry, usize),

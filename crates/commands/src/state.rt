@@ -11,7 +11,7 @@ pub const QUEUE_DATA: usize = 8192;
 pub const JOURNAL_DATA: usize = 15360;
 
 // The record, the card's length, and how many bytes of card, queue data and journal data are lent.
-#[derive(Drop)]
+#[derive(Clone, Copy)]
 pub struct State {
     pub rec: [u8; RECORD],
     pub size: usize,
@@ -21,7 +21,7 @@ pub struct State {
 }
 
 // A state, and the position behind what was printed.
-#[derive(Drop)]
+#[derive(Clone, Copy)]
 pub struct Ran {
     pub state: State,
     pub at: usize,

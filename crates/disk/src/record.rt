@@ -53,7 +53,7 @@ pub const NUMBERS: usize = (LogEntry::BLOCKS + LogEntry::LISTS) as usize;
 const NOBODY: u8 = 0;
 
 // A unit's journal.
-#[derive(Drop)]
+#[derive(Clone, Copy)]
 pub struct Unit {}
 
 impl Unit {
@@ -62,7 +62,7 @@ impl Unit {
 }
 
 // A record's bytes, for who has none yet.
-#[derive(Drop)]
+#[derive(Clone, Copy)]
 pub struct Record {
     pub bytes: [u8; RECORD],
 }
@@ -88,7 +88,7 @@ impl Record {
 }
 
 // An entry of the queue.
-#[derive(Drop)]
+#[derive(Clone, Copy)]
 pub struct Queued {
     pub member: bool,
     pub entry: LogEntry,

@@ -21,7 +21,7 @@ use disk::record::{RECORD, Record, head, len, queue_entry};
 
 // What a listing makes of the queue's head, with the words that stand in the buffer then: it ends there, or all of the head's stores are listed, and
 // this is the place behind it.
-#[derive(Drop)]
+#[derive(Clone, Copy)]
 pub enum Listed {
     Ended(usize),
     Behind(Place, usize),

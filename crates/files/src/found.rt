@@ -9,7 +9,7 @@ use crate::transfer::{Read, read_whole};
 use text::line::part;
 
 // A file, nothing yet, or what is neither, which was told.
-#[derive(Drop)]
+#[derive(Clone, Copy)]
 pub enum Found {
     File(Status),
     Nothing,

@@ -17,7 +17,7 @@ const PERMISSIONS: u32 = 0o10000;
 
 const REGULAR: u32 = libc::S_IFREG / PERMISSIONS;
 
-#[derive(Drop)]
+#[derive(Clone, Copy)]
 pub struct Status {
     pub mode: u32,
     pub owner: u32,
@@ -26,7 +26,7 @@ pub struct Status {
     pub inode: u64,
 }
 
-#[derive(Drop)]
+#[derive(Clone, Copy)]
 pub enum Looked {
     Found(Status),
     Failed,
@@ -86,7 +86,7 @@ pub fn resolve(path: &mut [u8], length: usize) -> usize {
     n
 }
 
-#[derive(Drop)]
+#[derive(Clone, Copy)]
 enum Link {
     To(usize),
     Nowhere,

@@ -22,7 +22,7 @@ use card_log::walk::{Walked, walk};
 use disk::record::RECORD;
 
 // A sound disk: the place behind its log.
-#[derive(Drop)]
+#[derive(Clone, Copy)]
 pub enum Examined {
     WrongLength,
     Unsound,

@@ -14,7 +14,7 @@ use disk::record::RECORD;
 const PERSISTENT: usize = 5;
 
 // Refused by question 1, 3 or 4; or the tables show the view.
-#[derive(Drop)]
+#[derive(Clone, Copy)]
 pub enum Looked {
     Refused(Refusal),
     Seen,

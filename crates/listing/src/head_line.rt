@@ -8,7 +8,7 @@ use card_log::layout::{COUNT_AT, SEGMENT};
 use text::decimal::put_decimal;
 use text::put::{put_byte, put_bytes};
 
-#[derive(Drop)]
+#[derive(Clone, Copy)]
 pub struct Counted {
     pub used: u64,
     pub entries: u64,

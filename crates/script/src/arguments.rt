@@ -7,13 +7,13 @@ use text::decimal::number;
 use text::line::word;
 use text::number::Number;
 
-#[derive(Drop)]
+#[derive(Clone, Copy)]
 pub enum Two {
     Values(u64, u64),
     Bad,
 }
 
-#[derive(Drop)]
+#[derive(Clone, Copy)]
 pub enum Three {
     Values(u64, u64, u64),
     Bad,

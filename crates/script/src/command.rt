@@ -2,7 +2,7 @@
 use text::word::Word;
 
 // The numbers go to the calls as they are, however large; those that the shell itself bounds are within their bounds here.
-#[derive(Drop)]
+#[derive(Clone, Copy)]
 pub enum Command {
     // A blank line, or one that begins with `#`.
     Nothing,
@@ -13,7 +13,7 @@ pub enum Command {
 }
 
 // A call, on what is lent: changes come on a stream, look-ups in a view.
-#[derive(Drop)]
+#[derive(Clone, Copy)]
 pub enum Request {
     Format,
     Mount,
@@ -25,7 +25,7 @@ pub enum Request {
     Look { view: u64, look: Look },
 }
 
-#[derive(Drop)]
+#[derive(Clone, Copy)]
 pub enum Edit {
     NewList,
     NewBlock {
@@ -47,7 +47,7 @@ pub enum Edit {
     },
 }
 
-#[derive(Drop)]
+#[derive(Clone, Copy)]
 pub enum Look {
     Read { block: u64, lent: u64 },
     Next { list: u64, predecessor: u64 },
@@ -56,7 +56,7 @@ pub enum Look {
 }
 
 // What the shell does itself.
-#[derive(Drop)]
+#[derive(Clone, Copy)]
 pub enum Tool {
     Card { length: u64, byte: u64 },
     Poke { at: u64, byte: u64 },
@@ -66,7 +66,7 @@ pub enum Tool {
 }
 
 // A power cut, between calls or inside one.
-#[derive(Drop)]
+#[derive(Clone, Copy)]
 pub enum Cut {
     Between,
     Flush { allowance: u64, stores: u64 },
@@ -74,7 +74,7 @@ pub enum Cut {
 }
 
 // How much is lent from now on.
-#[derive(Drop)]
+#[derive(Clone, Copy)]
 pub enum Lend {
     Card { most: u64 },
     Queue { most: u64 },
@@ -83,7 +83,7 @@ pub enum Lend {
 }
 
 // What only prints.
-#[derive(Drop)]
+#[derive(Clone, Copy)]
 pub enum Print {
     Sum,
     Listing,

@@ -5,7 +5,7 @@ ghost use Rattle.std.specs.Prelude.{◌<◌, length as Len};
 pub const LINE: usize = 1024;
 
 // How many bytes the line has, where the bytes behind them stand, and whether the line is whole.
-#[derive(Drop)]
+#[derive(Clone, Copy)]
 pub struct Fed {
     pub length: usize,
     pub next: usize,

@@ -13,7 +13,7 @@ const FULL: usize = 30000;
 
 // The state, the position behind what was printed, how many bytes of a line have come, and whether it goes on: no line runs once
 // standard input or output has failed.
-#[derive(Drop)]
+#[derive(Clone, Copy)]
 pub struct Session {
     pub state: State,
     pub at: usize,
@@ -23,7 +23,7 @@ pub struct Session {
 
 // The length of the card that a script leaves, and whether it went on to its end. Where not, standard input failed, or else
 // standard output, and errno says why.
-#[derive(Drop)]
+#[derive(Clone, Copy)]
 pub struct Over {
     pub size: usize,
     pub going: bool,
@@ -54,7 +54,7 @@ pub fn run_whole(
 }
 
 // What a turn leaves, whether more of the script may come, and whether standard input failed.
-#[derive(Drop)]
+#[derive(Clone, Copy)]
 struct Turned {
     session: Session,
     more: bool,
@@ -120,7 +120,7 @@ fn turn(
 }
 
 // How many bytes of the script came, whether it goes on, and whether standard input failed.
-#[derive(Drop)]
+#[derive(Clone, Copy)]
 struct Got {
     count: usize,
     going: bool,

@@ -1,6 +1,6 @@
 // What a word says as a decimal number.
 
-#[derive(Drop)]
+#[derive(Clone, Copy)]
 pub enum Number {
     Value(u64),
     Bad,
