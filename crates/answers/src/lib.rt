@@ -1,4 +1,6 @@
 // What the calls answer. The definition `Answers` gives the number and the values of each case.
+#![tactic(auto)]
+
 ghost use Rattle.std.specs.Prelude.{◌≡◌};
 ghost use Rattle.answers.specs.Answers.{number};
 

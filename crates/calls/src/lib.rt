@@ -1,4 +1,6 @@
 // The calls. Each is lent the card, both data buffers and the record, asks its questions in order, and performs what the definition `perform` says.
+#![tactic(auto)]
+
 mod add;
 pub mod begin;
 mod check;

@@ -1,4 +1,6 @@
 // The log on the card: entries and their bytes, the layout of segments, the reader's walk, formatting and the stores of a flush.
+#![tactic(auto)]
+
 pub mod cell;
 pub mod content;
 pub mod copy;

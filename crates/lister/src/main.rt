@@ -1,4 +1,6 @@
 // Reads a card on standard input and prints what is on it: `lister < CARD`.
+#![tactic(auto)]
+
 use files::input::{is_plain, read_input};
 use files::message::print;
 use files::transfer::Read;

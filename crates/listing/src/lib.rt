@@ -1,4 +1,6 @@
 // The text that the lister prints for a card, and the printed page of one, put into a lent buffer from a position on.
+#![tactic(auto)]
+
 mod block_lines;
 mod blocks;
 mod head_line;

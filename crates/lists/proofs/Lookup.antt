@@ -140,7 +140,7 @@ module _ (nx pv o p fs : List ℕ) where
   first_of l a (r ∷ rs) k w h = ⊎_elim
       (λ (e : eqb r.num l ≡ true). rw (e, blocks_of) (ap (λ (n : ℕ). block_or0 (get_or nx (64 + n) 0)) (sym (eqb-true r.num l e))
       ∙ first_block r.num (64 + r.num) r.blocks rs k.1 k.2 (linked-blocks a r rs w)))
-      (λ (e : eqb r.num l ≡ false). rw (e, blocks_of) (first_of l _ rs k.2 (linked-lists a r rs w) (rw e at h)))
+      (λ (e : eqb r.num l ≡ false). rw (e, blocks_of) (first_of l (last (64 + r.num) (block_nodes r.blocks)) rs k.2 (linked-lists a r rs w) (rw e at h)))
       (either (eqb r.num l))
 
   after-of : (l b a : ℕ) (rs : List (Row ℕ)) → HasLists o p rs → Linked nx pv a (chain rs fs) → Apart (nodes rs) → on_list l b rs ≡ true
@@ -153,7 +153,7 @@ module _ (nx pv o p fs : List ℕ) where
       let f : taken l rs ≡ false = away-taken l rs (rw (← q) (away-right _ (block_nodes r.blocks) (nodes rs) d.0)) in
       let g : on_row b r ≡ true = ⊎_elim (λ x. x) (λ x. absurd (true≢false (sym (on_list-taken l b rs x) ∙ f))) (or_cases (on_row b r) (on_list l b rs) (rw e at h)) in
       rw (e, blocks_of) (after_block r.num (64 + r.num) b r.blocks rs k.1 k.2 (linked-blocks a r rs w) g))
-      (λ (e : eqb r.num l ≡ false). rw (e, blocks_of) (after-of l b _ rs k.2 (linked-lists a r rs w) (apart-right (block_nodes r.blocks) (nodes rs) d.1) (rw e at h)))
+      (λ (e : eqb r.num l ≡ false). rw (e, blocks_of) (after-of l b (last (64 + r.num) (block_nodes r.blocks)) rs k.2 (linked-lists a r rs w) (apart-right (block_nodes r.blocks) (nodes rs) d.1) (rw e at h)))
       (either (eqb r.num l))
 
 pub block-after : (t : Tables) (rs : List (Row ℕ)) {fs : List ℕ} → ShowsWith t rs fs → (l b : ℕ) → taken l rs ≡ true → eqb b 0 || on_list l b rs ≡ true
@@ -207,7 +207,7 @@ module _ (nx pv o p fs : List ℕ) where
       let q = all-times r.num o ((64 + r.num) ∷ block_nodes r.blocks) k.0.range.0 (apart-left ((64 + r.num) ∷ block_nodes r.blocks) (nodes rs) d) (k.0.owned, blocks-all o p r.num r.blocks k.1) in
       rw (e, next_in) (ap (λ (n : ℕ). list_within 256 nx (64 + n)) (sym (eqb-true r.num l e))
       ∙ first-list 256 r.num (64 + r.num) r.blocks rs k.1 k.2 (linked-blocks nx pv o p fs a r rs w) (omega (arith, times-most r.num o))))
-      (λ (e : eqb r.num l ≡ false). rw (e, next_in) (list_of c l _ rs k.2 (linked-lists nx pv o p fs a r rs w) (apart-right (block_nodes r.blocks) (nodes rs) d.1) (rw e at h)))
+      (λ (e : eqb r.num l ≡ false). rw (e, next_in) (list_of c l (last (64 + r.num) (block_nodes r.blocks)) rs k.2 (linked-lists nx pv o p fs a r rs w) (apart-right (block_nodes r.blocks) (nodes rs) d.1) (rw e at h)))
       (either (eqb r.num l))
 
 pub list-after : (t : Tables) (rs : List (Row ℕ)) {fs : List ℕ} → ShowsWith t rs fs → (l : ℕ) → eqb l 0 || taken l rs ≡ true → list_within 256 t.next (behind_list l) ≡ taken_after rs l

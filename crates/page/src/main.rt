@@ -1,4 +1,6 @@
 // Reads a card on standard input and prints the page of its persistent state: `page < CARD`.
+#![tactic(auto)]
+
 use card_log::layout::SEGMENT;
 use card_log::mount::SEGMENTS;
 use files::input::{is_plain, read_input};

@@ -1,4 +1,6 @@
 // Runs a script of calls on a card: `shell PATH < SCRIPT`.
+#![tactic(auto)]
+
 mod feed;
 mod session;
 

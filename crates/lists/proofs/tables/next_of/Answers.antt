@@ -1,0 +1,7 @@
+-- The byte of the node. Assumes nothing.
+use native.Mathlib.Omega.{arith}
+use Rattle.lists.proofs.Bytes.{next-read}
+use Rattle.lists.proofs.tables.next_of.Goals as goal
+
+pub returns : goal.returns
+returns c = next-read c.args.nodes.now c.args.x (omega (arith, c.ranges.x))
