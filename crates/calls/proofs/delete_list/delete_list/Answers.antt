@@ -1,0 +1,23 @@
+-- Questions 1, 3 and 4 are those of `look_stream`; behind them the tables show the stream's view. Assumes nothing.
+use Rattle.disk.specs.Record.{record_in}
+use Rattle.disk.specs.Disk.{disk_in}
+use Rattle.disk.specs.Call.{delete_list}
+use Rattle.answers.specs.Answers.{reply_answer}
+use Rattle.calls.proofs.Refusing.{edit-unseen}
+use Rattle.calls.proofs.Adding.{seen-padded, deletes-list}
+use Rattle.calls.proofs.delete_list.delete_list.Goals as goal
+
+pub returns-in-Refused : goal.returns-in-Refused
+unfolding reply_answer
+returns-in-Refused c =
+    let a = c.args in
+    let d = disk_in a.card.now a.queue-data.now a.journal-data.now a.rec.now in
+    edit-unseen d a.stream (delete_list a.list) _ (rw c.in-Refused.is at c.look_stream.ensures)
+
+pub delete_taken-requires : goal.delete_taken-requires
+delete_taken-requires c = seen-padded (rw c.in-Seen.is at c.look_stream.ensures)
+
+pub returns : goal.returns
+returns c =
+    let a = c.args in
+    deletes-list (disk_in a.card.now a.queue-data.now a.journal-data.now a.rec.now) a.stream a.list _ c.delete_taken.result (record_in c.delete_taken.new.rec) (rw c.in-Seen.is at c.look_stream.ensures) c.delete_taken.ensures

@@ -1,0 +1,51 @@
+-- The loop's invariant: the stores that are left, done on the card as it is, leave what all of them leave, and are each in turn. Assumes nothing.
+use mathlib.Core.Path.{◌≡◌, refl, sym, ◌∙◌}
+use Prim.Native.Nat.{◌-◌}
+use native.Mathlib.Omega.{arith}
+use lib.ListN.{length}
+use Rattle.card_log.specs.Store.{do_stores, entry_stores}
+use Rattle.card_log.specs.Turns.{AllInTurn}
+use Rattle.card_log.proofs.LogStores.{going}
+use Rattle.calls.proofs.Storing.{several, stores-next, stores-done}
+use Rattle.calls.proofs.Turns.{turn-now, turns_next}
+use Rattle.calls.proofs.drain.advance.Goals as goal
+
+pub loop-k-init : goal.loop-k-init
+loop-k-init c = (refl, refl, c.requires.3)
+
+pub store_step-requires : goal.store_step-requires
+store_step-requires c =
+    let l = c.loop-k in (
+      record {
+        within = c.requires.0.within;
+        room = c.requires.0.room;
+        inside = rw l.invariant.0 c.requires.0.inside;
+        left = omega (arith, c.loop-k-test.true, c.requires.1);
+      },
+      c.requires.2,
+      turn-now c.args.place (going c.args.content.now c.args.member c.args.e) l.card l.k c.args.upto c.loop-k-test.true l.invariant.2,
+    )
+
+pub overflow_add-k : goal.overflow_add-k
+overflow_add-k c = omega arith
+
+pub loop-k-smaller : goal.loop-k-smaller
+loop-k-smaller c = omega arith
+
+pub loop-k-preserved : goal.loop-k-preserved
+loop-k-preserved c =
+    let l = c.loop-k in
+    let ss = entry_stores c.args.place (going c.args.content.now c.args.member c.args.e) in (
+      c.card-1.given ∙ l.invariant.0,
+      rw c.store_step.ensures (stores-next l.k c.args.upto ss l.card c.loop-k-test.true (omega (arith, c.loop-k-test.true, c.requires.1)) ∙ l.invariant.1),
+      rw c.store_step.ensures (turns_next c.args.place (going c.args.content.now c.args.member c.args.e) l.card l.k c.args.upto c.loop-k-test.true l.invariant.2 c.requires.1),
+    )
+
+pub shape_of-card : goal.shape_of-card
+shape_of-card c = c.loop-k.invariant.0
+
+pub returns : goal.returns
+returns c =
+    let a = c.args in
+    sym (stores-done c.loop-k.k a.upto (entry_stores a.place (going a.content.now a.member a.e)) c.loop-k.card c.loop-k-test.false)
+    ∙ c.loop-k.invariant.1

@@ -1,0 +1,26 @@
+-- Questions 1, 3 and 4 are those of `look_stream`; behind them the tables show the stream's view. Assumes nothing.
+use Rattle.disk.specs.Record.{record_in}
+use Rattle.disk.specs.Disk.{disk_in}
+use Rattle.disk.specs.Call.{new_block}
+use Rattle.answers.specs.Answers.{number_answer}
+use Rattle.calls.proofs.Refusing.{edit-unseen}
+use Rattle.calls.proofs.Adding.{seen-padded}
+use Rattle.calls.proofs.Putting.{puts-performs}
+use Rattle.calls.proofs.new_block.new_block.Goals as goal
+
+pub returns-in-Refused : goal.returns-in-Refused
+unfolding number_answer
+returns-in-Refused c =
+    let a = c.args in
+    let d = disk_in a.card.now a.queue-data.now a.journal-data.now a.rec.now in
+    edit-unseen d a.stream (new_block a.list a.predecessor) _ (rw c.in-Refused.is at c.look_stream.ensures)
+
+pub put_free-requires : goal.put_free-requires
+put_free-requires c = seen-padded (rw c.in-Seen.is at c.look_stream.ensures)
+
+pub returns : goal.returns
+returns c =
+    let a = c.args in
+    let d = disk_in a.card.now a.queue-data.now a.journal-data.now a.rec.now in
+    let k = rw c.in-Seen.is at c.look_stream.ensures in
+    puts-performs a.stream d _ k a.list a.predecessor c.put_free.result (record_in c.put_free.new.rec.0) c.put_free.ensures

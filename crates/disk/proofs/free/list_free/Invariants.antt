@@ -1,0 +1,15 @@
+-- The invariant: the numbers shown up to x have joined, at least i (JoinedUpTo), and nothing but the order is another (Reorders). The measure is what is left of 80, which no row of free numbers exceeds. Assumes nothing.
+use mathlib.Core.Path.{sym, subst}
+use Prim.Native.Nat.{◌+◌, ◌-◌, ◌≤◌}
+use native.Mathlib.Omega.{arith}
+use Rattle.lists.specs.promises.Tables.{tables_in}
+use Rattle.disk.specs.Record.{record_in}
+use Rattle.disk.specs.promises.Listing.{Reorders}
+use Rattle.disk.proofs.Listing.{reorders-same, reorders-pushed, JoinedUpTo, joined-none, joined-more, joined_end, joined-all}
+use Rattle.disk.proofs.free.list_free.Given as goal
+
+abbrev pub invariant-loop-i : goal.invariant-loop-i
+invariant-loop-i l = (l.i ≤ 80) × Reorders (record_in l.initial.rec) (record_in l.rec) × JoinedUpTo (tables_in l.nodes) l.number (record_in l.initial.rec) l.x l.i (record_in l.rec)
+
+abbrev pub decreases-loop-i : goal.decreases-loop-i
+decreases-loop-i l = 80 - l.i

@@ -1,0 +1,19 @@
+-- The invariant: the entries passed are lawful, and those that are left lead from the reader kept to where the whole queue leads. Assumes nothing.
+use mathlib.Core.Path.{◌≡◌, sym, ◌∙◌}
+use Prim.Native.Nat.{ℕ, ◌+◌, ◌-◌, ◌≤◌}
+use native.Mathlib.Omega.{arith}
+use borrow.Author.Tests.{not-true, not-false}
+use Rattle.card_log.specs.Reader.{Reader}
+use Rattle.card_log.specs.promises.Feed.{memory, Keeps}
+use Rattle.disk.specs.Record.{record_in}
+use Rattle.inspect.proofs.Queueing.{FedUpTo, fed-none, fed-unlawful, fed-refused, fed-more, fed-all}
+use Rattle.inspect.proofs.queue.enter_queue.Given as goal
+
+abbrev pub invariant-loop-k : goal.invariant-loop-k
+invariant-loop-k l =
+    let r = record_in l.rec in
+    (l.k ≤ l.n) × (l.n ≡ r.ring.len) × (l.first ≡ r.ring.head) × (members-in-run ≤ l.run + l.k)
+    × ((x : Reader ℕ) → Keeps (memory l.initial.nodes l.initial.members) l.run x → FedUpTo r x l.k members-in-run (memory l.nodes l.members))
+
+abbrev pub decreases-loop-k : goal.decreases-loop-k
+decreases-loop-k l = l.n - l.k

@@ -1,0 +1,48 @@
+-- The kind, the numbers and, of a take and the two puts, the holder are tested. Assumes nothing.
+use mathlib.Core.Path.{sym, ◌∙◌}
+use borrow.Author.Tests.{not-true, not-false}
+use Rattle.lists.specs.InUse.{list_number}
+use Rattle.card_log.specs.Entry.{as_change}
+use Rattle.disk.specs.Record.{record_in}
+use Rattle.disk.proofs.Relisting.{take_range}
+use Rattle.inspect.proofs.Judging.{change-wrong, change-brings, change-brings-none}
+use Rattle.inspect.proofs.units.entry_right.Goals as goal
+
+pub returns-then-not-is_member : goal.returns-then-not-is_member
+returns-then-not-is_member c =
+    let s = c.args in
+    change-wrong (record_in s.rec.now).held.holder s.u (as_change s.e) (sym c.is_member.ensures ∙ not-true _ c.if-not-is_member.true-raw)
+
+pub list_number-requires : goal.list_number-requires
+list_number-requires c =
+    let g = c.e-1.given in
+    take_range _ g.0.0 g.1 (sym c.is_member.ensures ∙ not-false _ c.if-not-is_member.false-raw)
+
+pub returns-in-Take : goal.returns-in-Take
+unfolding as_change
+returns-in-Take c =
+    let s = c.args in
+    let g = c.e-1.given in
+    let m = sym c.is_member.ensures ∙ not-false _ c.if-not-is_member.false-raw in
+    rw (c.holder_of.ensures, c.list_number.ensures) (change-brings (record_in s.rec.now).held.holder s.u (as_change s.e) (list_number g.0.0) m (rw g.1))
+
+pub returns-in-PutFirst : goal.returns-in-PutFirst
+unfolding as_change
+returns-in-PutFirst c =
+    let s = c.args in
+    let g = c.e-in-PutFirst-1.given in
+    let m = sym c.is_member.ensures ∙ not-false _ c.if-not-is_member.false-raw in
+    rw c.holder_of-in-PutFirst.ensures (change-brings (record_in s.rec.now).held.holder s.u (as_change s.e) g.0.0 m (rw g.1))
+
+pub returns-in-PutAfter : goal.returns-in-PutAfter
+unfolding as_change
+returns-in-PutAfter c =
+    let s = c.args in
+    let g = c.e-in-PutAfter-1.given in
+    let m = sym c.is_member.ensures ∙ not-false _ c.if-not-is_member.false-raw in
+    rw c.holder_of-in-PutAfter.ensures (change-brings (record_in s.rec.now).held.holder s.u (as_change s.e) g.0.0 m (rw g.1))
+
+pub returns-in_default : goal.returns-in_default
+returns-in_default c =
+    let s = c.args in
+    change-brings-none (record_in s.rec.now).held.holder s.u s.e c.in_default.in_default-own.keys4 (sym c.is_member.ensures ∙ not-false _ c.if-not-is_member.false-raw)

@@ -1,0 +1,45 @@
+-- Each turn adds one list's lines. Assumes nothing.
+use mathlib.Core.Path.{◌≡◌, refl}
+use mathlib.Core.List.{List}
+use Prim.Native.Nat.{ℕ, ◌-◌, ◌*◌, ◌≤◌}
+use native.Mathlib.Omega.{arith}
+use lib.ListN.{length, length-append}
+use Rattle.lists.specs.promises.Tables.{tables_in, OfShown}
+use Rattle.lists.specs.Basic.{from, joined}
+use Rattle.listing.specs.Page.{list_page}
+use Rattle.listing.proofs.Lines.{lines_more}
+use Rattle.listing.proofs.Pages.{page-by-list}
+use Rattle.listing.proofs.page.page_length.Goals as goal
+
+pub loop-list-init : goal.loop-list-init
+unfolding joined from
+loop-list-init c = (omega arith, omega arith, omega arith, λ rs w. refl)
+
+pub list_length-n-requires : goal.list_length-n-requires
+list_length-n-requires c = tt
+
+pub overflow_add-n : goal.overflow_add-n
+overflow_add-n c = let s = c.loop-list in omega (arith, s.invariant.2, c.list_length-n.ensures.0)
+
+pub overflow_add-list : goal.overflow_add-list
+overflow_add-list c = omega arith
+
+pub loop-list-smaller : goal.loop-list-smaller
+loop-list-smaller c = omega arith
+
+pub loop-list-preserved : goal.loop-list-preserved
+loop-list-preserved c =
+    let s = c.loop-list in (
+      omega arith,
+      omega arith,
+      omega (arith, s.invariant.2, c.list_length-n.ensures.0),
+      λ rs w.
+          let f : ℕ → List ℕ = λ l. joined (list_page rs l) in
+          rw (lines_more f s.list (omega arith), length-append (joined (from f 1 (s.list - 1))) (f s.list), ← (s.invariant.3 rs w), ← (c.list_length-n.ensures.1 rs w (omega arith, omega arith))),
+    )
+
+pub returns : goal.returns
+returns c =
+    let s = c.loop-list in
+    let e : s.list - 1 ≡ 16 = omega arith in
+    λ rs w. rw (page-by-list rs, ← e) (s.invariant.3 rs w)

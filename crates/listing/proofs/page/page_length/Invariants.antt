@@ -1,0 +1,20 @@
+-- Each turn adds one list's lines. Assumes nothing.
+use mathlib.Core.Path.{◌≡◌, refl}
+use mathlib.Core.List.{List}
+use Prim.Native.Nat.{ℕ, ◌-◌, ◌*◌, ◌≤◌}
+use native.Mathlib.Omega.{arith}
+use lib.ListN.{length, length-append}
+use Rattle.lists.specs.promises.Tables.{tables_in, OfShown}
+use Rattle.lists.specs.Basic.{from, joined}
+use Rattle.listing.specs.Page.{list_page}
+use Rattle.listing.proofs.Lines.{lines_more}
+use Rattle.listing.proofs.Pages.{page-by-list}
+use Rattle.listing.proofs.page.page_length.Given as goal
+
+abbrev pub invariant-loop-list : goal.invariant-loop-list
+invariant-loop-list l =
+    (1 ≤ l.list) × (l.list ≤ 17) × (l.n ≤ 246 * (l.list - 1))
+    × OfShown (tables_in l.nodes) (λ rs. l.n ≡ length (joined (from (λ l. joined (list_page rs l)) 1 (l.list - 1))))
+
+abbrev pub decreases-loop-list : goal.decreases-loop-list
+decreases-loop-list l = 17 - l.list

@@ -1,0 +1,9 @@
+-- The parts of the line, one after the other. Assumes nothing.
+use Rattle.text.proofs.Writing.{puts-more}
+use Rattle.script.specs.Lines.{counted_line}
+use Rattle.script.specs.Spelling.{bytes}
+use Rattle.script.proofs.replies.put_counted.Goals as goal
+
+pub returns : goal.returns
+unfolding counted_line bytes
+returns c = puts-more (puts-more (puts-more c.put_bytes-position.ensures c.put_spaced-position.ensures) c.put_numbers-position.ensures) c.put_byte.ensures

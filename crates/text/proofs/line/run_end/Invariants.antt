@@ -1,0 +1,15 @@
+-- Each turn passes a byte of the run, which is as much shorter. Assumes nothing.
+use mathlib.Core.Path.{◌≡◌, refl, ◌∙◌}
+use Prim.Native.Nat.{◌+◌, ◌-◌}
+use native.Mathlib.Omega.{arith}
+use native.Mathlib.Numerals.{add-one}
+use lib.ListN.{length, drop, drop_of_length-le}
+use Rattle.text.specs.Line.{run}
+use Rattle.text.proofs.Lines.{run-stop, run_more}
+use Rattle.text.proofs.line.run_end.Given as goal
+
+abbrev pub invariant-loop-i : goal.invariant-loop-i
+invariant-loop-i l = l.from + run l.blanks (drop l.from l.line) ≡ l.i + run l.blanks (drop l.i l.line)
+
+abbrev pub decreases-loop-i : goal.decreases-loop-i
+decreases-loop-i l = length l.line - l.i

@@ -1,0 +1,15 @@
+-- Each turn puts one blank more. Assumes nothing.
+use mathlib.Core.Path.{◌≡◌}
+use Prim.Native.Nat.{◌-◌, ◌≤◌}
+use native.Mathlib.Omega.{arith}
+use Rattle.text.specs.Columns.{blanks}
+use Rattle.text.specs.Written.{Puts}
+use Rattle.text.proofs.Columns.{blanks-none, blanks-more}
+use Rattle.text.proofs.Writing.{puts_none, puts-more, puts-length}
+use Rattle.text.proofs.put.put_blanks.Given as goal
+
+abbrev pub invariant-loop-i : goal.invariant-loop-i
+invariant-loop-i l = (l.i ≤ l.n) × Puts l.initial.out l.at (blanks l.i) l.out l.position
+
+abbrev pub decreases-loop-i : goal.decreases-loop-i
+decreases-loop-i l = l.n - l.i
