@@ -15,7 +15,6 @@ pub mod Flows
 pub mod EntryBytes
 pub mod LegalEntry
 pub mod CardLength
-pub mod Held
 pub mod Parsing
 pub mod Within
 pub mod Sequence

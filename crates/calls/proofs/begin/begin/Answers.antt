@@ -17,28 +17,28 @@ pub returns-in-Refused : goal.returns-in-Refused
 unfolding refusal questions destination reply_answer
 returns-in-Refused c =
     let a = c.args in
-    let d = disk_in a.card.now a.queue-data.now a.journal-data.now a.rec.now in
+    let d = disk_in a.card.now a.queue_data.now a.journal_data.now a.rec.now in
     first-refused (Call.begin a.unit a.window) d _ (checked d) _ tt refl (rw c.in-Refused.is at c.check.ensures)
 
 pub returns-then-unit-lt1 : goal.returns-then-unit-lt1
 unfolding reply_answer
 returns-then-unit-lt1 c =
     let a = c.args in
-    begin-outside (disk_in a.card.now a.queue-data.now a.journal-data.now a.rec.now) a.unit a.window (rw c.in-Seen.is at c.check.ensures)
+    begin-outside (disk_in a.card.now a.queue_data.now a.journal_data.now a.rec.now) a.unit a.window (rw c.in-Seen.is at c.check.ensures)
     (⊎_elim (λ x. inl x.taken) (λ x. inr (ltb-true 4 a.unit x.1.taken)) c.then-unit-lt1.branch)
 
 pub returns-then-not-is_window : goal.returns-then-not-is_window
 unfolding reply_answer
 returns-then-not-is_window c =
     let a = c.args in
-    begin-nowhere (disk_in a.card.now a.queue-data.now a.journal-data.now a.rec.now) a.unit a.window (rw c.in-Seen.is at c.check.ensures)
+    begin-nowhere (disk_in a.card.now a.queue_data.now a.journal_data.now a.rec.now) a.unit a.window (rw c.in-Seen.is at c.check.ensures)
     (omega arith) (ltb-false 4 a.unit c.if-unit-gt-UNITS.false-raw) (sym c.is_window.ensures ∙ not-true _ c.if-not-is_window.true-raw)
 
 pub returns-then-is_open : goal.returns-then-is_open
 unfolding reply_answer
 returns-then-is_open c =
     let a = c.args in
-    begin-twice (disk_in a.card.now a.queue-data.now a.journal-data.now a.rec.now) a.unit a.window (rw c.in-Seen.is at c.check.ensures)
+    begin-twice (disk_in a.card.now a.queue_data.now a.journal_data.now a.rec.now) a.unit a.window (rw c.in-Seen.is at c.check.ensures)
     (omega arith) (ltb-false 4 a.unit c.if-unit-gt-UNITS.false-raw) (sym c.is_window.ensures ∙ not-false _ c.if-not-is_window.false-raw) c.is_open.result c.is_open.ensures c.if-is_open.true
 
 pub overflow_cast-window : goal.overflow_cast-window
@@ -50,7 +50,7 @@ pub returns : goal.returns
 unfolding reply_answer opening
 returns c =
     let a = c.args in
-    let d = disk_in a.card.now a.queue-data.now a.journal-data.now a.rec.now in
+    let d = disk_in a.card.now a.queue_data.now a.journal_data.now a.rec.now in
     rw c.empty.ensures
     (begin-opens d a.unit a.window (rw c.in-Seen.is at c.check.ensures)
     (omega arith) (ltb-false 4 a.unit c.if-unit-gt-UNITS.false-raw) (sym c.is_window.ensures ∙ not-false _ c.if-not-is_window.false-raw) c.is_open.result c.is_open.ensures c.if-is_open.false)

@@ -13,14 +13,14 @@ pub returns-in-Refused : goal.returns-in-Refused
 unfolding refusal questions destination number_answer
 returns-in-Refused c =
     let a = c.args in
-    let d = disk_in a.card.now a.queue-data.now a.journal-data.now a.rec.now in
+    let d = disk_in a.card.now a.queue_data.now a.journal_data.now a.rec.now in
     first-refused (conflict_count a.window) d _ (checked d) _ tt refl (rw c.in-Refused.is at c.check.ensures)
 
 pub returns-then-not-is_window : goal.returns-then-not-is_window
 unfolding number_answer
 returns-then-not-is_window c =
     let a = c.args in
-    conflicts-outside (disk_in a.card.now a.queue-data.now a.journal-data.now a.rec.now) a.window (rw c.in-Seen.is at c.check.ensures)
+    conflicts-outside (disk_in a.card.now a.queue_data.now a.journal_data.now a.rec.now) a.window (rw c.in-Seen.is at c.check.ensures)
     (sym c.is_window.ensures ∙ not-true _ c.if-not-is_window.true-raw)
 
 pub conflicts-requires : goal.conflicts-requires
@@ -31,5 +31,5 @@ unfolding number_answer
 returns c =
     let a = c.args in
     rw c.conflicts.ensures
-    (conflicts-given (disk_in a.card.now a.queue-data.now a.journal-data.now a.rec.now) a.window (rw c.in-Seen.is at c.check.ensures)
+    (conflicts-given (disk_in a.card.now a.queue_data.now a.journal_data.now a.rec.now) a.window (rw c.in-Seen.is at c.check.ensures)
     (sym c.is_window.ensures ∙ not-false _ c.if-not-is_window.false-raw))

@@ -63,5 +63,5 @@ returns c = λ b x y i h k.
     let l = c.last_free-last in
     let z : c.args.s ≡ 0 = omega (arith, c.if-s-ne0.false) in
     rw (eq-true c.args.s 0 z)
-    (freed-order c.args.e b (tables_in c.args.nodes.now) a.result (tables_in a.new.0) l.result (record_in c.args.rec.now) _ (deletes c.args.e b i c.requires.1)
+    (freed-order c.args.e b (tables_in c.args.nodes.now) a.result (tables_in a.new.nodes) l.result (record_in c.args.rec.now) _ (deletes c.args.e b i c.requires.1)
     l.ensures (rw c.fields_of-f.ensures at a.ensures) c.relist.ensures.0 x y h k)

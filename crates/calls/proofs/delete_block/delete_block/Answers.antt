@@ -11,7 +11,7 @@ pub returns-in-Refused : goal.returns-in-Refused
 unfolding reply_answer
 returns-in-Refused c =
     let a = c.args in
-    let d = disk_in a.card.now a.queue-data.now a.journal-data.now a.rec.now in
+    let d = disk_in a.card.now a.queue_data.now a.journal_data.now a.rec.now in
     edit-unseen d a.stream (delete_block a.block) _ (rw c.in-Refused.is at c.look_stream.ensures)
 
 pub delete_placed-requires : goal.delete_placed-requires
@@ -20,4 +20,4 @@ delete_placed-requires c = seen-padded (rw c.in-Seen.is at c.look_stream.ensures
 pub returns : goal.returns
 returns c =
     let a = c.args in
-    deletes-block (disk_in a.card.now a.queue-data.now a.journal-data.now a.rec.now) a.stream a.block _ c.delete_placed.result (record_in c.delete_placed.new.rec) (rw c.in-Seen.is at c.look_stream.ensures) c.delete_placed.ensures
+    deletes-block (disk_in a.card.now a.queue_data.now a.journal_data.now a.rec.now) a.stream a.block _ c.delete_placed.result (record_in c.delete_placed.new.rec) (rw c.in-Seen.is at c.look_stream.ensures) c.delete_placed.ensures

@@ -11,7 +11,7 @@ pub returns-in-Refused : goal.returns-in-Refused
 unfolding reply_answer
 returns-in-Refused c =
     let a = c.args in
-    let d = disk_in a.card.now a.queue-data.now a.journal-data.now a.rec.now in
+    let d = disk_in a.card.now a.queue_data.now a.journal_data.now a.rec.now in
     edit-unseen d a.stream (delete_list a.list) _ (rw c.in-Refused.is at c.look_stream.ensures)
 
 pub delete_taken-requires : goal.delete_taken-requires
@@ -20,4 +20,4 @@ delete_taken-requires c = seen-padded (rw c.in-Seen.is at c.look_stream.ensures)
 pub returns : goal.returns
 returns c =
     let a = c.args in
-    deletes-list (disk_in a.card.now a.queue-data.now a.journal-data.now a.rec.now) a.stream a.list _ c.delete_taken.result (record_in c.delete_taken.new.rec) (rw c.in-Seen.is at c.look_stream.ensures) c.delete_taken.ensures
+    deletes-list (disk_in a.card.now a.queue_data.now a.journal_data.now a.rec.now) a.stream a.list _ c.delete_taken.result (record_in c.delete_taken.new.rec) (rw c.in-Seen.is at c.look_stream.ensures) c.delete_taken.ensures

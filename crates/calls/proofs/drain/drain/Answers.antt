@@ -13,7 +13,7 @@ use Rattle.calls.proofs.drain.drain.Goals as goal
 pub loop-gone-init : goal.loop-gone-init
 loop-gone-init c =
     let a = c.args in
-    (refl, c.requires, rw c.done-done.ensures (going_start a.card.now a.queue-data.now (record_in a.rec.now) a.allowance a.behind c.requires))
+    (refl, c.requires, rw c.done-done.ensures (going_start a.card.now a.queue_data.now (record_in a.rec.now) a.allowance a.behind c.requires))
 
 pub overflow_add-at : goal.overflow_add-at
 overflow_add-at c = omega (arith, c.loop-gone.invariant.1.head, c.loop-gone.invariant.1.room, c.loop-gone-test.true, c.head-first.ensures, c.len-entries.ensures)
@@ -39,9 +39,9 @@ store_head-requires c =
     let r = record_in a.rec.now in
     let l = c.loop-gone in
     let q = c.queue_entry-queued in
-    let x = entry-met a.queue-data.now r _ l.gone q.result.member q.result.entry c.head-first.ensures (rw l.invariant.0 at q.ensures.0) (rw l.invariant.0 at q.ensures.1) in (
-      subst (λ (e : Entry Written). HeadReady l.card l.place e l.done) (sym x) (going-head a.card.now a.queue-data.now r a.allowance a.behind l.card l.place l.done l.left l.gone l.invariant.2 (omega (arith, c.loop-gone-test.true, c.len-entries.ensures))),
-      data-size a.queue-data.now ((c.head-first.result + l.gone) % 32) l.invariant.1.queue_data (omega arith),
+    let x = entry-met a.queue_data.now r _ l.gone q.result.member q.result.entry c.head-first.ensures (rw l.invariant.0 at q.ensures.0) (rw l.invariant.0 at q.ensures.1) in (
+      subst (λ (e : Entry Written). HeadReady l.card l.place e l.done) (sym x) (going-head a.card.now a.queue_data.now r a.allowance a.behind l.card l.place l.done l.left l.gone l.invariant.2 (omega (arith, c.loop-gone-test.true, c.len-entries.ensures))),
+      data-size a.queue_data.now ((c.head-first.result + l.gone) % 32) l.invariant.1.queue_data (omega arith),
     )
 
 pub ended-requires : goal.ended-requires
@@ -63,9 +63,9 @@ returns-in-Full c =
     let r = record_in a.rec.now in
     let l = c.loop-gone in
     let q = c.queue_entry-queued in
-    let x = entry-met a.queue-data.now r _ l.gone q.result.member q.result.entry c.head-first.ensures (rw l.invariant.0 at q.ensures.0) (rw l.invariant.0 at q.ensures.1) in
+    let x = entry-met a.queue_data.now r _ l.gone q.result.member q.result.entry c.head-first.ensures (rw l.invariant.0 at q.ensures.0) (rw l.invariant.0 at q.ensures.1) in
     rw (c.ended.ensures, l.invariant.0)
-    (flushes-full a.card.now a.queue-data.now r a.allowance a.behind l.invariant.1 l.card l.place l.done l.left l.gone l.invariant.2 (omega (arith, c.loop-gone-test.true, c.len-entries.ensures)) _
+    (flushes-full a.card.now a.queue_data.now r a.allowance a.behind l.invariant.1 l.card l.place l.done l.left l.gone l.invariant.2 (omega (arith, c.loop-gone-test.true, c.len-entries.ensures)) _
     (rw c.in-Full.is at (heads-met l.card l.place _ _ l.done l.left c.store_head.result _ x c.store_head.ensures)))
 
 pub ended-requires-in-Spent : goal.ended-requires-in-Spent
@@ -76,7 +76,7 @@ ended-requires-in-Spent c =
     let q = c.queue_entry-queued.result in
     let i = (c.head-first.result + l.gone) % 32 in
     let h = rw c.in-Spent.is at c.store_head.ensures in
-    let f = few-stores (data_at a.queue-data.now i) (data-size a.queue-data.now i l.invariant.1.queue_data (omega arith)) q.member q.entry l.place in
+    let f = few-stores (data_at a.queue_data.now i) (data-size a.queue_data.now i l.invariant.1.queue_data (omega arith)) q.member q.entry l.place in
     rw l.invariant.0 (l.invariant.2.among, l.invariant.1.room, l.invariant.1.head, omega (arith, h.0, f))
 
 pub shape_of-card-in-Spent : goal.shape_of-card-in-Spent
@@ -88,9 +88,9 @@ returns-in-Spent c =
     let r = record_in a.rec.now in
     let l = c.loop-gone in
     let q = c.queue_entry-queued in
-    let x = entry-met a.queue-data.now r _ l.gone q.result.member q.result.entry c.head-first.ensures (rw l.invariant.0 at q.ensures.0) (rw l.invariant.0 at q.ensures.1) in
+    let x = entry-met a.queue_data.now r _ l.gone q.result.member q.result.entry c.head-first.ensures (rw l.invariant.0 at q.ensures.0) (rw l.invariant.0 at q.ensures.1) in
     rw (c.ended-in-Spent.ensures, l.invariant.0)
-    (flushes-spent a.card.now a.queue-data.now r a.allowance a.behind l.invariant.1 l.card l.place l.done l.left l.gone l.invariant.2 (omega (arith, c.loop-gone-test.true, c.len-entries.ensures)) _ _
+    (flushes-spent a.card.now a.queue_data.now r a.allowance a.behind l.invariant.1 l.card l.place l.done l.left l.gone l.invariant.2 (omega (arith, c.loop-gone-test.true, c.len-entries.ensures)) _ _
     (rw c.in-Spent.is at (heads-met l.card l.place _ _ l.done l.left c.store_head.result _ x c.store_head.ensures)))
 
 pub overflow_sub-left : goal.overflow_sub-left
@@ -108,10 +108,10 @@ loop-gone-preserved c =
     let r = record_in a.rec.now in
     let l = c.loop-gone in
     let q = c.queue_entry-queued in
-    let x = entry-met a.queue-data.now r _ l.gone q.result.member q.result.entry c.head-first.ensures (rw l.invariant.0 at q.ensures.0) (rw l.invariant.0 at q.ensures.1) in (
+    let x = entry-met a.queue_data.now r _ l.gone q.result.member q.result.entry c.head-first.ensures (rw l.invariant.0 at q.ensures.0) (rw l.invariant.0 at q.ensures.1) in (
       l.invariant.0,
       l.invariant.1,
-      going_on a.card.now a.queue-data.now r a.allowance a.behind l.card l.place l.done l.left l.gone l.invariant.2 (omega (arith, c.loop-gone-test.true, c.len-entries.ensures)) _ _ _ c.card-1.given
+      going_on a.card.now a.queue_data.now r a.allowance a.behind l.card l.place l.done l.left l.gone l.invariant.2 (omega (arith, c.loop-gone-test.true, c.len-entries.ensures)) _ _ _ c.card-1.given
           (rw c.in-Drained.is at (heads-met l.card l.place _ _ l.done l.left c.store_head.result _ x c.store_head.ensures)),
     )
 
@@ -133,4 +133,4 @@ returns c =
     let a = c.args in
     let r = record_in a.rec.now in
     let l = c.loop-gone in
-    rw (c.ended-2.ensures, l.invariant.0) (flushes-drained a.card.now a.queue-data.now r a.allowance a.behind l.invariant.1 l.card l.place l.done l.left l.gone l.invariant.2 (omega (arith, c.loop-gone-test.false, c.len-entries.ensures)))
+    rw (c.ended-2.ensures, l.invariant.0) (flushes-drained a.card.now a.queue_data.now r a.allowance a.behind l.invariant.1 l.card l.place l.done l.left l.gone l.invariant.2 (omega (arith, c.loop-gone-test.false, c.len-entries.ensures)))

@@ -13,14 +13,14 @@ returns c st sh =
     let f = c.before.before.before.before.before.before.before in
     let j = f.before.enter-journal in
     let a = c.before.before.before.before.before.before.before.before.before.before.before.before.before.before.args in
-    ends-conflict st a.queue-data.now a.journal-data.now (record_in a.rec.now) a.u (record_in c.count-conflict.new.0) (sym (j.ensures.answer st sh) ∙ not-true j.result f.if1.true)
+    ends-conflict st a.queue_data.now a.journal_data.now (record_in a.rec.now) a.u (record_in c.count-conflict.new.0) (sym (j.ensures.answer st sh) ∙ not-true j.result f.if1.true)
     (c.count-conflict.ensures ∙ (λ i. conflict_counted (c.before.before.before.before.before.window.ensures i) (c.before.before.close.ensures st.lists (lists-shown _ st sh) i)))
 
 returns-2 : tie.Need-returns-2
 returns-2 c st sh =
     let a = c.before.before.before.before.before.before.before.before.before.before.before.before.args in
     let j = c.before.before.before.before.before.before.enter-journal in
-    ends-full st a.queue-data.now a.journal-data.now (record_in a.rec.now) a.u (sym (j.ensures.answer st sh) ∙ not-false j.result c.before.before.before.before.before.if1.false)
+    ends-full st a.queue_data.now a.journal_data.now (record_in a.rec.now) a.u (sym (j.ensures.answer st sh) ∙ not-false j.result c.before.before.before.before.before.if1.false)
     (omega (arith, c.before.before.before.len.ensures, c.before.journal-len.ensures, c.if2.true))
 
 returns-3 : tie.Need-returns-3
@@ -29,11 +29,11 @@ returns-3 c st sh =
     let j = c.before.before.before.before.before.before.before.before.before.before.before.before.before.before.before.before.before.enter-journal in
     let q = c.before.before.before.before.before.before.before.before.queue-unit in
     let f = c.before.before.before.relist-journal in
-    ends-accepted st a.queue-data.now a.journal-data.now (record_in a.rec.now) a.u (sym (j.ensures.answer st sh) ∙ not-false j.result c.before.before.before.before.before.before.before.before.before.before.before.before.before.before.before.before.if1.false)
+    ends-accepted st a.queue_data.now a.journal_data.now (record_in a.rec.now) a.u (sym (j.ensures.answer st sh) ∙ not-false j.result c.before.before.before.before.before.before.before.before.before.before.before.before.before.before.before.before.if1.false)
     _ (tables_in f.new.0) _ (record_in q.new.1.1.0) (record_in f.new.1.0) (record_in c.close2.new.1.0) sh
     (omega (arith, c.before.before.before.before.before.before.before.before.before.before.before.before.before.before.len.ensures, c.before.before.before.before.before.before.before.before.before.before.before.before.journal-len.ensures, c.before.before.before.before.before.before.before.before.before.before.before.if2.false)) q.ensures f.ensures c.close2.ensures
 
 pub relist_journal-requires : goal.relist_journal-requires
 relist_journal-requires c =
     let q = c.queue_unit in
-    queued-ready c.args.queue-data.now c.args.journal-data.now (record_in c.args.rec.now) c.args.u _ (record_in q.new.1.1.0) q.ensures c.requires
+    queued-ready c.args.queue_data.now c.args.journal_data.now (record_in c.args.rec.now) c.args.u _ (record_in q.new.rec) q.ensures c.requires

@@ -7,7 +7,7 @@ use borrow.Author.Rules.{rules}
 use Rattle.calls.proofs.end.queue_unit.Goals as goal
 
 pub loop-k-init : goal.loop-k-init
-loop-k-init c = let a = c.args in along-start a.queue-data.now a.journal-data.now a.u (record_in a.rec.now) c.requires.0
+loop-k-init c = let a = c.args in along-start a.queue_data.now a.journal_data.now a.u (record_in a.rec.now) c.requires.0
 
 pub journal_entry-e-requires : goal.journal_entry-e-requires
 journal_entry-e-requires c =
@@ -30,7 +30,7 @@ queue_member-requires c =
       omega (arith, i.len, n, t, c.requires.1),
       omega (arith, i.head, r.head),
       omega (arith, r.last, r.room, t, n),
-      along-lawful a.queue-data.now a.journal-data.now a.u (record_in a.rec.now) l.queue-data (record_in l.rec) l.k i _ c.journal_entry-e.ensures r (omega (arith, t, n)),
+      along-lawful a.queue_data.now a.journal_data.now a.u (record_in a.rec.now) l.queue_data (record_in l.rec) l.k i _ c.journal_entry-e.ensures r (omega (arith, t, n)),
     )
 
 pub overflow_add-k : goal.overflow_add-k
@@ -44,7 +44,7 @@ loop-k-preserved c =
     let a = c.args in
     let l = c.loop-k in
     let m = c.queue_member in
-    along-step a.queue-data.now a.journal-data.now a.u (record_in a.rec.now) l.queue-data (record_in l.rec) l.k l.invariant _ _ (record_in m.new.1.1.0) c.journal_entry-e.ensures (omega (arith, c.loop-k-test.true, c.journal_len-entries.ensures)) (search rules) m.ensures
+    along-step a.queue_data.now a.journal_data.now a.u (record_in a.rec.now) l.queue_data (record_in l.rec) l.k l.invariant _ _ (record_in m.new.rec) c.journal_entry-e.ensures (omega (arith, c.loop-k-test.true, c.journal_len-entries.ensures)) (search rules) m.ensures
 
 pub overflow_cast-count : goal.overflow_cast-count
 overflow_cast-count c = omega (arith, c.requires.0.room, c.journal_len-entries.ensures)
@@ -58,4 +58,4 @@ pub returns : goal.returns
 returns c =
     let a = c.args in
     let l = c.loop-k in
-    along-end a.queue-data.now a.journal-data.now a.u (record_in a.rec.now) l.queue-data (record_in l.rec) l.k l.invariant (record_in c.append.new.rec) (omega (arith, c.loop-k-test.false, c.journal_len-entries.ensures)) (rw c.journal_len-entries.ensures at c.append.ensures)
+    along-end a.queue_data.now a.journal_data.now a.u (record_in a.rec.now) l.queue_data (record_in l.rec) l.k l.invariant (record_in c.append.new.rec) (omega (arith, c.loop-k-test.false, c.journal_len-entries.ensures)) (rw c.journal_len-entries.ensures at c.append.ensures)

@@ -9,7 +9,7 @@ use Rattle.calls.proofs.enter.enter.Goals as goal
 pub returns-in-Refused : goal.returns-in-Refused
 returns-in-Refused c =
     let a = c.args in
-    unsound a.stream (disk_in a.card.now a.queue-data.now a.journal-data.now a.rec.now) a.s _ (rw c.in-Refused.is at c.look_committed.ensures)
+    unsound a.stream (disk_in a.card.now a.queue_data.now a.journal_data.now a.rec.now) a.s _ (rw c.in-Refused.is at c.look_committed.ensures)
 
 pub returns-then-s-eq0 : goal.returns-then-s-eq0
 returns-then-s-eq0 c = stands _ _ _ _ (rw c.in-Seen.is at c.look_committed.ensures) (open-zero _ _ _ c.if-stream.true c.if-s-eq0.true)
@@ -17,7 +17,7 @@ returns-then-s-eq0 c = stands _ _ _ _ (rw c.in-Seen.is at c.look_committed.ensur
 pub returns-then-is_open : goal.returns-then-is_open
 returns-then-is_open c =
     let a = c.args in
-    let d = disk_in a.card.now a.queue-data.now a.journal-data.now a.rec.now in
+    let d = disk_in a.card.now a.queue_data.now a.journal_data.now a.rec.now in
     stands a.stream d a.s _ (rw c.in-Seen.is at c.look_committed.ensures)
     (⊎_elim (λ w. open-stream a.stream d a.s w.1.left) (λ w. open-unit a.stream d a.s w.left) c.if-stream.branch ∙ sym c.is_open.ensures ∙ c.if-is_open.true)
 
@@ -25,6 +25,6 @@ pub returns-else-is_open : goal.returns-else-is_open
 unfolding number
 returns-else-is_open c =
     let a = c.args in
-    let d = disk_in a.card.now a.queue-data.now a.journal-data.now a.rec.now in
+    let d = disk_in a.card.now a.queue_data.now a.journal_data.now a.rec.now in
     stands-closed a.stream d a.s _ (rw c.in-Seen.is at c.look_committed.ensures)
     (⊎_elim (λ w. open-stream a.stream d a.s w.1.left) (λ w. open-unit a.stream d a.s w.left) c.if-stream.branch ∙ sym c.is_open.ensures ∙ c.if-is_open.false)

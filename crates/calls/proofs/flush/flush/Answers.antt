@@ -43,28 +43,28 @@ pub returns-then-allowance-gt-ALLOWANCE : goal.returns-then-allowance-gt-ALLOWAN
 returns-then-allowance-gt-ALLOWANCE c =
     let a = c.args in
     let x = rw c.in-Sound.is at c.examine.ensures in
-    outside a.allowance (disk_in a.card.now a.queue-data.now a.journal-data.now a.rec.now) x.lengths x.sound c.if-allowance-gt-ALLOWANCE.true
+    outside a.allowance (disk_in a.card.now a.queue_data.now a.journal_data.now a.rec.now) x.lengths x.sound c.if-allowance-gt-ALLOWANCE.true
 
 pub drain-requires : goal.drain-requires
 drain-requires c =
     let a = c.args in
     let x = rw c.in-Sound.is at c.examine.ensures in
-    flushable (disk_in a.card.now a.queue-data.now a.journal-data.now a.rec.now) _ x.lengths x.sound x.place
+    flushable (disk_in a.card.now a.queue_data.now a.journal_data.now a.rec.now) _ x.lengths x.sound x.place
 
 pub returns-in-WrongLength : goal.returns-in-WrongLength
 returns-in-WrongLength c =
     let a = c.args in
-    wrong-length a.allowance (disk_in a.card.now a.queue-data.now a.journal-data.now a.rec.now) (rw c.in-WrongLength.is at c.examine.ensures)
+    wrong-length a.allowance (disk_in a.card.now a.queue_data.now a.journal_data.now a.rec.now) (rw c.in-WrongLength.is at c.examine.ensures)
 
 pub returns-in-Unsound : goal.returns-in-Unsound
 returns-in-Unsound c =
     let a = c.args in
     let x = rw c.in-Unsound.is at c.examine.ensures in
-    unsound a.allowance (disk_in a.card.now a.queue-data.now a.journal-data.now a.rec.now) x.0 x.1
+    unsound a.allowance (disk_in a.card.now a.queue_data.now a.journal_data.now a.rec.now) x.0 x.1
 
 pub returns-else-allowance-gt-ALLOWANCE : goal.returns-else-allowance-gt-ALLOWANCE
 returns-else-allowance-gt-ALLOWANCE c =
     let a = c.args in
     let x = rw c.in-Sound.is at c.examine.ensures in
-    let d = disk_in a.card.now a.queue-data.now a.journal-data.now a.rec.now in
-    performs-accepted (flush a.allowance) d _ (inside a.allowance d x.lengths x.sound c.if-allowance-gt-ALLOWANCE.false) (c.drain.ensures a.journal-data.now)
+    let d = disk_in a.card.now a.queue_data.now a.journal_data.now a.rec.now in
+    performs-accepted (flush a.allowance) d _ (inside a.allowance d x.lengths x.sound c.if-allowance-gt-ALLOWANCE.false) (c.drain.ensures a.journal_data.now)

@@ -8,7 +8,7 @@ use Rattle.calls.proofs.give.put_block.Goals as goal
 pub withdraw-requires : goal.withdraw-requires
 withdraw-requires c =
     let y = c.add in
-    padded-given c.args.s _ _ (record_in c.args.rec.now) (record_in y.new.0) _ (rw c.in-Accepted.is at y.ensures) c.held.ensures c.requires.4
+    padded-given c.args.s _ _ (record_in c.args.rec.now) (record_in y.new.rec) _ (rw c.in-Accepted.is at y.ensures) c.held.ensures c.requires.4
 
 pub returns-in-Refused : goal.returns-in-Refused
 returns-in-Refused c =

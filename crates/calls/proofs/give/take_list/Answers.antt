@@ -23,18 +23,18 @@ held-requires c =
 pub withdraw-requires : goal.withdraw-requires
 withdraw-requires c =
     let y = c.add in
-    padded-given c.args.s _ _ (record_in c.args.rec.now) (record_in y.new.0) _ (rw c.in-Accepted.is at y.ensures) c.held.ensures c.requires.0
+    padded-given c.args.s _ _ (record_in c.args.rec.now) (record_in y.new.rec) _ (rw c.in-Accepted.is at y.ensures) c.held.ensures c.requires.0
 
 pub returns-in-Refused : goal.returns-in-Refused
 returns-in-Refused c =
     let y = c.add in
-    takes-full c.args.s (record_in c.args.rec.now) _ c.first_free-l.ensures c.if-l-eq0.false _ (record_in y.new.0)
+    takes-full c.args.s (record_in c.args.rec.now) _ c.first_free-l.ensures c.if-l-eq0.false _ (record_in y.new.rec)
     (rw c.in-Refused.is at y.ensures)
 
 pub returns-in-Accepted : goal.returns-in-Accepted
 returns-in-Accepted c =
     let y = c.add in
     let s = c.args.s in
-    takes s (record_in c.args.rec.now) _ c.first_free-l.ensures c.if-l-eq0.false (record_in y.new.0) _
+    takes s (record_in c.args.rec.now) _ c.first_free-l.ensures c.if-l-eq0.false (record_in y.new.rec) _
     (rw c.in-Accepted.is at y.ensures)
-    (c.withdraw.ensures ∙ ap (λ (r : Record). unlisted c.list_number-n.result r) c.held.ensures ∙ ap (λ (n : ℕ). unlisted n (held_by s n (record_in y.new.0))) c.list_number-n.ensures)
+    (c.withdraw.ensures ∙ ap (λ (r : Record). unlisted c.list_number-n.result r) c.held.ensures ∙ ap (λ (n : ℕ). unlisted n (held_by s n (record_in y.new.rec))) c.list_number-n.ensures)

@@ -12,7 +12,7 @@ pub returns-in-Refused : goal.returns-in-Refused
 unfolding number_answer
 returns-in-Refused c =
     let a = c.args in
-    let d = disk_in a.card.now a.queue-data.now a.journal-data.now a.rec.now in
+    let d = disk_in a.card.now a.queue_data.now a.journal_data.now a.rec.now in
     edit-unseen d a.stream (new_block a.list a.predecessor) _ (rw c.in-Refused.is at c.look_stream.ensures)
 
 pub put_free-requires : goal.put_free-requires
@@ -21,6 +21,6 @@ put_free-requires c = seen-padded (rw c.in-Seen.is at c.look_stream.ensures)
 pub returns : goal.returns
 returns c =
     let a = c.args in
-    let d = disk_in a.card.now a.queue-data.now a.journal-data.now a.rec.now in
+    let d = disk_in a.card.now a.queue_data.now a.journal_data.now a.rec.now in
     let k = rw c.in-Seen.is at c.look_stream.ensures in
-    puts-performs a.stream d _ k a.list a.predecessor c.put_free.result (record_in c.put_free.new.rec.0) c.put_free.ensures
+    puts-performs a.stream d _ k a.list a.predecessor c.put_free.result (record_in c.put_free.new.rec) c.put_free.ensures

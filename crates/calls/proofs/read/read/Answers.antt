@@ -49,7 +49,7 @@ copy_content-requires c =
     let w = sym r ∙ not-false c.both.result c.if-not-both.false-raw in
     let s = rw c.in-Seen.is at c.look_view.ensures in (
       omega (arith, c.if-number-eq-UNWRITTEN.false),
-      read-sized (disk_in a.card.now a.queue-data.now a.journal-data.now a.rec.now) a.view a.block a.dest.now _ s w
+      read-sized (disk_in a.card.now a.queue_data.now a.journal_data.now a.rec.now) a.view a.block a.dest.now _ s w
           _ (placed-said c.is_placed.ensures) (not-false c.is_placed.result c.if-not-is_placed.false-raw) c.location_of-number.result (location-said c.location_of-number.ensures)
           c.if-number-eq-UNWRITTEN.false,
       (read-range a.block (length a.dest.now) w).1,

@@ -11,12 +11,12 @@ pub returns-in-Refused : goal.returns-in-Refused
 unfolding reply_answer
 returns-in-Refused c =
     let a = c.args in
-    edit-unseen (disk_in a.card.now a.queue-data.now a.journal-data.now a.rec.now) a.stream (write_block a.block a.race a.content.now) _ (rw c.in-Refused.is at c.look_stream.ensures)
+    edit-unseen (disk_in a.card.now a.queue_data.now a.journal_data.now a.rec.now) a.stream (write_block a.block a.race a.content.now) _ (rw c.in-Refused.is at c.look_stream.ensures)
 
 pub place_next-at-requires : goal.place_next-at-requires
 place_next-at-requires c =
     let a = c.args in
-    write-ranges (disk_in a.card.now a.queue-data.now a.journal-data.now a.rec.now) a.stream _ (rw c.in-Seen.is at c.look_stream.ensures)
+    write-ranges (disk_in a.card.now a.queue_data.now a.journal_data.now a.rec.now) a.stream _ (rw c.in-Seen.is at c.look_stream.ensures)
 
 pub write_placed-reply-requires : goal.write_placed-reply-requires
 write_placed-reply-requires c = seen-ranges (rw c.in-Seen.is at c.look_stream.ensures)
@@ -25,8 +25,8 @@ pub copy_content-requires : goal.copy_content-requires
 copy_content-requires c =
     let a = c.args in
     let w = c.write_placed-reply in
-    let r = record_in w.new.0 in
-    let d = disk_in a.card.now a.queue-data.now a.journal-data.now a.rec.now in
+    let r = record_in w.new.rec in
+    let d = disk_in a.card.now a.queue_data.now a.journal_data.now a.rec.now in
     let z = rw c.in-Seen.is at c.look_stream.ensures in
     let h = write-decides d a.stream a.block a.race a.content.now w.result r _ z w.ensures in
     rw c.place_next-at.ensures (write-fits d a.stream a.block a.race a.content.now w.result r _ z c.in-Accepted.is h)
@@ -35,8 +35,8 @@ pub returns-in-Accepted : goal.returns-in-Accepted
 returns-in-Accepted c =
     let a = c.args in
     let w = c.write_placed-reply in
-    let r = record_in w.new.0 in
-    let d = disk_in a.card.now a.queue-data.now a.journal-data.now a.rec.now in
+    let r = record_in w.new.rec in
+    let d = disk_in a.card.now a.queue_data.now a.journal_data.now a.rec.now in
     let z = rw c.in-Seen.is at c.look_stream.ensures in
     let h = write-decides d a.stream a.block a.race a.content.now w.result r _ z w.ensures in
     write-accepted d a.stream a.block a.race a.content.now w.result r c.in-Accepted.is h _ _ (rw c.place_next-at.ensures at c.copy_content.ensures)
@@ -45,8 +45,8 @@ pub returns-in-Refused-reply : goal.returns-in-Refused-reply
 returns-in-Refused-reply c =
     let a = c.args in
     let w = c.write_placed-reply in
-    let r = record_in w.new.0 in
-    let d = disk_in a.card.now a.queue-data.now a.journal-data.now a.rec.now in
+    let r = record_in w.new.rec in
+    let d = disk_in a.card.now a.queue_data.now a.journal_data.now a.rec.now in
     let z = rw c.in-Seen.is at c.look_stream.ensures in
     let h = write-decides d a.stream a.block a.race a.content.now w.result r _ z w.ensures in
     write-refused d a.stream a.block a.race a.content.now w.result r _ c.in-Refused-reply.is h

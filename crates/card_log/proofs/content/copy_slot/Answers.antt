@@ -4,10 +4,8 @@ use lib.ListN.{length}
 use Rattle.card_log.proofs.Copying.{splice-whole, slot-room, slot-part}
 use Rattle.card_log.proofs.content.copy_slot.Goals as goal
 
--- TODO slice-bounds-copy-in-end
---
---     let a = c.before.before.before.args in
---     slot-room a.src.now a.k c.before.before.before.requires.1
+pub slice_bounds-copy_in-end : goal.slice_bounds-copy_in-end
+slice_bounds-copy_in-end c = slot-room c.args.src.now c.args.k c.requires.1
 
 pub returns : goal.returns
 returns c =

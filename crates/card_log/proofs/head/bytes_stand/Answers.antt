@@ -1,9 +1,7 @@
 -- The invariant: the bytes from i on stand exactly if all of them do. Assumes nothing.
-use mathlib.Core.Path.{◌≡◌, sym, ◌∙◌}
-use Prim.Native.Nat.{◌-◌, ◌≤◌}
+use mathlib.Core.Path.{sym, ◌∙◌}
 use native.Mathlib.Omega.{arith}
-use Rattle.card_log.specs.promises.Begun.{stands_from}
-use Rattle.card_log.proofs.Begun.{left_at, left-all, left-same, left_other, left-none}
+use Rattle.card_log.proofs.Begun.{left-all, left-same, left_other, left-none}
 use Rattle.card_log.proofs.head.bytes_stand.Goals as goal
 
 pub loop-i-init : goal.loop-i-init

@@ -1,9 +1,8 @@
 -- The invariant: the bytes from i on stand exactly if all of them do. Assumes nothing.
-use mathlib.Core.Path.{◌≡◌, sym, ◌∙◌}
+use mathlib.Core.Path.{◌≡◌}
 use Prim.Native.Nat.{◌-◌, ◌≤◌}
-use native.Mathlib.Omega.{arith}
 use Rattle.card_log.specs.promises.Begun.{stands_from}
-use Rattle.card_log.proofs.Begun.{left_at, left-all, left-same, left_other, left-none}
+use Rattle.card_log.proofs.Begun.{left_at}
 use Rattle.card_log.proofs.head.bytes_stand.Given as goal
 
 abbrev pub invariant-loop-i : goal.invariant-loop-i

@@ -1,10 +1,6 @@
 -- Each arm tests what `legal-tested` says of its kind. Assumes nothing.
 use Rattle.card_log.proofs.LegalEntry.{legal-tested}
 use Rattle.card_log.specs.declared.entry.LogEntry.TheVariants.{Take, PutFirst, PutAfter, Write, DeleteBlock, DeleteList, Commit}
-use Rattle.card_log.proofs.legal.is_legal.Reads as reads
-use Rattle.card_log.proofs.legal.is_legal.Lts as lts
-use Rattle.card_log.proofs.legal.both.Reads as both-reads
-use Rattle.card_log.proofs.legal.is_member.Reads as is-member-reads
 use Rattle.card_log.proofs.legal.is_legal.Goals as goal
 
 pub returns-in-Take : goal.returns-in-Take

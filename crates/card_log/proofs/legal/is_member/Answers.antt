@@ -1,11 +1,6 @@
 -- Each arm tests what `member-tested` says of its kind. Assumes nothing.
 use Rattle.card_log.proofs.LegalEntry.{member-tested}
 use Rattle.card_log.specs.declared.entry.LogEntry.TheVariants.{Take, PutFirst, PutAfter, Write, DeleteBlock, DeleteList, Commit}
-use Rattle.card_log.proofs.legal.is_member.Reads as reads
-use Rattle.card_log.proofs.legal.is_member.Lts as lts
-use Rattle.card_log.proofs.legal.both.Reads as both-reads
-use Rattle.card_log.proofs.legal.is_block.Reads as is-block-reads
-use Rattle.card_log.proofs.legal.is_list.Reads as is-list-reads
 use Rattle.card_log.proofs.legal.is_member.Goals as goal
 
 pub returns-in-Take : goal.returns-in-Take
@@ -18,7 +13,7 @@ pub returns-in-PutAfter : goal.returns-in-PutAfter
 returns-in-PutAfter c = cc (member-tested (PutAfter c.in-PutAfter.block c.in-PutAfter.list c.in-PutAfter.predecessor))
 
 pub returns-in-Write : goal.returns-in-Write
-returns-in-Write c = let g = c.e-in-Write-1.given.0 in cc (member-tested (Write g.0 g.1.0 g.1.1.0))
+returns-in-Write c = cc (member-tested (Write c.in-Write.block c.in-Write.slot c.in-Write.race))
 
 pub returns-in-DeleteBlock : goal.returns-in-DeleteBlock
 returns-in-DeleteBlock c = cc (member-tested (DeleteBlock c.in-DeleteBlock.block))

@@ -4,4 +4,4 @@ use Rattle.card_log.proofs.Mounting.{mounts}
 use Rattle.card_log.proofs.mount.mount.Goals as goal
 
 pub returns : goal.returns
-returns c = mounts c.args.card.now (tables_in c.mount_on.new.nodes.0) c.mount_on.result c.mount_on.ensures
+returns c = mounts c.args.card.now (tables_in c.mount_on.new.nodes) c.mount_on.result c.mount_on.ensures

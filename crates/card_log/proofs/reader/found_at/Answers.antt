@@ -14,17 +14,17 @@ returns-then-map-ge-MARK c =
     let s = c.args in
     let m = c.byte_at-map in
     let d = rw c.in-Entry.is at c.parse.ensures in
-    rw (le-leb _ _ c.if-map-ge-MARK.true) at (finds-entry s.card.now s.segment s.offset s.slots c.requires m.result m.ensures m.type-inv _ _ d)
+    rw (le-leb _ _ c.if-map-ge-MARK.true) at (finds-entry s.card.now s.segment s.offset s.slots c.requires m.result m.ensures m.type_inv _ _ d)
 
 pub returns-else-map-ge-MARK : goal.returns-else-map-ge-MARK
 returns-else-map-ge-MARK c =
     let s = c.args in
     let m = c.byte_at-map in
     let d = rw c.in-Entry.is at c.parse.ensures in
-    rw (lt-leb _ _ c.if-map-ge-MARK.false) at (finds-entry s.card.now s.segment s.offset s.slots c.requires m.result m.ensures m.type-inv _ _ d)
+    rw (lt-leb _ _ c.if-map-ge-MARK.false) at (finds-entry s.card.now s.segment s.offset s.slots c.requires m.result m.ensures m.type_inv _ _ d)
 
 pub returns-in-Bad : goal.returns-in-Bad
 returns-in-Bad c =
     let s = c.args in
     let m = c.byte_at-map in
-    finds-none s.card.now s.segment s.offset s.slots c.requires m.result m.ensures m.type-inv (rw c.in-Bad.is at c.parse.ensures)
+    finds-none s.card.now s.segment s.offset s.slots c.requires m.result m.ensures m.type_inv (rw c.in-Bad.is at c.parse.ensures)

@@ -1,7 +1,6 @@
 -- The loop's invariant: the stores that are left, done on the card as it is, leave what all of them leave, and the segments behind them are empty.
 -- The measure is the number of segments that are left. Assumes nothing.
 use mathlib.Core.Path.{◌≡◌, refl, sym, ap, ◌∙◌}
-use mathlib.Core.Logic.{⊎_elim}
 use mathlib.Core.List.{List}
 use Prim.Native.Nat.{ℕ, zero, suc, ◌+◌, ◌-◌, ◌*◌, ◌≤◌, ◌<◌}
 use native.Mathlib.Omega.{arith}
@@ -13,6 +12,7 @@ use Rattle.card_log.specs.Store.{do_stores, format_stores}
 use Rattle.card_log.proofs.Formatting.{format-length}
 use Rattle.card_log.proofs.store.format_stores.Invariants.{rest, Empty}
 use Rattle.card_log.proofs.store.format_stores.Goals as goal
+use Rattle.card_log.proofs.store.format_stores.Goals.{then-k-left, else-k-left}
 
 rest-step : (s g : ℕ) (c : List ℕ) → s < g → rest s (g - 1) (set c (4096 * (g - 1) + 3584) 0) ≡ rest s g c
 unfolding do_stores format_stores
@@ -48,7 +48,7 @@ overflow_sub-stop c = omega arith
 pub loop-left-init : goal.loop-left-init
 loop-left-init c =
     let s = c.args in
-    (omega arith, refl, rest_all (segments_in s.card.now) s.k c.if-k-left.stop s.card.now (⊎_elim (λ w. omega arith) (λ w. omega arith) c.if-k-left.branch), λ h a b. absurd (omega arith))
+    (omega arith, refl, rest_all (segments_in s.card.now) s.k c.if-k-left.stop s.card.now (elim c.if-k-left.branch [ then-k-left w ↦ omega arith | else-k-left w ↦ omega arith ]), λ h a b. absurd (omega arith))
 
 pub overflow_sub-left : goal.overflow_sub-left
 overflow_sub-left c = omega arith

@@ -1,16 +1,11 @@
 -- The loop's invariant: the stores that are left, done on the card as it is, leave what all of them leave, and the segments behind them are empty.
 -- The measure is the number of segments that are left. Assumes nothing.
-use mathlib.Core.Path.{◌≡◌, refl, sym, ap, ◌∙◌}
-use mathlib.Core.Logic.{⊎_elim}
+use mathlib.Core.Path.{◌≡◌}
 use mathlib.Core.List.{List}
-use Prim.Native.Nat.{ℕ, zero, suc, ◌+◌, ◌-◌, ◌*◌, ◌≤◌, ◌<◌}
-use native.Mathlib.Omega.{arith}
-use native.Mathlib.Decide.{dec_lt, ℕ_discrete}
-use lib.ListN.{length, take, get_or, set, length-set}
-use lib.Seq.{take_all, get_or-set_same, get_or-set_other}
+use Prim.Native.Nat.{ℕ, ◌-◌, ◌≤◌, ◌<◌}
+use lib.ListN.{length, take}
 use Rattle.card_log.specs.Card.{segments_in, count}
 use Rattle.card_log.specs.Store.{do_stores, format_stores}
-use Rattle.card_log.proofs.Formatting.{format-length}
 use Rattle.card_log.proofs.store.format_stores.Given as goal
 
 -- the card when the segments from g on are done, up to segment s

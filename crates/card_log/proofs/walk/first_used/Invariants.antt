@@ -1,10 +1,7 @@
 -- The invariant: up to h no segment is used. Assumes nothing.
-use mathlib.Core.Path.{◌≡◌, refl, ◌∙◌}
+use mathlib.Core.Path.{◌≡◌}
 use Prim.Native.Nat.{ℕ, ◌-◌, ◌≤◌}
-use native.Mathlib.Omega.{arith}
-use borrow.Author.Tests.{lt-ltb, le-ltb}
 use Rattle.card_log.specs.Card.{after_empty}
-use Rattle.card_log.proofs.Walking.{empty-none, empty-used, empty-more}
 use Rattle.card_log.proofs.walk.first_used.Given as goal
 
 abbrev pub invariant-loop-h : goal.invariant-loop-h

@@ -1,6 +1,4 @@
 -- The two ways of the definition. Assumes nothing.
-use Rattle.card_log.proofs.walk.go.Reads as reads
-use Rattle.card_log.proofs.walk.go.Lts as lts
 use Rattle.card_log.proofs.walk.go.Goals as goal
 
 pub returns-then-accepted : goal.returns-then-accepted

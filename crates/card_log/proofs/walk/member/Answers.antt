@@ -15,8 +15,7 @@ use Rattle.card_log.proofs.walk.member.Goals as goal
 
 pub number_of-number-requires : goal.number_of-number-requires
 number_of-number-requires c =
-    let g = c.e-in-Write-1.given in
-    (rw c.card_location.ensures (omega (arith, c.requires.0, c.requires.1)), legal-race (Write g.0.0 g.0.1.0 g.0.1.1.0) (rw g.1 at c.requires.3))
+    (rw c.card_location.ensures (omega (arith, c.requires.0, c.requires.1)), legal-race (Write c.in-Write.block c.in-Write.slot c.in-Write.race) (rw c.in-Write.is at c.requires.3))
 
 pub returns-in-Take : goal.returns-in-Take
 unfolding of_kind carried carried_by as_entry used_by
@@ -53,9 +52,8 @@ returns-in-Write c =
     let k = c.keep-kept-in-Write.ensures in
     let n = c.number_of-number.ensures in
     let l = c.card_location.ensures in
-    let g = c.e-in-Write-1.given in
     rw (k.1, n, l)
-    (enters-later (record { tables = t; members = s.members.now }) s.run s.e _ g.1 (card_location s.g s.slots) s.at s.slots (omega arith) (card_location s.g s.slots + 2048 * g.0.1.1.0) _ (s.slots + 1) (rw k.0 at c.go-in-Write.ensures) refl (λ z. omega arith) refl refl)
+    (enters-later (record { tables = t; members = s.members.now }) s.run s.e _ c.in-Write.is (card_location s.g s.slots) s.at s.slots (omega arith) (card_location s.g s.slots + 2048 * c.in-Write.race) _ (s.slots + 1) (rw k.0 at c.go-in-Write.ensures) refl (λ z. omega arith) refl refl)
 
 pub returns-in-DeleteBlock : goal.returns-in-DeleteBlock
 unfolding of_kind carried carried_by as_entry used_by

@@ -16,15 +16,14 @@ use Rattle.card_log.proofs.walk.plain.Goals as goal
 
 pub number_of-number-requires : goal.number_of-number-requires
 number_of-number-requires c =
-    let g = c.e-in-Write-1.given in
-    (rw c.card_location.ensures (omega (arith, c.requires.0, c.requires.1)), legal-race (Write g.0.0 g.0.1.0 g.0.1.1.0) (rw g.1 at c.requires.2))
+    (rw c.card_location.ensures (omega (arith, c.requires.0, c.requires.1)), legal-race (Write c.in-Write.block c.in-Write.slot c.in-Write.race) (rw c.in-Write.is at c.requires.2))
 
 pub returns-in-Take : goal.returns-in-Take
 unfolding of_kind carried carried_by as_entry used_by
 returns-in-Take c =
     let s = c.args in
     let a = c.act-done in
-    enters-now (memory s.nodes.now s.members.now) s.run s.e _ c.in-Take.is (card_location s.g s.slots) s.at s.slots (omega arith) a.result (tables_in a.new.0) _ s.slots c.go.ensures (sym (add-zero s.slots)) (λ z. omega arith)
+    enters-now (memory s.nodes.now s.members.now) s.run s.e _ c.in-Take.is (card_location s.g s.slots) s.at s.slots (omega arith) a.result (tables_in a.new.nodes) _ s.slots c.go.ensures (sym (add-zero s.slots)) (λ z. omega arith)
     a.ensures
 
 pub returns-in-PutFirst : goal.returns-in-PutFirst
@@ -32,7 +31,7 @@ unfolding of_kind carried carried_by as_entry used_by
 returns-in-PutFirst c =
     let s = c.args in
     let a = c.act-done-in-PutFirst in
-    enters-now (memory s.nodes.now s.members.now) s.run s.e _ c.in-PutFirst.is (card_location s.g s.slots) s.at s.slots (omega arith) a.result (tables_in a.new.0) _ s.slots c.go-in-PutFirst.ensures (sym (add-zero s.slots)) (λ z. omega arith)
+    enters-now (memory s.nodes.now s.members.now) s.run s.e _ c.in-PutFirst.is (card_location s.g s.slots) s.at s.slots (omega arith) a.result (tables_in a.new.nodes) _ s.slots c.go-in-PutFirst.ensures (sym (add-zero s.slots)) (λ z. omega arith)
     a.ensures
 
 pub returns-in-PutAfter : goal.returns-in-PutAfter
@@ -40,7 +39,7 @@ unfolding of_kind carried carried_by as_entry used_by
 returns-in-PutAfter c =
     let s = c.args in
     let a = c.act-done-in-PutAfter in
-    enters-now (memory s.nodes.now s.members.now) s.run s.e _ c.in-PutAfter.is (card_location s.g s.slots) s.at s.slots (omega arith) a.result (tables_in a.new.0) _ s.slots c.go-in-PutAfter.ensures (sym (add-zero s.slots)) (λ z. omega arith)
+    enters-now (memory s.nodes.now s.members.now) s.run s.e _ c.in-PutAfter.is (card_location s.g s.slots) s.at s.slots (omega arith) a.result (tables_in a.new.nodes) _ s.slots c.go-in-PutAfter.ensures (sym (add-zero s.slots)) (λ z. omega arith)
     a.ensures
 
 pub returns-in-Write : goal.returns-in-Write
@@ -48,7 +47,7 @@ unfolding of_kind carried carried_by as_entry used_by
 returns-in-Write c =
     let s = c.args in
     let a = c.act-done-in-Write in
-    enters-now (memory s.nodes.now s.members.now) s.run s.e _ c.in-Write.is (card_location s.g s.slots) s.at s.slots (omega arith) a.result (tables_in a.new.0) _ (s.slots + 1) c.go-in-Write.ensures refl (λ z. omega arith)
+    enters-now (memory s.nodes.now s.members.now) s.run s.e _ c.in-Write.is (card_location s.g s.slots) s.at s.slots (omega arith) a.result (tables_in a.new.nodes) _ (s.slots + 1) c.go-in-Write.ensures refl (λ z. omega arith)
     (rw (c.number_of-number.ensures, c.card_location.ensures) at a.ensures)
 
 pub returns-in-DeleteBlock : goal.returns-in-DeleteBlock
@@ -56,7 +55,7 @@ unfolding of_kind carried carried_by as_entry used_by
 returns-in-DeleteBlock c =
     let s = c.args in
     let a = c.act-done-in-DeleteBlock in
-    enters-now (memory s.nodes.now s.members.now) s.run s.e _ c.in-DeleteBlock.is (card_location s.g s.slots) s.at s.slots (omega arith) a.result (tables_in a.new.0) _ s.slots c.go-in-DeleteBlock.ensures (sym (add-zero s.slots)) (λ z. omega arith)
+    enters-now (memory s.nodes.now s.members.now) s.run s.e _ c.in-DeleteBlock.is (card_location s.g s.slots) s.at s.slots (omega arith) a.result (tables_in a.new.nodes) _ s.slots c.go-in-DeleteBlock.ensures (sym (add-zero s.slots)) (λ z. omega arith)
     a.ensures
 
 pub returns-in-DeleteList : goal.returns-in-DeleteList
@@ -64,7 +63,7 @@ unfolding of_kind carried carried_by as_entry used_by
 returns-in-DeleteList c =
     let s = c.args in
     let a = c.act-done-in-DeleteList in
-    enters-now (memory s.nodes.now s.members.now) s.run s.e _ c.in-DeleteList.is (card_location s.g s.slots) s.at s.slots (omega arith) a.result (tables_in a.new.0) _ s.slots c.go-in-DeleteList.ensures (sym (add-zero s.slots)) (λ z. omega arith)
+    enters-now (memory s.nodes.now s.members.now) s.run s.e _ c.in-DeleteList.is (card_location s.g s.slots) s.at s.slots (omega arith) a.result (tables_in a.new.nodes) _ s.slots c.go-in-DeleteList.ensures (sym (add-zero s.slots)) (λ z. omega arith)
     a.ensures
 
 pub returns-in-Commit : goal.returns-in-Commit

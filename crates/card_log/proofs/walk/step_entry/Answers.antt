@@ -24,7 +24,7 @@ returns-in-Member c =
     let m = (memory s.nodes.now s.members.now) in
     let f = rw c.in-Member.is at c.entry_at.ensures in
     let y = c.member in
-    steps-entered s.card.now s.g s.cur m (memory s.nodes.now y.new.0) c.requires.holds true _ _ f y.result
+    steps-entered s.card.now s.g s.cur m (memory s.nodes.now y.new.members) c.requires.holds true _ _ f y.result
     (y.ensures (tables_in s.nodes.now))
 
 pub returns-in-Plain : goal.returns-in-Plain
@@ -33,7 +33,7 @@ returns-in-Plain c =
     let m = (memory s.nodes.now s.members.now) in
     let f = rw c.in-Plain.is at c.entry_at.ensures in
     let y = c.plain in
-    steps-entered s.card.now s.g s.cur m (memory y.new.0 s.members.now) c.requires.holds false _ _ f y.result
+    steps-entered s.card.now s.g s.cur m (memory y.new.nodes s.members.now) c.requires.holds false _ _ f y.result
     y.ensures
 
 pub returns-in-Bad : goal.returns-in-Bad

@@ -1,16 +1,14 @@
 -- The invariant: the walk has come to segment g, the tables keep its reader, and the items left are those of the segments from g on.
 -- Assumes nothing.
-use mathlib.Core.Path.{◌≡◌, refl, sym, subst}
-use Prim.Native.Nat.{◌-◌, ◌*◌, ◌≤◌}
+use mathlib.Core.Path.{refl, sym, subst}
 use native.Mathlib.Omega.{arith}
-use lib.ListN.{length}
 use Rattle.lists.specs.State.{empty}
 use Rattle.lists.specs.promises.Tables.{Tables, ShowsAll}
 use Rattle.lists.proofs.Emptied.{shows-emptied}
 use Rattle.card_log.specs.Card.{segments_in, count}
 use Rattle.card_log.specs.promises.Feed.{memory}
 use Rattle.card_log.proofs.CardLength.{card-small}
-use Rattle.card_log.proofs.Walking.{Upto, upto-start, upto-end, upto-empty, upto-used, upto-broken, upto-more}
+use Rattle.card_log.proofs.Walking.{upto-start, upto-end, upto-empty, upto-used, upto-broken, upto-more}
 use Rattle.card_log.proofs.walk.walk.Goals as goal
 
 pub loop-g-init : goal.loop-g-init
@@ -78,7 +76,7 @@ loop-g-preserved c =
       l.invariant.1,
       l.invariant.2,
       omega (arith, e.short, l.invariant.3),
-      upto-more s.card.now (segments_in s.card.now) l.g l.run l.behind (memory l.nodes l.members) u c.loop-g-test.true c.if-card-g-eq0.false _ _ (memory y.new.1.0 y.new.1.1.0) e.here (e.through u.reader u.kept),
+      upto-more s.card.now (segments_in s.card.now) l.g l.run l.behind (memory l.nodes l.members) u c.loop-g-test.true c.if-card-g-eq0.false _ _ (memory y.new.nodes y.new.members) e.here (e.through u.reader u.kept),
     )
 
 pub returns : goal.returns

@@ -1,16 +1,10 @@
 -- The invariant: the walk has come to segment g, the tables keep its reader, and the items left are those of the segments from g on.
 -- Assumes nothing.
-use mathlib.Core.Path.{◌≡◌, refl, sym, subst}
+use mathlib.Core.Path.{◌≡◌}
 use Prim.Native.Nat.{◌-◌, ◌*◌, ◌≤◌}
-use native.Mathlib.Omega.{arith}
 use lib.ListN.{length}
-use Rattle.lists.specs.State.{empty}
-use Rattle.lists.specs.promises.Tables.{Tables, ShowsAll}
-use Rattle.lists.proofs.Emptied.{shows-emptied}
-use Rattle.card_log.specs.Card.{segments_in, count}
 use Rattle.card_log.specs.promises.Feed.{memory}
-use Rattle.card_log.proofs.CardLength.{card-small}
-use Rattle.card_log.proofs.Walking.{Upto, upto-start, upto-end, upto-empty, upto-used, upto-broken, upto-more}
+use Rattle.card_log.proofs.Walking.{Upto}
 use Rattle.card_log.proofs.walk.walk.Given as goal
 
 abbrev pub invariant-loop-g : goal.invariant-loop-g

@@ -1,14 +1,11 @@
 -- The invariant: every reader kept at the start has passed the entries before i, and the place behind them is the cursor's. Assumes nothing.
 use mathlib.Core.Path.{◌≡◌, refl}
-use Prim.Native.Nat.{ℕ, ◌+◌, ◌-◌, ◌*◌, ◌≤◌, ◌<◌}
+use Prim.Native.Nat.{◌+◌, ◌*◌, ◌<◌}
 use native.Mathlib.Omega.{arith}
 use lib.ListN.{get_or}
-use Rattle.card_log.specs.Reader.{Reader}
 use Rattle.card_log.specs.Card.{count}
-use Rattle.card_log.specs.promises.Feed.{memory, Keeps}
-use Rattle.card_log.proofs.Walking.{Past, past-start, past-stuck, past_more, past_end}
-use Rattle.card_log.proofs.walk.walk_segment.Reads as reads
-use Rattle.card_log.proofs.walk.walk_segment.Lts as lts
+use Rattle.card_log.specs.promises.Feed.{memory}
+use Rattle.card_log.proofs.Walking.{past-start, past-stuck, past_more, past_end}
 use Rattle.card_log.proofs.walk.walk_segment.Goals as goal
 
 pub overflow_mul-start : goal.overflow_mul-start
@@ -76,7 +73,7 @@ loop-i-preserved c =
       omega (arith, e.short),
       λ r k.
           let w = l.invariant.6 r k in
-          past_more s.card.now s.g _ l.i l.cur r (memory l.nodes l.members) w _ (memory y.new.1.0 y.new.1.1.0) c.loop-i-test.true l.invariant.2 (e.went w.reader w.kept),
+          past_more s.card.now s.g _ l.i l.cur r (memory l.nodes l.members) w _ (memory y.new.nodes y.new.members) c.loop-i-test.true l.invariant.2 (e.went w.reader w.kept),
     )
 
 pub overflow_sub-behind : goal.overflow_sub-behind

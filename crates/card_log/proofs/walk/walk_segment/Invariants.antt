@@ -1,14 +1,8 @@
 -- The invariant: every reader kept at the start has passed the entries before i, and the place behind them is the cursor's. Assumes nothing.
-use mathlib.Core.Path.{◌≡◌, refl}
 use Prim.Native.Nat.{ℕ, ◌+◌, ◌-◌, ◌*◌, ◌≤◌, ◌<◌}
-use native.Mathlib.Omega.{arith}
-use lib.ListN.{get_or}
 use Rattle.card_log.specs.Reader.{Reader}
-use Rattle.card_log.specs.Card.{count}
 use Rattle.card_log.specs.promises.Feed.{memory, Keeps}
-use Rattle.card_log.proofs.Walking.{Past, past-start, past-stuck, past_more, past_end}
-use Rattle.card_log.proofs.walk.walk_segment.Reads as reads
-use Rattle.card_log.proofs.walk.walk_segment.Lts as lts
+use Rattle.card_log.proofs.Walking.{Past}
 use Rattle.card_log.proofs.walk.walk_segment.Given as goal
 
 abbrev pub invariant-loop-i : goal.invariant-loop-i

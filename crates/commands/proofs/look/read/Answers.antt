@@ -13,7 +13,7 @@ pub slice_bounds-read-end : goal.slice_bounds-read-end
 slice_bounds-read-end c = rw c.least-n.ensures (lent-count c.args.lent (replicate 1000 0))
 
 pub slice_bounds-part-end : goal.slice_bounds-part-end
-slice_bounds-part-end c = sym (length_front {A = ℕ} (replicate 1000 0) c.read-reply.new.1.1.1.1.1.1.0 c.least-n.result c.read-reply.auto.1.1.1.1.1.1.0)
+slice_bounds-part-end c = sym (length_front {A = ℕ} (replicate 1000 0) c.read-reply.new.dest c.least-n.result c.read-reply.auto.1.1.1.1.1.1.0)
 
 pub returns : goal.returns
 unfolding bytes_lent line_of look_line

@@ -48,32 +48,32 @@ pub returns-then-allowance-gt-ALLOWANCE : goal.returns-then-allowance-gt-ALLOWAN
 returns-then-allowance-gt-ALLOWANCE c =
     let a = c.args in
     let x = rw c.in-Sound.is at c.examine.ensures in
-    outside a.allowance (disk_in a.card.now a.queue-data.now a.journal-data.now a.rec.now) a.stores.now x.lengths x.sound c.if-allowance-gt-ALLOWANCE.true
+    outside a.allowance (disk_in a.card.now a.queue_data.now a.journal_data.now a.rec.now) a.stores.now x.lengths x.sound c.if-allowance-gt-ALLOWANCE.true
 
 pub list_queue-requires : goal.list_queue-requires
 list_queue-requires c =
     let a = c.args in
     let x = rw c.in-Sound.is at c.examine.ensures in (
-      flushable (disk_in a.card.now a.queue-data.now a.journal-data.now a.rec.now) _ x.lengths x.sound x.place,
+      flushable (disk_in a.card.now a.queue_data.now a.journal_data.now a.rec.now) _ x.lengths x.sound x.place,
       ⊎_elim (λ w. omega arith) (λ w. omega arith) c.if-allowance-room.branch,
     )
 
 pub returns-in-WrongLength : goal.returns-in-WrongLength
 returns-in-WrongLength c =
     let a = c.args in
-    wrong-length a.allowance (disk_in a.card.now a.queue-data.now a.journal-data.now a.rec.now) a.stores.now (rw c.in-WrongLength.is at c.examine.ensures)
+    wrong-length a.allowance (disk_in a.card.now a.queue_data.now a.journal_data.now a.rec.now) a.stores.now (rw c.in-WrongLength.is at c.examine.ensures)
 
 pub returns-in-Unsound : goal.returns-in-Unsound
 returns-in-Unsound c =
     let a = c.args in
     let x = rw c.in-Unsound.is at c.examine.ensures in
-    unsound a.allowance (disk_in a.card.now a.queue-data.now a.journal-data.now a.rec.now) a.stores.now x.0 x.1
+    unsound a.allowance (disk_in a.card.now a.queue_data.now a.journal_data.now a.rec.now) a.stores.now x.0 x.1
 
 pub returns-after-allowance-room : goal.returns-after-allowance-room
 returns-after-allowance-room c =
     let a = c.args in
     let x = rw c.in-Sound.is at c.examine.ensures in
     let m = c.if-allowance-room in
-    stores-listed a.allowance (disk_in a.card.now a.queue-data.now a.journal-data.now a.rec.now) a.stores.now m.most _ _ x.lengths x.sound c.if-allowance-gt-ALLOWANCE.false
+    stores-listed a.allowance (disk_in a.card.now a.queue_data.now a.journal_data.now a.rec.now) a.stores.now m.most _ _ x.lengths x.sound c.if-allowance-gt-ALLOWANCE.false
     (⊎_elim (λ w. omega arith) (λ w. omega arith) m.branch) (⊎_elim (λ w. omega arith) (λ w. omega arith) m.branch) (⊎_elim (λ w. inl (omega arith)) (λ w. inr (omega arith)) m.branch)
-    (c.list_queue.ensures a.journal-data.now)
+    (c.list_queue.ensures a.journal_data.now)

@@ -35,20 +35,20 @@ module _ (d : Disk) (x : List ℕ) where
 pub returns-then-not-lengths_right : goal.returns-then-not-lengths_right
 returns-then-not-lengths_right c =
     let a = c.args in
-    let d = disk_in a.card.now a.queue-data.now a.journal-data.now a.rec.now in
+    let d = disk_in a.card.now a.queue_data.now a.journal_data.now a.rec.now in
     let l = c.lengths_right in
     wrong-length d a.stores.now (sym (l.ensures d.rec) ∙ not-true l.result c.if-not-lengths_right.true-raw)
 
 pub list_counts-requires : goal.list_counts-requires
 list_counts-requires c =
     let a = c.args in
-    let d = disk_in a.card.now a.queue-data.now a.journal-data.now a.rec.now in
+    let d = disk_in a.card.now a.queue_data.now a.journal_data.now a.rec.now in
     let l = c.lengths_right in
     (card-small d.card (card-length d (sym (l.ensures d.rec) ∙ not-false l.result c.if-not-lengths_right.false-raw))).1
 
 pub returns : goal.returns
 returns c =
     let a = c.args in
-    let d = disk_in a.card.now a.queue-data.now a.journal-data.now a.rec.now in
+    let d = disk_in a.card.now a.queue_data.now a.journal_data.now a.rec.now in
     let l = c.lengths_right in
     counts d a.stores.now _ _ (sym (l.ensures d.rec) ∙ not-false l.result c.if-not-lengths_right.false-raw) c.list_counts.ensures

@@ -14,7 +14,7 @@ use Rattle.driver.proofs.queue.list_queue.Goals as goal
 pub loop-gone-init : goal.loop-gone-init
 loop-gone-init c =
     let a = c.args in
-    (c.requires.0, rw c.done-done.ensures (going_start a.card.now a.queue-data.now (record_in a.rec.now) a.behind a.most a.stores.now c.requires.0))
+    (c.requires.0, rw c.done-done.ensures (going_start a.card.now a.queue_data.now (record_in a.rec.now) a.behind a.most a.stores.now c.requires.0))
 
 pub overflow_add-i : goal.overflow_add-i
 overflow_add-i c = omega (arith, c.loop-gone.invariant.0.head, c.loop-gone.invariant.0.room, c.loop-gone-test.true, c.head-first.ensures, c.len-entries.ensures)
@@ -41,11 +41,11 @@ list_head-requires c =
     let r = record_in a.rec.now in
     let q = c.queue_entry-queued in
     let h = c.head-first in
-    let x = entry-met a.queue-data.now r _ l.gone q.result.member q.result.entry h.ensures q.ensures.0 q.ensures.1 in
+    let x = entry-met a.queue_data.now r _ l.gone q.result.member q.result.entry h.ensures q.ensures.0 q.ensures.1 in
     let n : l.gone < r.ring.len = omega (arith, c.loop-gone-test.true, c.len-entries.ensures) in (
       subst (λ (e : Entry Written). HeadListable (segments_in a.card.now) l.place e l.done) (sym x)
-          (going-head a.card.now a.queue-data.now r a.behind a.most a.stores.now l.stores l.place l.done l.at l.gone l.invariant.1 n l.invariant.0),
-      data-size a.queue-data.now ((h.result + l.gone) % 32) l.invariant.0.queue_data (omega arith),
+          (going-head a.card.now a.queue_data.now r a.behind a.most a.stores.now l.stores l.place l.done l.at l.gone l.invariant.1 n l.invariant.0),
+      data-size a.queue_data.now ((h.result + l.gone) % 32) l.invariant.0.queue_data (omega arith),
       l.invariant.1.most,
       omega (arith, c.requires.1, l.invariant.1.size),
     )
@@ -60,11 +60,11 @@ returns-in-Ended c =
     let r = record_in a.rec.now in
     let q = c.queue_entry-queued in
     let h = c.head-first in
-    let x = entry-met a.queue-data.now r _ l.gone q.result.member q.result.entry h.ensures q.ensures.0 q.ensures.1 in
+    let x = entry-met a.queue_data.now r _ l.gone q.result.member q.result.entry h.ensures q.ensures.0 q.ensures.1 in
     let n : l.gone < r.ring.len = omega (arith, c.loop-gone-test.true, c.len-entries.ensures) in
     let k = c.list_head in
-    λ j. whole-todo a.card.now a.queue-data.now r a.behind a.most a.stores.now j l.invariant.0.place
-    ∙ whole-ended a.card.now a.queue-data.now r a.behind a.most a.stores.now l.stores l.place l.done l.at l.gone l.invariant.1 n _ _
+    λ j. whole-todo a.card.now a.queue_data.now r a.behind a.most a.stores.now j l.invariant.0.place
+    ∙ whole-ended a.card.now a.queue_data.now r a.behind a.most a.stores.now l.stores l.place l.done l.at l.gone l.invariant.1 n _ _
     (rw c.in-Ended.is at (lists-met (segments_in a.card.now) l.place _ _ l.done a.most l.at l.stores k.result _ x k.ensures))
 
 pub overflow_add-gone : goal.overflow_add-gone
@@ -80,11 +80,11 @@ loop-gone-preserved c =
     let r = record_in a.rec.now in
     let q = c.queue_entry-queued in
     let h = c.head-first in
-    let x = entry-met a.queue-data.now r _ l.gone q.result.member q.result.entry h.ensures q.ensures.0 q.ensures.1 in
+    let x = entry-met a.queue_data.now r _ l.gone q.result.member q.result.entry h.ensures q.ensures.0 q.ensures.1 in
     let n : l.gone < r.ring.len = omega (arith, c.loop-gone-test.true, c.len-entries.ensures) in
     let k = c.list_head in (
       l.invariant.0,
-      going_on a.card.now a.queue-data.now r a.behind a.most a.stores.now l.stores l.place l.done l.at l.gone l.invariant.1 n _ _ _ c.stores-1.given
+      going_on a.card.now a.queue_data.now r a.behind a.most a.stores.now l.stores l.place l.done l.at l.gone l.invariant.1 n _ _ _ c.stores-1.given
           (rw c.in-Behind.is at (lists-met (segments_in a.card.now) l.place _ _ l.done a.most l.at l.stores k.result _ x k.ensures)),
     )
 
@@ -97,5 +97,5 @@ returns c =
     let a = c.args in
     let r = record_in a.rec.now in
     let n : r.ring.len ≤ l.gone = omega (arith, c.loop-gone-test.false, c.len-entries.ensures) in
-    λ j. whole-todo a.card.now a.queue-data.now r a.behind a.most a.stores.now j l.invariant.0.place
-    ∙ whole-drained a.card.now a.queue-data.now r a.behind a.most a.stores.now l.stores l.place l.done l.at l.gone l.invariant.1 n
+    λ j. whole-todo a.card.now a.queue_data.now r a.behind a.most a.stores.now j l.invariant.0.place
+    ∙ whole-drained a.card.now a.queue_data.now r a.behind a.most a.stores.now l.stores l.place l.done l.at l.gone l.invariant.1 n

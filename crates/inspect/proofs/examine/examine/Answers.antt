@@ -17,14 +17,14 @@ returns-then-not-lengths_right c =
 pub returns-then-not-numbers_right : goal.returns-then-not-numbers_right
 returns-then-not-numbers_right c =
     let s = c.args in
-    let d = disk_in s.card.now s.queue-data.now s.journal-data.now s.rec.now in
+    let d = disk_in s.card.now s.queue_data.now s.journal_data.now s.rec.now in
     let ls = sym (c.lengths_right.ensures (record_in s.rec.now)) ∙ not-false _ c.if-not-lengths_right.false-raw in
     wrong-numbers (cond s.persistent 5 0) d (tables_in s.nodes.now) ls (in-shaped s.rec.now) (sym c.numbers_right.ensures ∙ not-true _ c.if-not-numbers_right.true-raw)
 
 pub returns-then-not-units_right : goal.returns-then-not-units_right
 returns-then-not-units_right c =
     let s = c.args in
-    let d = disk_in s.card.now s.queue-data.now s.journal-data.now s.rec.now in
+    let d = disk_in s.card.now s.queue_data.now s.journal_data.now s.rec.now in
     let ls = sym (c.lengths_right.ensures (record_in s.rec.now)) ∙ not-false _ c.if-not-lengths_right.false-raw in
     let ns = sym c.numbers_right.ensures ∙ not-false _ c.if-not-numbers_right.false-raw in
     wrong-units (cond s.persistent 5 0) d (tables_in s.nodes.now) ls (in-shaped s.rec.now) ns (sym c.units_right.ensures ∙ not-true _ c.if-not-units_right.true-raw)
@@ -32,7 +32,7 @@ returns-then-not-units_right c =
 pub examine_log-requires : goal.examine_log-requires
 examine_log-requires c =
     let s = c.args in
-    let d = disk_in s.card.now s.queue-data.now s.journal-data.now s.rec.now in
+    let d = disk_in s.card.now s.queue_data.now s.journal_data.now s.rec.now in
     let ls = sym (c.lengths_right.ensures (record_in s.rec.now)) ∙ not-false _ c.if-not-lengths_right.false-raw in
     let ns = sym c.numbers_right.ensures ∙ not-false _ c.if-not-numbers_right.false-raw in
     let (a, b) = lengths-asked d ls in
@@ -42,9 +42,9 @@ examine_log-requires c =
 pub returns : goal.returns
 returns c =
     let s = c.args in
-    let d = disk_in s.card.now s.queue-data.now s.journal-data.now s.rec.now in
+    let d = disk_in s.card.now s.queue_data.now s.journal_data.now s.rec.now in
     let ls = sym (c.lengths_right.ensures (record_in s.rec.now)) ∙ not-false _ c.if-not-lengths_right.false-raw in
     let ns = sym c.numbers_right.ensures ∙ not-false _ c.if-not-numbers_right.false-raw in
     let us = sym c.units_right.ensures ∙ not-false _ c.if-not-units_right.false-raw in
     let l = c.examine_log.new.1.1.1.1 in
-    log-examined (cond s.persistent 5 0) d (tables_in l.0) ls (in-shaped s.rec.now) ns us c.examine_log.result (c.examine_log.ensures s.journal-data.now)
+    log-examined (cond s.persistent 5 0) d (tables_in l.0) ls (in-shaped s.rec.now) ns us c.examine_log.result (c.examine_log.ensures s.journal_data.now)

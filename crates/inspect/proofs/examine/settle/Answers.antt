@@ -12,16 +12,16 @@ returns-then-not-enter_queue c =
     let s = c.args in
     let q = c.enter_queue in
     let m = memory s.nodes.now s.members.now in
-    let t = tables_in q.new.0 in
-    settles-refused s.card.now s.queue-data.now m s.run (record_in s.rec.now) q.result t q.ensures (not-true _ c.if-not-enter_queue.true-raw)
+    let t = tables_in q.new.nodes in
+    settles-refused s.card.now s.queue_data.now m s.run (record_in s.rec.now) q.result t q.ensures (not-true _ c.if-not-enter_queue.true-raw)
 
 pub returns-then-not-holders_right : goal.returns-then-not-holders_right
 returns-then-not-holders_right c =
     let s = c.args in
     let q = c.enter_queue in
     let m = memory s.nodes.now s.members.now in
-    let t = tables_in q.new.0 in
-    settles-held s.card.now s.queue-data.now m s.run (record_in s.rec.now) q.result t q.ensures (not-false _ c.if-not-enter_queue.false-raw) c.holders_right.result c.holders_right.ensures (not-true _ c.if-not-holders_right.true-raw)
+    let t = tables_in q.new.nodes in
+    settles-held s.card.now s.queue_data.now m s.run (record_in s.rec.now) q.result t q.ensures (not-false _ c.if-not-enter_queue.false-raw) c.holders_right.result c.holders_right.ensures (not-true _ c.if-not-holders_right.true-raw)
 
 pub returns-then-not-listed_right : goal.returns-then-not-listed_right
 returns-then-not-listed_right c =
@@ -29,8 +29,8 @@ returns-then-not-listed_right c =
     let q = c.enter_queue in
     let s = c.args in
     let m = memory s.nodes.now s.members.now in
-    let t = tables_in q.new.0 in
-    settles-listed s.card.now s.queue-data.now m s.run (record_in s.rec.now) q.result t q.ensures (not-false _ c.if-not-enter_queue.false-raw) h.result h.ensures (not-false _ c.if-not-holders_right.false-raw) c.listed_right.result c.listed_right.ensures (not-true _ c.if-not-listed_right.true-raw)
+    let t = tables_in q.new.nodes in
+    settles-listed s.card.now s.queue_data.now m s.run (record_in s.rec.now) q.result t q.ensures (not-false _ c.if-not-enter_queue.false-raw) h.result h.ensures (not-false _ c.if-not-holders_right.false-raw) c.listed_right.result c.listed_right.ensures (not-true _ c.if-not-listed_right.true-raw)
 
 pub returns : goal.returns
 returns c =
@@ -39,5 +39,5 @@ returns c =
     let q = c.enter_queue in
     let s = c.args in
     let m = memory s.nodes.now s.members.now in
-    let t = tables_in q.new.0 in
-    settles-last s.card.now s.queue-data.now m s.run (record_in s.rec.now) q.result t q.ensures (not-false _ c.if-not-enter_queue.false-raw) h.result h.ensures (not-false _ c.if-not-holders_right.false-raw) f.result f.ensures (not-false _ c.if-not-listed_right.false-raw) c.head_stands.result (c.head_stands.ensures [])
+    let t = tables_in q.new.nodes in
+    settles-last s.card.now s.queue_data.now m s.run (record_in s.rec.now) q.result t q.ensures (not-false _ c.if-not-enter_queue.false-raw) h.result h.ensures (not-false _ c.if-not-holders_right.false-raw) f.result f.ensures (not-false _ c.if-not-listed_right.false-raw) c.head_stands.result (c.head_stands.ensures [])

@@ -19,7 +19,7 @@ pub returns-then-len-eq0 : goal.returns-then-len-eq0
 returns-then-len-eq0 c =
     let a = c.args in
     let r = record_in a.rec.now in
-    λ j. rw c.done-stores.ensures (sym (head-none a.card.now a.queue-data.now j r r.ring.done (sym c.len.ensures ∙ c.if-len-eq0.true)))
+    λ j. rw c.done-stores.ensures (sym (head-none a.card.now a.queue_data.now j r r.ring.done (sym c.len.ensures ∙ c.if-len-eq0.true)))
 
 pub is_begun-requires : goal.is_begun-requires
 unfolding as_place
@@ -28,7 +28,7 @@ is_begun-requires c =
     let e = as_entry false c.queue_entry-first.result.entry in
     let (w, i, f) =
     within-home (segments_in a.card.now) a.place c.in-At.p e c.requires.5 c.requires.6 (sym (rw c.in-At.is at c.home_of.ensures)) in
-    (c.requires.0, ap length (slot-part a.queue-data.now c.head-at.result) ∙ length-slot a.queue-data.now c.head-at.result (omega (arith, c.requires.1, c.requires.3, c.head-at.ensures)), w, i, f)
+    (c.requires.0, ap length (slot-part a.queue_data.now c.head-at.result) ∙ length-slot a.queue_data.now c.head-at.result (omega (arith, c.requires.1, c.requires.3, c.head-at.ensures)), w, i, f)
 
 pub returns-in-At : goal.returns-in-At
 unfolding as_place
@@ -39,8 +39,8 @@ returns-in-At c =
     let r = record_in a.rec.now in
     let g = c.p-1.given in
     λ j.
-    rw (head-some a.card.now a.queue-data.now j r r.ring.done _ a.place (some g.0.0) c.requires.3
-    (λ z. c.if-len-eq0.false (c.len.ensures ∙ z)) (slot-part a.queue-data.now r.ring.head) c.requires.4
+    rw (head-some a.card.now a.queue_data.now j r r.ring.done _ a.place (some g.0.0) c.requires.3
+    (λ z. c.if-len-eq0.false (c.len.ensures ∙ z)) (slot-part a.queue_data.now r.ring.head) c.requires.4
     (sym (rw (g.1, q.ensures.1, h.ensures) at c.home_of.ensures)))
     (rw (q.ensures.0, q.ensures.1, h.ensures, c.done-stores.ensures) at c.is_begun.ensures)
 
@@ -53,6 +53,6 @@ returns-in-Full c =
     let r = record_in a.rec.now in
     λ j.
     rw c.done-stores.ensures
-    (sym (head-some a.card.now a.queue-data.now j r r.ring.done _ a.place none c.requires.3
+    (sym (head-some a.card.now a.queue_data.now j r r.ring.done _ a.place none c.requires.3
     (λ z. c.if-len-eq0.false (c.len.ensures ∙ z)) refl c.requires.4
     (sym (rw (c.in-Full.is, q.ensures.1, h.ensures) at c.home_of.ensures))))

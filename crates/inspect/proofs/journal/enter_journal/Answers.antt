@@ -21,13 +21,14 @@ number_of-requires c =
 pub loop-k-preserved : goal.loop-k-preserved
 loop-k-preserved c =
     let a = c.act in
-    let w = c.number_of in (
+    let w = c.number_of in
+    (
       omega arith,
       c.loop-k.invariant.1,
       λ s h.
           laid-turn _ _ s c.requires.3 _ a.result _ c.loop-k.k w.result
           (tables_in c.loop-k.nodes)
-          (tables_in a.new.0) (omega arith) ((rw (c.fields_of-f.ensures, c.journal_entry.ensures) at w.ensures) ∙ omega arith)
+          (tables_in a.new.nodes) (omega arith) ((rw (c.fields_of-f.ensures, c.journal_entry.ensures) at w.ensures) ∙ omega arith)
           (⊎_elim (λ w. inl (not-true a.result w.0.taken, w.1)) (λ w. inr (not-false a.result w.0.left, w.1)) c.if-not-act.branch)
           (rw (c.fields_of-f.ensures, c.journal_entry.ensures) at a.ensures)
           (c.loop-k.invariant.2 s h),

@@ -12,4 +12,4 @@ unfolding lengths_right
 returns c = λ rec.
     let a = c.args in
     rw (c.both.ensures, c.data_right.ensures, c.is_card.ensures)
-    (sym (and-behind (card_length a.card.now) (eqb (length a.queue-data.now) 8192) (eqb (length a.journal-data.now) 15360)))
+    (sym (and-behind (card_length a.card.now) (eqb (length a.queue_data.now) 8192) (eqb (length a.journal_data.now) 15360)))

@@ -44,7 +44,7 @@ loop-k-preserved c =
     let a = c.is_legal in
     let legal = sym a.ensures ∙ not-false a.result c.if-not-is_legal.false-raw in
     let told = c.in-Run.is in
-    let t = memory f.new.0 f.new.1.0 in (
+    let t = memory f.new.nodes f.new.members in (
       omega arith,
       l.invariant.1,
       l.invariant.2,

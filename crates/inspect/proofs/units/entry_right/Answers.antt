@@ -15,32 +15,28 @@ returns-then-not-is_member c =
 
 pub list_number-requires : goal.list_number-requires
 list_number-requires c =
-    let g = c.e-1.given in
-    take_range _ g.0.0 g.1 (sym c.is_member.ensures ∙ not-false _ c.if-not-is_member.false-raw)
+    take_range _ c.in-Take.list c.in-Take.is (sym c.is_member.ensures ∙ not-false _ c.if-not-is_member.false-raw)
 
 pub returns-in-Take : goal.returns-in-Take
 unfolding as_change
 returns-in-Take c =
     let s = c.args in
-    let g = c.e-1.given in
     let m = sym c.is_member.ensures ∙ not-false _ c.if-not-is_member.false-raw in
-    rw (c.holder_of.ensures, c.list_number.ensures) (change-brings (record_in s.rec.now).held.holder s.u (as_change s.e) (list_number g.0.0) m (rw g.1))
+    rw (c.holder_of.ensures, c.list_number.ensures) (change-brings (record_in s.rec.now).held.holder s.u (as_change s.e) (list_number c.in-Take.list) m (rw c.in-Take.is))
 
 pub returns-in-PutFirst : goal.returns-in-PutFirst
 unfolding as_change
 returns-in-PutFirst c =
     let s = c.args in
-    let g = c.e-in-PutFirst-1.given in
     let m = sym c.is_member.ensures ∙ not-false _ c.if-not-is_member.false-raw in
-    rw c.holder_of-in-PutFirst.ensures (change-brings (record_in s.rec.now).held.holder s.u (as_change s.e) g.0.0 m (rw g.1))
+    rw c.holder_of-in-PutFirst.ensures (change-brings (record_in s.rec.now).held.holder s.u (as_change s.e) c.in-PutFirst.block m (rw c.in-PutFirst.is))
 
 pub returns-in-PutAfter : goal.returns-in-PutAfter
 unfolding as_change
 returns-in-PutAfter c =
     let s = c.args in
-    let g = c.e-in-PutAfter-1.given in
     let m = sym c.is_member.ensures ∙ not-false _ c.if-not-is_member.false-raw in
-    rw c.holder_of-in-PutAfter.ensures (change-brings (record_in s.rec.now).held.holder s.u (as_change s.e) g.0.0 m (rw g.1))
+    rw c.holder_of-in-PutAfter.ensures (change-brings (record_in s.rec.now).held.holder s.u (as_change s.e) c.in-PutAfter.block m (rw c.in-PutAfter.is))
 
 pub returns-in_default : goal.returns-in_default
 returns-in_default c =

@@ -1,9 +1,8 @@
 -- Each turn puts one byte more of the 256. Assumes nothing.
-use mathlib.Core.Path.{◌≡◌, refl, sym, ◌∙◌}
-use Prim.Native.Nat.{◌-◌, ◌≤◌}
+use mathlib.Core.Path.{refl, sym, ◌∙◌}
 use native.Mathlib.Omega.{arith}
 use native.Mathlib.Numerals.{add-one}
-use lib.ListN.{length, take, length-set}
+use lib.ListN.{length-set}
 use lib.Seq.{take-suc, take-suc-set, take_all}
 use Rattle.text.specs.Hex.{hex_bytes}
 use Rattle.text.proofs.Nibbles.{hex_bytes-length, hex_bytes-at}

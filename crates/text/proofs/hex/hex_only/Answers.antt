@@ -1,10 +1,9 @@
 -- A digit that passes the test leaves the test of the rest. Assumes nothing.
-use mathlib.Core.Path.{◌≡◌, refl, sym, ap, ◌∙◌}
-use Prim.Native.Nat.{◌-◌}
+use mathlib.Core.Path.{refl, sym, ap, ◌∙◌}
 use native.Mathlib.Omega.{arith}
 use native.Mathlib.Numerals.{add-one}
 use borrow.Author.Tests.{not-true, not-false}
-use lib.ListN.{length, drop, drop_of_length-le}
+use lib.ListN.{drop_of_length-le}
 use Rattle.text.specs.Hex.{hex_only}
 use Rattle.text.proofs.Nibbles.{hex_only-cons}
 use Rattle.text.proofs.hex.hex_only.Goals as goal

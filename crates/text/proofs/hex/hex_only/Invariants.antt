@@ -1,12 +1,8 @@
 -- A digit that passes the test leaves the test of the rest. Assumes nothing.
-use mathlib.Core.Path.{◌≡◌, refl, sym, ap, ◌∙◌}
+use mathlib.Core.Path.{◌≡◌}
 use Prim.Native.Nat.{◌-◌}
-use native.Mathlib.Omega.{arith}
-use native.Mathlib.Numerals.{add-one}
-use borrow.Author.Tests.{not-true, not-false}
-use lib.ListN.{length, drop, drop_of_length-le}
+use lib.ListN.{length, drop}
 use Rattle.text.specs.Hex.{hex_only}
-use Rattle.text.proofs.Nibbles.{hex_only-cons}
 use Rattle.text.proofs.hex.hex_only.Given as goal
 
 abbrev pub invariant-loop-i : goal.invariant-loop-i

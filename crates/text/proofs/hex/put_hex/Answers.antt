@@ -1,13 +1,11 @@
 -- Each turn puts one byte more, in two digits, behind what is there. Assumes nothing.
 use mathlib.Core.Path.{◌≡◌}
 use mathlib.Core.List.{[], ◌∷◌}
-use Prim.Native.Nat.{◌-◌, ◌≤◌}
 use native.Mathlib.Omega.{arith}
 use native.Mathlib.Numerals.{add-one}
 use lib.ListN.{take, get_or}
 use lib.Seq.{take-suc}
 use Rattle.text.specs.Hex.{glyphs}
-use Rattle.text.specs.Written.{Puts}
 use Rattle.text.proofs.Nibbles.{glyphs-append, hex-none, hex-some}
 use Rattle.text.proofs.Writing.{puts_none, puts-more, puts-length}
 use Rattle.text.proofs.hex.put_hex.Goals as goal

@@ -1,11 +1,8 @@
 -- Each turn passes a byte of the run, which is as much shorter. Assumes nothing.
-use mathlib.Core.Path.{◌≡◌, refl, ◌∙◌}
+use mathlib.Core.Path.{◌≡◌}
 use Prim.Native.Nat.{◌+◌, ◌-◌}
-use native.Mathlib.Omega.{arith}
-use native.Mathlib.Numerals.{add-one}
-use lib.ListN.{length, drop, drop_of_length-le}
+use lib.ListN.{length, drop}
 use Rattle.text.specs.Line.{run}
-use Rattle.text.proofs.Lines.{run-stop, run_more}
 use Rattle.text.proofs.line.run_end.Given as goal
 
 abbrev pub invariant-loop-i : goal.invariant-loop-i

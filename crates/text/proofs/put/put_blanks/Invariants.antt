@@ -1,11 +1,7 @@
 -- Each turn puts one blank more. Assumes nothing.
-use mathlib.Core.Path.{◌≡◌}
 use Prim.Native.Nat.{◌-◌, ◌≤◌}
-use native.Mathlib.Omega.{arith}
 use Rattle.text.specs.Columns.{blanks}
 use Rattle.text.specs.Written.{Puts}
-use Rattle.text.proofs.Columns.{blanks-none, blanks-more}
-use Rattle.text.proofs.Writing.{puts_none, puts-more, puts-length}
 use Rattle.text.proofs.put.put_blanks.Given as goal
 
 abbrev pub invariant-loop-i : goal.invariant-loop-i

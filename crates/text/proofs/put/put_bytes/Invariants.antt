@@ -1,11 +1,7 @@
 -- Each turn puts one byte more of the source behind what is there. Assumes nothing.
 use Prim.Native.Nat.{◌-◌, ◌≤◌}
-use native.Mathlib.Omega.{arith}
-use native.Mathlib.Numerals.{add-one}
 use lib.ListN.{length, take}
-use lib.Seq.{take-suc, take_all}
 use Rattle.text.specs.Written.{Puts}
-use Rattle.text.proofs.Writing.{puts_none, puts-more, puts-length}
 use Rattle.text.proofs.put.put_bytes.Given as goal
 
 abbrev pub invariant-loop-i : goal.invariant-loop-i
