@@ -21,8 +21,7 @@ number_of-requires c =
 pub loop-k-preserved : goal.loop-k-preserved
 loop-k-preserved c =
     let a = c.act in
-    let w = c.number_of in
-    (
+    let w = c.number_of in (
       omega arith,
       c.loop-k.invariant.1,
       λ s h.
