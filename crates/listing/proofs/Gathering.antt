@@ -1,5 +1,5 @@
 -- The blocks of a list that tables show, taken one after the other and stored.
-use mathlib.Core.Path.{◌≡◌, sym, ap, ◌∙◌}
+use mathlib.Core.Path.{◌≡◌, sym, ap, ◌∙◌, subst}
 use mathlib.Core.Logic.{◌≢◌, ⊎_elim}
 use mathlib.Core.Bool.{true, false, ◌||◌}
 use mathlib.Core.List.{List, [], ◌∷◌, map}
@@ -27,7 +27,9 @@ unfolding blocks_of on_list
 blocks-on l [] i h = absurd (omega arith)
 blocks-on l (r ∷ rs) i h = ⊎_elim
     (λ (e : eqb r.num l ≡ true). rw (e, blocks_of, row_on r.blocks i (rw (e, blocks_of) at h)))
-    (λ (e : eqb r.num l ≡ false). rw (e, blocks_of) (blocks-on l rs i (rw (e, blocks_of) at h)))
+    (λ (e : eqb r.num l ≡ false).
+    let q : blocks_of (r ∷ rs) l ≡ blocks_of rs l = rw (e, blocks_of) in
+    subst (λ (ns : List ℕ). on_list l (get_or ns i 0) (r ∷ rs) ≡ true) (sym q) (rw e (blocks-on l rs i (rw q at h))))
     (either (eqb r.num l))
 
 -- i of list l's blocks are stored, and block is the next

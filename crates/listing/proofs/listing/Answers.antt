@@ -23,7 +23,7 @@ returns-in-Sound c =
     let card = c.args.card.now in
     let h : listable card ≡ true = sym c.is_listable.ensures ∙ not-false c.is_listable.result c.if-not-is_listable.false-raw in
     let w = rw c.in-Sound.is at c.walk.ensures in
-    rw (listing-sound card h w.reader w.walked) (c.put_state.ensures.1 w.reader.state.lists (lists-shown _ w.reader.state w.kept.shows))
+    rw (listing-sound card h w.reader w.walked) (c.put_state.ensures.of_shown w.reader.state.lists (lists-shown _ w.reader.state w.kept.shows))
 
 pub returns-in-Fault : goal.returns-in-Fault
 returns-in-Fault c =

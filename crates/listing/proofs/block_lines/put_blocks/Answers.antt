@@ -1,11 +1,8 @@
 -- Each turn puts one block's line more. Assumes nothing.
 use mathlib.Core.Path.{◌≡◌, refl, ◌∙◌}
-use Prim.Native.Nat.{◌-◌, ◌≤◌}
+use Prim.Native.Nat.{◌-◌}
 use native.Mathlib.Omega.{arith}
-use lib.ListN.{length}
-use Rattle.lists.specs.promises.Tables.{tables_in, OfShown}
 use Rattle.lists.specs.Basic.{from, joined}
-use Rattle.text.specs.Written.{Puts}
 use Rattle.text.proofs.Writing.{puts_none, puts-more}
 use Rattle.listing.specs.Listing.{block_part, block_lines}
 use Rattle.listing.specs.promises.Shown.{sum_at}
@@ -31,10 +28,10 @@ loop-block-preserved c =
     let card = c.args.card.now in (
       omega arith,
       omega arith,
-      c.put_block-position.ensures.0 ∙ s.invariant.2,
+      c.put_block-position.ensures.out_len_unchanged ∙ s.invariant.2,
       λ rs w.
           rw (lines_more (block_part (sum_at card) rs) s.block (omega arith))
-          (puts-more (s.invariant.3 rs w) (c.put_block-position.ensures.1 rs w (omega arith, omega arith))),
+          (puts-more (s.invariant.3 rs w) (c.put_block-position.ensures.of_shown rs w (omega arith, omega arith))),
     )
 
 pub shape_of-out : goal.shape_of-out
@@ -45,4 +42,4 @@ unfolding block_lines
 returns c =
     let s = c.loop-block in
     let e : s.block - 1 ≡ 64 = omega arith in
-    (s.invariant.2, λ rs w. rw e at (s.invariant.3 rs w))
+    record { out_len_unchanged = s.invariant.2; of_shown = λ rs w. rw e at (s.invariant.3 rs w) }

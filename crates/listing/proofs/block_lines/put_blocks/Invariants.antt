@@ -1,15 +1,12 @@
 -- Each turn puts one block's line more. Assumes nothing.
-use mathlib.Core.Path.{◌≡◌, refl, ◌∙◌}
+use mathlib.Core.Path.{◌≡◌}
 use Prim.Native.Nat.{◌-◌, ◌≤◌}
-use native.Mathlib.Omega.{arith}
 use lib.ListN.{length}
 use Rattle.lists.specs.promises.Tables.{tables_in, OfShown}
 use Rattle.lists.specs.Basic.{from, joined}
 use Rattle.text.specs.Written.{Puts}
-use Rattle.text.proofs.Writing.{puts_none, puts-more}
-use Rattle.listing.specs.Listing.{block_part, block_lines}
+use Rattle.listing.specs.Listing.{block_part}
 use Rattle.listing.specs.promises.Shown.{sum_at}
-use Rattle.listing.proofs.Lines.{lines_more}
 use Rattle.listing.proofs.block_lines.put_blocks.Given as goal
 
 abbrev pub invariant-loop-block : goal.invariant-loop-block

@@ -1,12 +1,8 @@
 -- Each turn adds one byte more; 256 bytes fit. Assumes nothing.
-use mathlib.Core.Path.{◌≡◌, refl, sym, ap, ◌∙◌}
-use Prim.Native.Nat.{ℕ, ◌+◌, ◌-◌, ◌*◌, ◌≤◌}
-use native.Mathlib.Omega.{arith}
-use native.Mathlib.Numerals.{add-one}
-use lib.ListN.{length, get_or, take}
-use lib.Seq.{take_all}
+use mathlib.Core.Path.{◌≡◌}
+use Prim.Native.Nat.{◌-◌, ◌*◌, ◌≤◌}
+use lib.ListN.{length, take}
 use Rattle.listing.specs.Listing.{total}
-use Rattle.listing.proofs.Lines.{total-take}
 use Rattle.listing.proofs.block_lines.sum.Given as goal
 
 abbrev pub invariant-loop-i : goal.invariant-loop-i

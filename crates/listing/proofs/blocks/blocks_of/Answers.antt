@@ -1,13 +1,10 @@
 -- Each turn stores the next block of the list. Assumes nothing.
-use mathlib.Core.Path.{◌≡◌, refl, ◌∙◌}
-use mathlib.Core.Bool.{true}
-use Prim.Native.Nat.{◌-◌, ◌≤◌}
+use mathlib.Core.Path.{refl, ◌∙◌}
 use native.Mathlib.Omega.{arith}
-use lib.ListN.{length, length-set}
+use lib.ListN.{length-set}
 use Rattle.lists.proofs.Lookup.{block-said}
-use Rattle.lists.specs.State.{taken}
-use Rattle.lists.specs.promises.Tables.{OfShown, tables_in}
-use Rattle.listing.proofs.Gathering.{Gathering, gathering-none, gathering-more, gathering-end, gathering-full}
+use Rattle.lists.specs.promises.Tables.{tables_in}
+use Rattle.listing.proofs.Gathering.{gathering-none, gathering-more, gathering-end, gathering-full}
 use Rattle.listing.proofs.blocks.blocks_of.Goals as goal
 
 pub block_after-block-requires : goal.block_after-block-requires
@@ -25,7 +22,7 @@ pub returns-then-block-eq0 : goal.returns-then-block-eq0
 returns-then-block-eq0 c =
     let s = c.loop-i in
     let a = c.args in
-    (s.invariant.0, λ rs w h. gathering-end (tables_in a.nodes.now) rs w a.list (s.invariant.2 rs w h) c.if-block-eq0.true)
+    record { upper_bound = s.invariant.0; of_shown = λ rs w h. gathering-end (tables_in a.nodes.now) rs w a.list (s.invariant.2 rs w h) c.if-block-eq0.true }
 
 pub bounds-dest-i : goal.bounds-dest-i
 bounds-dest-i c = omega (arith, c.loop-i.invariant.1)
@@ -55,4 +52,4 @@ pub returns : goal.returns
 returns c =
     let s = c.loop-i in
     let a = c.args in
-    (s.invariant.0, λ rs w h. gathering-full (tables_in a.nodes.now) rs w a.list (s.invariant.2 rs w h) (omega arith))
+    record { upper_bound = s.invariant.0; of_shown = λ rs w h. gathering-full (tables_in a.nodes.now) rs w a.list (s.invariant.2 rs w h) (omega arith) }

@@ -1,13 +1,11 @@
 -- Each turn stores the next block of the list. Assumes nothing.
-use mathlib.Core.Path.{◌≡◌, refl, ◌∙◌}
+use mathlib.Core.Path.{◌≡◌}
 use mathlib.Core.Bool.{true}
 use Prim.Native.Nat.{◌-◌, ◌≤◌}
-use native.Mathlib.Omega.{arith}
-use lib.ListN.{length, length-set}
-use Rattle.lists.proofs.Lookup.{block-said}
+use lib.ListN.{length}
 use Rattle.lists.specs.State.{taken}
 use Rattle.lists.specs.promises.Tables.{OfShown, tables_in}
-use Rattle.listing.proofs.Gathering.{Gathering, gathering-none, gathering-more, gathering-end, gathering-full}
+use Rattle.listing.proofs.Gathering.{Gathering}
 use Rattle.listing.proofs.blocks.blocks_of.Given as goal
 
 abbrev pub invariant-loop-i : goal.invariant-loop-i

@@ -1,15 +1,12 @@
 -- Each turn adds one segment's count. Assumes nothing.
-use mathlib.Core.Path.{◌≡◌, refl, ap, ◌∙◌}
+use mathlib.Core.Path.{◌≡◌}
 use mathlib.Core.Bool.{cond}
-use Prim.Native.Nat.{ℕ, ◌+◌, ◌-◌, ◌*◌, ◌/◌, ◌≤◌}
-use native.Mathlib.Omega.{arith}
+use Prim.Native.Nat.{◌-◌, ◌*◌, ◌/◌, ◌≤◌}
 use lib.Dec.{ltb}
-use lib.ListN.{length, get_or}
+use lib.ListN.{length}
 use Rattle.lists.specs.Basic.{from}
 use Rattle.card_log.specs.Card.{count}
-use Rattle.listing.specs.Listing.{total, used, entries}
-use Rattle.listing.proofs.Lines.{total-step, count_at}
-use Rattle.lists.proofs.Times.{once-most}
+use Rattle.listing.specs.Listing.{total}
 use Rattle.listing.proofs.head_line.counts.Given as goal
 
 abbrev pub invariant-loop-g : goal.invariant-loop-g

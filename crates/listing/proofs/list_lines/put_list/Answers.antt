@@ -12,15 +12,15 @@ pub returns-then-not-is_taken : goal.returns-then-not-is_taken
 returns-then-not-is_taken c =
     let t = c.is_taken in
     let a = c.args in
-    (refl, λ rs w g. rw (list-none rs a.list (sym (taken-said t.ensures rs w g) ∙ not-true t.result c.if-not-is_taken.true-raw)) (puts_none a.out.now a.at))
+    record { out_len_unchanged = refl; of_shown = λ rs w g. rw (list-none rs a.list (sym (taken-said t.ensures rs w g) ∙ not-true t.result c.if-not-is_taken.true-raw)) (puts_none a.out.now a.at) }
 
 pub returns : goal.returns
 returns c =
     let k = c.blocks_of-n in
     let m = c.is_taken in
-    let a = c.args in (
-      puts-length c.put_line.ensures,
-      λ rs w g.
+    let a = c.args in record {
+      out_len_unchanged = puts-length c.put_line.ensures;
+      of_shown = λ rs w g.
           let t : taken a.list rs ≡ true = sym (taken-said m.ensures rs w g) ∙ not-false m.result c.if-not-is_taken.false-raw in
-          rw (list-some rs a.list t, ← (k.ensures.1 rs w t).first) (rw c.part.ensures at c.put_line.ensures),
-    )
+          rw (list-some rs a.list t, ← (k.ensures.of_shown rs w t).first) (rw c.part.ensures at c.put_line.ensures);
+    }

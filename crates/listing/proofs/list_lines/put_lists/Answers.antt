@@ -1,11 +1,8 @@
 -- Each turn puts one list's line more. Assumes nothing.
 use mathlib.Core.Path.{◌≡◌, refl, ◌∙◌}
-use Prim.Native.Nat.{◌-◌, ◌≤◌}
+use Prim.Native.Nat.{◌-◌}
 use native.Mathlib.Omega.{arith}
-use lib.ListN.{length}
-use Rattle.lists.specs.promises.Tables.{tables_in, OfShown}
 use Rattle.lists.specs.Basic.{from, joined}
-use Rattle.text.specs.Written.{Puts}
 use Rattle.text.proofs.Writing.{puts_none, puts-more}
 use Rattle.listing.specs.Listing.{list_part, list_lines}
 use Rattle.listing.proofs.Lines.{lines_more}
@@ -29,10 +26,10 @@ loop-list-preserved c =
     let s = c.loop-list in (
       omega arith,
       omega arith,
-      c.put_list-position.ensures.0 ∙ s.invariant.2,
+      c.put_list-position.ensures.out_len_unchanged ∙ s.invariant.2,
       λ rs w.
           rw (lines_more (list_part rs) s.list (omega arith))
-          (puts-more (s.invariant.3 rs w) (c.put_list-position.ensures.1 rs w (omega arith, omega arith))),
+          (puts-more (s.invariant.3 rs w) (c.put_list-position.ensures.of_shown rs w (omega arith, omega arith))),
     )
 
 pub shape_of-out : goal.shape_of-out
@@ -43,4 +40,4 @@ unfolding list_lines
 returns c =
     let s = c.loop-list in
     let e : s.list - 1 ≡ 16 = omega arith in
-    (s.invariant.2, λ rs w. rw e at (s.invariant.3 rs w))
+    record { out_len_unchanged = s.invariant.2; of_shown = λ rs w. rw e at (s.invariant.3 rs w) }

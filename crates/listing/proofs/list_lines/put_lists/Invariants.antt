@@ -1,14 +1,11 @@
 -- Each turn puts one list's line more. Assumes nothing.
-use mathlib.Core.Path.{◌≡◌, refl, ◌∙◌}
+use mathlib.Core.Path.{◌≡◌}
 use Prim.Native.Nat.{◌-◌, ◌≤◌}
-use native.Mathlib.Omega.{arith}
 use lib.ListN.{length}
 use Rattle.lists.specs.promises.Tables.{tables_in, OfShown}
 use Rattle.lists.specs.Basic.{from, joined}
 use Rattle.text.specs.Written.{Puts}
-use Rattle.text.proofs.Writing.{puts_none, puts-more}
-use Rattle.listing.specs.Listing.{list_part, list_lines}
-use Rattle.listing.proofs.Lines.{lines_more}
+use Rattle.listing.specs.Listing.{list_part}
 use Rattle.listing.proofs.list_lines.put_lists.Given as goal
 
 abbrev pub invariant-loop-list : goal.invariant-loop-list

@@ -22,7 +22,7 @@ returns-in-Sound c =
     let card = c.args.card.now in
     let h : card_length card ≡ true = sym c.is_card.ensures ∙ not-false c.is_card.result c.if-not-is_card.false-raw in
     let w = rw c.in-Sound.is at c.walk.ensures in
-    rw (card-sound card h w.reader w.walked) (c.put_page.ensures.1 w.reader.state.lists (lists-shown _ w.reader.state w.kept.shows))
+    rw (card-sound card h w.reader w.walked) (c.put_page.ensures.of_shown w.reader.state.lists (lists-shown _ w.reader.state w.kept.shows))
 
 pub returns-in-Fault : goal.returns-in-Fault
 returns-in-Fault c =

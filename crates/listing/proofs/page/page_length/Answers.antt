@@ -1,10 +1,9 @@
 -- Each turn adds one list's lines. Assumes nothing.
 use mathlib.Core.Path.{◌≡◌, refl}
 use mathlib.Core.List.{List}
-use Prim.Native.Nat.{ℕ, ◌-◌, ◌*◌, ◌≤◌}
+use Prim.Native.Nat.{ℕ, ◌-◌}
 use native.Mathlib.Omega.{arith}
-use lib.ListN.{length, length-append}
-use Rattle.lists.specs.promises.Tables.{tables_in, OfShown}
+use lib.ListN.{length-append}
 use Rattle.lists.specs.Basic.{from, joined}
 use Rattle.listing.specs.Page.{list_page}
 use Rattle.listing.proofs.Lines.{lines_more}
@@ -19,7 +18,7 @@ pub list_length-n-requires : goal.list_length-n-requires
 list_length-n-requires c = tt
 
 pub overflow_add-n : goal.overflow_add-n
-overflow_add-n c = let s = c.loop-list in omega (arith, s.invariant.2, c.list_length-n.ensures.0)
+overflow_add-n c = let s = c.loop-list in omega (arith, s.invariant.2, c.list_length-n.ensures.upper_bound)
 
 pub overflow_add-list : goal.overflow_add-list
 overflow_add-list c = omega arith
@@ -32,10 +31,10 @@ loop-list-preserved c =
     let s = c.loop-list in (
       omega arith,
       omega arith,
-      omega (arith, s.invariant.2, c.list_length-n.ensures.0),
+      omega (arith, s.invariant.2, c.list_length-n.ensures.upper_bound),
       λ rs w.
           let f : ℕ → List ℕ = λ l. joined (list_page rs l) in
-          rw (lines_more f s.list (omega arith), length-append (joined (from f 1 (s.list - 1))) (f s.list), ← (s.invariant.3 rs w), ← (c.list_length-n.ensures.1 rs w (omega arith, omega arith))),
+          rw (lines_more f s.list (omega arith), length-append (joined (from f 1 (s.list - 1))) (f s.list), ← (s.invariant.3 rs w), ← (c.list_length-n.ensures.of_shown rs w (omega arith, omega arith))),
     )
 
 pub returns : goal.returns

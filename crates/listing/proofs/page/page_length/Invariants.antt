@@ -1,14 +1,10 @@
 -- Each turn adds one list's lines. Assumes nothing.
-use mathlib.Core.Path.{◌≡◌, refl}
-use mathlib.Core.List.{List}
-use Prim.Native.Nat.{ℕ, ◌-◌, ◌*◌, ◌≤◌}
-use native.Mathlib.Omega.{arith}
-use lib.ListN.{length, length-append}
+use mathlib.Core.Path.{◌≡◌}
+use Prim.Native.Nat.{◌-◌, ◌*◌, ◌≤◌}
+use lib.ListN.{length}
 use Rattle.lists.specs.promises.Tables.{tables_in, OfShown}
 use Rattle.lists.specs.Basic.{from, joined}
 use Rattle.listing.specs.Page.{list_page}
-use Rattle.listing.proofs.Lines.{lines_more}
-use Rattle.listing.proofs.Pages.{page-by-list}
 use Rattle.listing.proofs.page.page_length.Given as goal
 
 abbrev pub invariant-loop-list : goal.invariant-loop-list

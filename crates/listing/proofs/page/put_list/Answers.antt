@@ -12,18 +12,18 @@ pub returns-then-not-is_taken : goal.returns-then-not-is_taken
 returns-then-not-is_taken c =
     let t = c.is_taken in
     let a = c.args in
-    (refl, λ rs w g. rw (list-page-none rs a.list (sym (taken-said t.ensures rs w g) ∙ not-true t.result c.if-not-is_taken.true-raw)) (puts_none a.out.now a.at))
+    record { out_len_unchanged = refl; of_shown = λ rs w g. rw (list-page-none rs a.list (sym (taken-said t.ensures rs w g) ∙ not-true t.result c.if-not-is_taken.true-raw)) (puts_none a.out.now a.at) }
 
 pub put_lines-requires : goal.put_lines-requires
-put_lines-requires c = front-few _ _ _ c.part.ensures c.blocks_of-n.ensures.0
+put_lines-requires c = front-few _ _ _ c.part.ensures c.blocks_of-n.ensures.upper_bound
 
 pub returns : goal.returns
 returns c =
     let k = c.blocks_of-n in
     let m = c.is_taken in
-    let a = c.args in (
-      puts-length c.put_lines.ensures,
-      λ rs w g.
+    let a = c.args in record {
+      out_len_unchanged = puts-length c.put_lines.ensures;
+      of_shown = λ rs w g.
           let t : taken a.list rs ≡ true = sym (taken-said m.ensures rs w g) ∙ not-false m.result c.if-not-is_taken.false-raw in
-          rw (list-page-some rs a.list t, ← (k.ensures.1 rs w t).first) (rw c.part.ensures at c.put_lines.ensures),
-    )
+          rw (list-page-some rs a.list t, ← (k.ensures.of_shown rs w t).first) (rw c.part.ensures at c.put_lines.ensures);
+    }

@@ -1,15 +1,11 @@
 -- Each turn puts one list's lines more. Assumes nothing.
-use mathlib.Core.Path.{◌≡◌, refl, ◌∙◌}
+use mathlib.Core.Path.{◌≡◌}
 use Prim.Native.Nat.{◌-◌, ◌≤◌}
-use native.Mathlib.Omega.{arith}
 use lib.ListN.{length}
 use Rattle.lists.specs.promises.Tables.{tables_in, OfShown}
 use Rattle.lists.specs.Basic.{from, joined}
 use Rattle.text.specs.Written.{Puts}
-use Rattle.text.proofs.Writing.{puts_none, puts-more}
 use Rattle.listing.specs.Page.{list_page}
-use Rattle.listing.proofs.Lines.{lines_more}
-use Rattle.listing.proofs.Pages.{page-by-list}
 use Rattle.listing.proofs.page.put_page.Given as goal
 
 abbrev pub invariant-loop-list : goal.invariant-loop-list

@@ -1,13 +1,8 @@
 -- Each turn puts one block more. Assumes nothing.
 use Prim.Native.Nat.{◌-◌, ◌≤◌}
-use native.Mathlib.Omega.{arith}
-use native.Mathlib.Numerals.{add-one}
 use lib.ListN.{length, take}
-use lib.Seq.{take_all}
 use Rattle.listing.specs.Page.{cells}
 use Rattle.text.specs.Written.{Puts}
-use Rattle.text.proofs.Writing.{puts_none, puts-more, puts-length}
-use Rattle.listing.proofs.Pages.{cells-none, cells-take}
 use Rattle.listing.proofs.page_line.put_cells.Given as goal
 
 abbrev pub invariant-loop-i : goal.invariant-loop-i

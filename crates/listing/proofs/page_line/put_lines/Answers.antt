@@ -1,11 +1,9 @@
 -- Each turn puts one line more. Assumes nothing.
 use mathlib.Core.Path.{◌≡◌}
-use Prim.Native.Nat.{◌-◌, ◌≤◌}
 use native.Mathlib.Omega.{arith}
 use native.Mathlib.Numerals.{add-one}
 use native.Mathlib.Nat.{zero-add}
 use Rattle.lists.specs.Basic.{from, joined}
-use Rattle.text.specs.Written.{Puts}
 use Rattle.text.proofs.Writing.{puts_none, puts-more, puts-length}
 use Rattle.listing.specs.Page.{page_line}
 use Rattle.listing.proofs.Lines.{joined-more}

@@ -5,10 +5,10 @@ use Rattle.listing.proofs.state_lines.put_state.Goals as goal
 
 pub returns : goal.returns
 returns c =
-    let a = c.args in (
-      c.put_blocks.ensures.0 ∙ c.put_lists-position.ensures.0 ∙ puts-length c.put_head-position.ensures,
-      λ rs w.
+    let a = c.args in record {
+      out_len_unchanged = c.put_blocks.ensures.out_len_unchanged ∙ c.put_lists-position.ensures.out_len_unchanged ∙ puts-length c.put_head-position.ensures;
+      of_shown = λ rs w.
           puts-more
-          (puts-more c.put_head-position.ensures (c.put_lists-position.ensures.1 rs w))
-          (c.put_blocks.ensures.1 rs w),
-    )
+          (puts-more c.put_head-position.ensures (c.put_lists-position.ensures.of_shown rs w))
+          (c.put_blocks.ensures.of_shown rs w);
+    }
