@@ -30,9 +30,6 @@ overflow_add-data c = omega arith
 pub slice_bounds-store_head-count : goal.slice_bounds-store_head-count
 slice_bounds-store_head-count c = omega arith
 
--- TODO slice-bounds-store-head-end
---  omega (arith, c.before.before.before.before.loop.invariant.1.queue_data)
-
 pub store_head-requires : goal.store_head-requires
 store_head-requires c =
     let a = c.args in

@@ -14,4 +14,4 @@ returns-in-Write c d =
 pub returns-in_default : goal.returns-in_default
 returns-in_default c d =
     let a = c.args in
-    member-other a.queue_data.now a.journal_data.now (record_in a.rec.now) a.k a.e (record_in c.append-in_default.new.rec) c.in_default.in_default-own.keys2 c.requires.5 c.append-in_default.ensures d
+    member-other a.queue_data.now a.journal_data.now (record_in a.rec.now) a.k a.e (record_in c.append-in_default.new.rec) c.in_default.not-Write c.requires.5 c.append-in_default.ensures d
