@@ -1,11 +1,10 @@
 -- The loop's invariant: the words that are left, put into the buffer as it is, leave what all of them leave. Assumes nothing.
-use mathlib.Core.Path.{◌≡◌, refl, sym, ◌∙◌}
-use mathlib.Core.Logic.{⊎_elim, inl, inr}
+use mathlib.Core.Path.{refl, sym, ◌∙◌}
+use mathlib.Core.Logic.{inl, inr}
 use Prim.Native.Nat.{◌-◌, ◌≤◌}
 use native.Mathlib.Omega.{arith}
-use lib.ListN.{length, take, length-set}
+use lib.ListN.{length, length-set}
 use Rattle.card_log.specs.Store.{format_stores}
-use Rattle.driver.specs.promises.Listing.{listed}
 use Rattle.driver.proofs.Listing.{counts_start, counts-next, listed-done}
 use Rattle.driver.proofs.format.list_counts.Goals as goal
 use Rattle.driver.proofs.format.list_counts.Goals.{then-segments-room, else-segments-room}
