@@ -7,6 +7,7 @@ use std::io::ErrorKind;
 use std::os::fd::AsFd;
 use std::{fs, io};
 
+#[derive(Clone, Copy)]
 pub enum Read {
     Bytes(usize),
     Failed(io::Error),
