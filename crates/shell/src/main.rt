@@ -97,12 +97,7 @@ fn edit(rt: &HostRuntime, who: &[u8], target: &[u8], found: Found) {
         return;
     };
     if size > LONGEST_CARD {
-        print(
-            rt,
-            b"shell: standard output",
-            Stream::Output,
-            b"too long\n",
-        );
+        print(rt, b"shell: standard output", Stream::Output, b"too long\n");
         refuse(rt, who, b"not read: longer than 266,240 bytes");
         return;
     }
@@ -110,14 +105,7 @@ fn edit(rt: &HostRuntime, who: &[u8], target: &[u8], found: Found) {
 }
 
 // The script runs on a card that was read whole; what it leaves is kept, unless standard input or output failed.
-fn change(
-    rt: &HostRuntime,
-    who: &[u8],
-    target: &[u8],
-    found: Found,
-    card: &mut [u8],
-    size: usize,
-)
+fn change(rt: &HostRuntime, who: &[u8], target: &[u8], found: Found, card: &mut [u8], size: usize)
     requires { (longest_card ≤ Len card.old) × (size ≤ Len card.old) }
 {
     let mut before = [0u8; 266241];
@@ -138,14 +126,7 @@ fn change(
 }
 
 // A card that is as it was read is not written.
-fn keep(
-    rt: &HostRuntime,
-    who: &[u8],
-    target: &[u8],
-    found: Found,
-    before: &[u8],
-    card: &[u8],
-) {
+fn keep(rt: &HostRuntime, who: &[u8], target: &[u8], found: Found, before: &[u8], card: &[u8]) {
     if !is_same(before, card) {
         save(rt, who, target, found, card);
     }

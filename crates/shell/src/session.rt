@@ -116,16 +116,7 @@ fn turn(
     let mut next = session;
     next.at = 0;
     next.going = got.going;
-    let ran = run_bytes(
-        rt,
-        part(bytes, 0, n),
-        line,
-        card,
-        queue,
-        journal,
-        out,
-        next,
-    );
+    let ran = run_bytes(rt, part(bytes, 0, n), line, card, queue, journal, out, next);
     Turned {
         session: ran,
         more: n > 0,
