@@ -10,7 +10,7 @@ use Rattle.lists.specs.State.{map_state}
 use Rattle.lists.specs.promises.Tables.{Tables}
 use Rattle.lists.proofs.Basic.{and-true, each_at, leb-true, ltb-true, eqb-true, some_of}
 use Rattle.card_log.specs.Reader.{Reader, replay}
-use Rattle.card_log.specs.Card.{Written, card_length, segments_in, Outcome, sound, fault, walk_card}
+use Rattle.card_log.specs.Card.{Written, card_length, segments_in, Outcome, fault, walk_card}
 use Rattle.card_log.specs.promises.Location.{card_number}
 use Rattle.card_log.specs.promises.Within.{Within}
 use Rattle.card_log.specs.promises.Feed.{Memory}

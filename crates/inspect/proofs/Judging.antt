@@ -1,6 +1,6 @@
 -- A loop that tests one element after the other; what the tests of units and holders say of the record's clauses.
 use mathlib.Core.Path.{◌≡◌, refl, sym, ap, ◌∙◌}
-use mathlib.Core.Logic.{◌≢◌, inl, inr}
+use mathlib.Core.Logic.{◌≢◌}
 use mathlib.Core.Bool.{Bool, true, false, ◌&&◌, and-true as and_yes, and-false, false≢true}
 use mathlib.Core.List.{List, [], ◌∷◌}
 use Prim.Native.Nat.{ℕ, ◌+◌, ◌-◌, ◌≤◌, ◌<◌}
@@ -17,7 +17,6 @@ use Rattle.card_log.specs.Raced.{Raced}
 use Rattle.card_log.specs.Entry.{member, raw, map_entry, legal, legal_change, as_change}
 use Rattle.card_log.specs.declared.entry.LogEntry.{LogEntry}
 use Rattle.card_log.specs.declared.entry.LogEntry.TheVariants.{Take, PutFirst, PutAfter, Write, DeleteBlock, DeleteList, Commit}
-use Rattle.card_log.specs.contracts.entry.LogEntry.{the_type}
 use Rattle.disk.specs.Record.{Unit, Record, unit_at, is_open, holder_of, unit_count}
 use Rattle.disk.specs.Sound.{open_unit, holder_sound, order_sound}
 use Rattle.inspect.specs.promises.Clauses.{numbers_right, change_right, change_in, unit_right, units_right}

@@ -1,15 +1,15 @@
 -- The invariant: the first in the whole order is the first in the places from k on. The measure is what is left of them. Assumes nothing.
 use mathlib.Core.Path.{◌≡◌, sym, ap, ◌∙◌}
-use mathlib.Core.Logic.{inl, inr, ⊎_elim}
+use mathlib.Core.Logic.{inl, inr}
 use mathlib.Core.Option.{some}
-use Prim.Native.Nat.{ℕ, ◌-◌, ◌≤◌}
+use Prim.Native.Nat.{ℕ, ◌-◌}
 use native.Mathlib.Omega.{arith}
 use lib.ListN.{get_or}
 use Rattle.lists.specs.Basic.{or_else}
 use Rattle.disk.specs.Record.{record_in, listed_in}
 use Rattle.disk.specs.Questions.{first_free}
 use Rattle.disk.proofs.Bytes.{order-length}
-use Rattle.disk.proofs.Listing.{left_at, left-first, left-more, left-none, first-here, first-other}
+use Rattle.disk.proofs.Listing.{left-first, left-more, left-none, first-here, first-other}
 use Rattle.disk.proofs.free.first_free.Goals as goal
 use Rattle.disk.proofs.free.first_free.Goals.{then-base-x+else-x-base, else-base-x}
 

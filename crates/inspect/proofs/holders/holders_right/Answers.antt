@@ -1,13 +1,11 @@
 -- The invariant: the holders of numbers 1 to i are right, over every list of rows that the owners show. Assumes nothing.
 use mathlib.Core.Path.{refl, sym, ◌∙◌}
-use mathlib.Core.Logic.{⊎_elim}
-use Prim.Native.Nat.{◌+◌, ◌-◌, ◌≤◌}
+use Prim.Native.Nat.{◌+◌}
 use native.Mathlib.Omega.{arith}
 use borrow.Author.Tests.{not-true, not-false}
-use Rattle.lists.specs.promises.Tables.{OfShown, tables_in}
 use Rattle.disk.specs.Record.{record_in}
 use Rattle.disk.specs.Sound.{holder_sound}
-use Rattle.inspect.proofs.Judging.{Left, left-fails, left-passes, left-ends, open-high, open-unit, held_none, held-closed, held-used, held-well, holders-all}
+use Rattle.inspect.proofs.Judging.{left-fails, left-passes, left-ends, open-high, open-unit, held_none, held-closed, held-used, held-well, holders-all}
 use Rattle.inspect.proofs.holders.holders_right.Goals as goal
 use Rattle.inspect.proofs.holders.holders_right.Goals.{then-h-ne0+else-h-gt-UNITS+else-not-opened+else-is_used, else-h-ne0}
 

@@ -1,14 +1,12 @@
 -- The invariant: the changes from number k on lead from the state that the tables show to where all of them led, and so far every one applied if
 -- `every` says so. Assumes nothing.
-use mathlib.Core.Path.{◌≡◌, ◌∙◌}
-use mathlib.Core.Logic.{inl, inr, ⊎_elim}
-use Prim.Native.Nat.{ℕ, ◌-◌, ◌≤◌}
+use mathlib.Core.Path.{◌∙◌}
+use mathlib.Core.Logic.{inl, inr}
 use native.Mathlib.Omega.{arith}
 use borrow.Author.Tests.{not-true, not-false}
-use Rattle.lists.specs.State.{State}
-use Rattle.lists.specs.promises.Tables.{ShowsAll, tables_in}
+use Rattle.lists.specs.promises.Tables.{tables_in}
 use Rattle.disk.specs.Record.{record_in, unit_at}
-use Rattle.inspect.proofs.Overlaying.{Laid, journal-race, laid_none, laid-turn, laid-all}
+use Rattle.inspect.proofs.Overlaying.{journal-race, laid_none, laid-turn, laid-all}
 use Rattle.inspect.proofs.journal.enter_journal.Goals as goal
 use Rattle.inspect.proofs.journal.enter_journal.Goals.{then-not-act, else-not-act}
 

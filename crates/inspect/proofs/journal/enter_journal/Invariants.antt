@@ -1,14 +1,11 @@
 -- The invariant: the changes from number k on lead from the state that the tables show to where all of them led, and so far every one applied if
 -- `every` says so. Assumes nothing.
-use mathlib.Core.Path.{◌≡◌, ◌∙◌}
-use mathlib.Core.Logic.{inl, inr, ⊎_elim}
+use mathlib.Core.Path.{◌≡◌}
 use Prim.Native.Nat.{ℕ, ◌-◌, ◌≤◌}
-use native.Mathlib.Omega.{arith}
-use borrow.Author.Tests.{not-true, not-false}
 use Rattle.lists.specs.State.{State}
 use Rattle.lists.specs.promises.Tables.{ShowsAll, tables_in}
 use Rattle.disk.specs.Record.{record_in, unit_at}
-use Rattle.inspect.proofs.Overlaying.{Laid, journal-race, laid_none, laid-turn, laid-all}
+use Rattle.inspect.proofs.Overlaying.{Laid}
 use Rattle.inspect.proofs.journal.enter_journal.Given as goal
 
 abbrev pub invariant-loop-k : goal.invariant-loop-k

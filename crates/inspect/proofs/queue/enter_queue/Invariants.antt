@@ -1,12 +1,10 @@
 -- The invariant: the entries passed are lawful, and those that are left lead from the reader kept to where the whole queue leads. Assumes nothing.
-use mathlib.Core.Path.{◌≡◌, sym, ◌∙◌}
+use mathlib.Core.Path.{◌≡◌}
 use Prim.Native.Nat.{ℕ, ◌+◌, ◌-◌, ◌≤◌}
-use native.Mathlib.Omega.{arith}
-use borrow.Author.Tests.{not-true, not-false}
 use Rattle.card_log.specs.Reader.{Reader}
 use Rattle.card_log.specs.promises.Feed.{memory, Keeps}
 use Rattle.disk.specs.Record.{record_in}
-use Rattle.inspect.proofs.Queueing.{FedUpTo, fed-none, fed-unlawful, fed-refused, fed-more, fed-all}
+use Rattle.inspect.proofs.Queueing.{FedUpTo}
 use Rattle.inspect.proofs.queue.enter_queue.Given as goal
 
 abbrev pub invariant-loop-k : goal.invariant-loop-k

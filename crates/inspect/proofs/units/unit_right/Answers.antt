@@ -1,12 +1,10 @@
 -- The invariant: the changes before k are right, so the journal is right if the rest is. Assumes nothing.
-use mathlib.Core.Path.{◌≡◌, sym, ◌∙◌}
-use mathlib.Core.Bool.{true}
-use Prim.Native.Nat.{◌-◌, ◌≤◌}
+use mathlib.Core.Path.{sym, ◌∙◌}
 use native.Mathlib.Omega.{arith}
 use borrow.Author.Tests.{not-true, not-false}
-use Rattle.disk.specs.Record.{record_in, unit_at, is_open}
+use Rattle.disk.specs.Record.{record_in, unit_at}
 use Rattle.inspect.specs.promises.Clauses.{change_right, change_in}
-use Rattle.inspect.proofs.Judging.{Left, left-all, left-fails, left-passes, left-ends, unit-long, unit-wide, unit-closed, unit-open}
+use Rattle.inspect.proofs.Judging.{left-all, left-fails, left-passes, left-ends, unit-long, unit-wide, unit-closed, unit-open}
 use Rattle.inspect.proofs.units.unit_right.Goals as goal
 
 pub returns-then-n-gt-JOURNAL : goal.returns-then-n-gt-JOURNAL

@@ -1,10 +1,10 @@
 -- The invariant: the units before i + 1 are right. Assumes nothing.
 use mathlib.Core.Path.{refl, sym, ◌∙◌}
-use Prim.Native.Nat.{◌+◌, ◌-◌, ◌≤◌}
+use Prim.Native.Nat.{◌+◌}
 use native.Mathlib.Omega.{arith}
 use borrow.Author.Tests.{not-true, not-false}
 use Rattle.disk.specs.Record.{record_in}
-use Rattle.inspect.proofs.Judging.{Left, left-fails, left-passes, left-ends, unit_good, units-all}
+use Rattle.inspect.proofs.Judging.{left-fails, left-passes, left-ends, unit_good, units-all}
 use Rattle.inspect.proofs.units.units_right.Goals as goal
 
 pub loop-i-init : goal.loop-i-init

@@ -1,10 +1,7 @@
 -- Each turn puts one number more behind what is there. Assumes nothing.
-use Prim.Native.Nat.{◌-◌, ◌≤◌}
 use native.Mathlib.Omega.{arith}
 use native.Mathlib.Numerals.{add-one}
-use lib.ListN.{length, take}
 use lib.Seq.{take_all}
-use Rattle.text.specs.Written.{Puts}
 use Rattle.text.proofs.Writing.{puts_none, puts-more, puts-length}
 use Rattle.lists.specs.Basic.{joined}
 use Rattle.listing.specs.Listing.{numbers}

@@ -1,5 +1,4 @@
 -- The first byte, or no word at all. Assumes nothing.
-use mathlib.Core.Logic.{⊎_elim}
 use lib.ListN.{get_or-eq_default}
 use borrow.Author.Tests.{eq-eqb, ne_eqb}
 use Rattle.script.specs.Commands.{is_quiet}
