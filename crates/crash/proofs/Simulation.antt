@@ -21,7 +21,7 @@ use Rattle.card_log.proofs.Segment.{Sized, Empties, Packed, data-length}
 use Rattle.card_log.proofs.EntryStores.{entry-stores-length}
 use Rattle.card_log.proofs.Places.{used, add_to, raw-length, At}
 use Rattle.card_log.proofs.Allowance.{none_left}
-use Rattle.card_log.proofs.Flows.{end_of, joined-add, add-length, Flows, flow_for, card_next, head_at, store-more, next_more, store-last, next_last, next-none, next-full}
+use Rattle.card_log.proofs.Flows.{end_of, joined-add, add-length, Flows, flow_for, card_next, head_at_lem, store-more, next_more, store-last, next_last, next-none, next-full}
 use Rattle.crash.specs.Book.{Book, Waiting, Act, place_of, placed_entries, entries_of, cost, move_to, book_store, book_flush}
 use Rattle.crash.proofs.PlaceOf.{place_end}
 
@@ -118,7 +118,7 @@ store-sim hs bs ss k c (w ∷ ws) s = go (home (length ess) (end_of ess) e) refl
         costs = cost-length p e s.good.0.sized
 
         at : At ess p e
-        at = head_at c ess e q k s p h
+        at = head_at_lem c ess e q k s p h
 
         edge : (p.segment ≡ used ess) ⊎ (suc p.segment ≡ used ess) → (p.segment ≡ used ss) ⊎ (suc p.segment ≡ used ss)
         edge (inl v) = inl (v ∙ used-entries ss)

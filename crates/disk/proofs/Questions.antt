@@ -1,5 +1,5 @@
 -- What an answer says of the call's questions, and what the questions answered yes say of disk and arguments.
-use mathlib.Core.Path.{◌≡◌, refl, sym, ◌∙◌}
+use mathlib.Core.Path.{◌≡◌, refl, sym, subst, ◌∙◌}
 use mathlib.Core.Logic.{◌≢◌}
 use mathlib.Core.Bool.{Bool, true, false, ◌&&◌, ◌||◌, or-true, false≢true}
 use mathlib.Core.Option.{some, none-ne-some, some-injective}
@@ -155,7 +155,7 @@ first-free m k n (x ∷ ns) h = go (λ q. first-free m k n ns q) (ltb m x && leb
         let v : x - m ≡ n = some-injective _ _ (rw (e, first_free) at h) in
         let o = ltb-true m x p in
         let w : m + n ≡ x = omega arith in
-        (omega arith, omega (arith, leb-true x (m + k) q), rw w (omega (arith, times-here x ns)))
+        (omega arith, omega (arith, leb-true x (m + k) q), subst (λ (z : ℕ). 1 ≤ times z (x ∷ ns)) (sym w) (omega (arith, times-here x ns)))
     go ih false e =
         let (a, b, c) = ih (rw (e, first_free) at h) in
         (a, b, omega (arith, c, times-cons (m + n) x ns))

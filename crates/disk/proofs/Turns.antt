@@ -27,7 +27,7 @@ use Rattle.card_log.proofs.EntryStores.{holds-free}
 use Rattle.card_log.proofs.Places.{Good, add_to}
 use Rattle.card_log.proofs.Regain.{carries-read}
 use Rattle.card_log.proofs.Formatting.{holds-none}
-use Rattle.card_log.proofs.Flows.{end_of, Flows, head_at, store-more, store-last, joined-add}
+use Rattle.card_log.proofs.Flows.{end_of, Flows, head_at_lem, store-more, store-last, joined-add}
 use Rattle.disk.specs.Sound.{head_standing}
 use Rattle.disk.proofs.Standing.{home_same, standing-head, head-standing}
 
@@ -66,7 +66,7 @@ module _ (c : List ℕ) (ess : List (List (Entry Written))) (e : Entry Written) 
         go (no m) = inr (store-last c ess e [] k turn-flows p turn-home (omega arith)).carries
 
     turn-joined : joined (add_to p.segment e ess) ≡ joined ess ++ e ∷ []
-    turn-joined = let a = head_at c ess e [] k turn-flows p turn-home in joined-add p.segment e ess a.inside a.edge h.packed
+    turn-joined = let a = head_at_lem c ess e [] k turn-flows p turn-home in joined-add p.segment e ess a.inside a.edge h.packed
 
 read_behind : (es : List (Entry Written)) (e : Entry Written) (r r' : Reader Written) → replay start es ≡ some r → read r e ≡ some r'
     → replay start (es ++ e ∷ []) ≡ some r'

@@ -7,8 +7,6 @@ use Prim.Native.Nat.{ℕ, ◌+◌, ◌-◌, ◌≤◌, ◌<◌}
 use native.Mathlib.Omega.{arith}
 use lib.Dec.{eqb, leb, ltb}
 use lib.ListN.{get_or}
-use denote.Enum.Declared.{tag_of}
-use types.Run.{OneOf}
 use Rattle.lists.specs.Basic.{all, each, from}
 use Rattle.lists.specs.Change.{Change, map_change}
 use Rattle.lists.specs.State.{Row}
@@ -53,13 +51,6 @@ left-passes p f n i h l e =
 pub from_one : (n : ℕ) → from (λ u. u) 1 n ≡ from (λ i. i + 1) 0 n
 from_one n = from-shift (λ u. u) (λ i. i + 1) 1 0 n (λ k l. omega arith)
 
--- an entry that brings nothing into use
-no-tag : (t : ℕ) → t < 3 → OneOf (3 ∷ 4 ∷ 5 ∷ 6 ∷ []) t → ⊥
-no-tag t l (inl k) = omega arith
-no-tag t l (inr (inl k)) = omega arith
-no-tag t l (inr (inr (inl k))) = omega arith
-no-tag t l (inr (inr (inr k))) = omega arith
-
 -- A change in unit u's journal.
 module _ (hs : List ℕ) (u : ℕ) where
   pub change-wrong : (c : Change (Raced ℕ)) → legal (raw 0 (member c)) ≡ false → false ≡ change_right hs u c
@@ -70,15 +61,15 @@ module _ (hs : List ℕ) (u : ℕ) where
   unfolding change_right all
   change-brings c b h k = rw (h, k) (sym (and_yes (eqb (get_or hs (b - 1) 0) u)))
 
-  pub change-brings-none : (e : LogEntry) → OneOf (3 ∷ 4 ∷ 5 ∷ 6 ∷ []) (tag_of the_type e) → legal (raw 0 (member (as_change e))) ≡ true → true ≡ change_right hs u (as_change e)
+  pub change-brings-none : (e : LogEntry) → ((l : ℕ) → e ≢ Take l) → ((b l : ℕ) → e ≢ PutFirst b l) → ((b l p : ℕ) → e ≢ PutAfter b l p) → legal (raw 0 (member (as_change e))) ≡ true → true ≡ change_right hs u (as_change e)
   unfolding change_right all as_change legal raw map_entry map_change legal_change
-  change-brings-none (Take l) k h = absurd (no-tag 0 (omega arith) k)
-  change-brings-none (PutFirst b l) k h = absurd (no-tag 1 (omega arith) k)
-  change-brings-none (PutAfter b l p) k h = absurd (no-tag 2 (omega arith) k)
-  change-brings-none (Write b s n) k h = rw h
-  change-brings-none (DeleteBlock b) k h = rw h
-  change-brings-none (DeleteList l) k h = rw h
-  change-brings-none (Commit n) k h = absurd (false≢true h)
+  change-brings-none (Take l) f g k h = absurd (f l refl)
+  change-brings-none (PutFirst b l) f g k h = absurd (g b l refl)
+  change-brings-none (PutAfter b l p) f g k h = absurd (k b l p refl)
+  change-brings-none (Write b s n) f g k h = rw h
+  change-brings-none (DeleteBlock b) f g k h = rw h
+  change-brings-none (DeleteList l) f g k h = rw h
+  change-brings-none (Commit n) f g k h = absurd (false≢true h)
 
 -- A unit.
 module _ (hs : List ℕ) (x : Unit) (u : ℕ) where

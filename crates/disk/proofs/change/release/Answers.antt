@@ -1,7 +1,6 @@
 -- The invariant: the holders passed are given up, and nothing else has changed (Freed). The measure is what is left of them. Assumes nothing.
-use Prim.Native.Nat.{◌-◌, ◌≤◌}
 use native.Mathlib.Omega.{arith}
-use Rattle.disk.proofs.Bytes.{Freed, freed-none, freed-more, freed-all}
+use Rattle.disk.proofs.Bytes.{freed-none, freed-more, freed-all}
 use Rattle.disk.proofs.change.release.Goals as goal
 
 pub loop-i-init : goal.loop-i-init

@@ -1,7 +1,6 @@
 -- The invariant: the holders passed are given up, and nothing else has changed (Freed). The measure is what is left of them. Assumes nothing.
 use Prim.Native.Nat.{◌-◌, ◌≤◌}
-use native.Mathlib.Omega.{arith}
-use Rattle.disk.proofs.Bytes.{Freed, freed-none, freed-more, freed-all}
+use Rattle.disk.proofs.Bytes.{Freed}
 use Rattle.disk.proofs.change.release.Given as goal
 
 abbrev pub invariant-loop-i : goal.invariant-loop-i

@@ -11,6 +11,7 @@ use Rattle.disk.specs.Questions.{first_free}
 use Rattle.disk.proofs.Bytes.{order-length}
 use Rattle.disk.proofs.Listing.{left_at, left-first, left-more, left-none, first-here, first-other}
 use Rattle.disk.proofs.free.first_free.Goals as goal
+use Rattle.disk.proofs.free.first_free.Goals.{then-base-x+else-x-base, else-base-x}
 
 pub loop-k-init : goal.loop-k-init
 loop-k-init c = let a = c.args in (omega arith, ap (first_free a.base a.many) (sym (left-first (record_in a.rec.now))))
@@ -49,7 +50,8 @@ loop-k-preserved c =
       omega arith,
       l.invariant.1
           ∙ ap (first_free a.base a.many) (left-more (record_in a.rec.now) (order-length a.rec.now) c.requires.0 l.k (omega (arith, c.listed-n.ensures, c.loop-k-test.true)))
-          ∙ first-other a.base a.many _ _ (⊎_elim (λ p. inr (omega (arith, x.ensures, p.1.left))) (λ p. inl (omega (arith, x.ensures, p.left))) c.if-base-x.branch),
+          ∙ first-other a.base a.many _ _
+          (elim c.if-base-x.branch [ then-base-x+else-x-base w ↦ inr (omega (arith, x.ensures, w.if-x-base.false)) | else-base-x w ↦ inl (omega (arith, x.ensures, w.if-base-x.false)) ]),
     )
 
 pub returns : goal.returns

@@ -1,6 +1,6 @@
 -- The invariant: the numbers shown up to x have joined, at least i (JoinedUpTo), and nothing but the order is another (Reorders). The measure is what is left of 80, which no row of free numbers exceeds. Assumes nothing.
 use mathlib.Core.Path.{sym, subst}
-use Prim.Native.Nat.{◌+◌, ◌-◌, ◌≤◌}
+use Prim.Native.Nat.{◌+◌}
 use native.Mathlib.Omega.{arith}
 use Rattle.lists.specs.promises.Tables.{tables_in}
 use Rattle.disk.specs.Record.{record_in}

@@ -1,11 +1,9 @@
 -- The invariant: the numbers shown up to x have joined, at least i (JoinedUpTo), and nothing but the order is another (Reorders). The measure is what is left of 80, which no row of free numbers exceeds. Assumes nothing.
-use mathlib.Core.Path.{sym, subst}
-use Prim.Native.Nat.{◌+◌, ◌-◌, ◌≤◌}
-use native.Mathlib.Omega.{arith}
+use Prim.Native.Nat.{◌-◌, ◌≤◌}
 use Rattle.lists.specs.promises.Tables.{tables_in}
 use Rattle.disk.specs.Record.{record_in}
 use Rattle.disk.specs.promises.Listing.{Reorders}
-use Rattle.disk.proofs.Listing.{reorders-same, reorders-pushed, JoinedUpTo, joined-none, joined-more, joined_end, joined-all}
+use Rattle.disk.proofs.Listing.{JoinedUpTo}
 use Rattle.disk.proofs.free.list_free.Given as goal
 
 abbrev pub invariant-loop-i : goal.invariant-loop-i

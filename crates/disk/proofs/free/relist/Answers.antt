@@ -12,15 +12,14 @@ use Rattle.disk.proofs.Relisting.{take_range, none-brought, relists-brings, reli
 use Rattle.disk.proofs.free.relist.Goals as goal
 
 pub list_number-requires : goal.list_number-requires
-list_number-requires c = let g = c.entry-1.given in take_range _ g.0.0 g.1 c.requires.1
+list_number-requires c = take_range _ c.in-Take.list c.in-Take.is c.requires.1
 
 pub returns-in-Take : goal.returns-in-Take
 unfolding as_change map_change frees
 returns-in-Take c =
     let s = c.args in
-    let g = c.entry-1.given in
     let r = record_in s.rec.now in (
-      relists-brings _ _ r _ s.entry (64 + g.0.0) (λ f. rw g.1) (λ f rs. rw g.1)
+      relists-brings _ _ r _ s.entry (64 + c.in-Take.list) (λ f. rw c.in-Take.is) (λ f rs. rw c.in-Take.is)
           (c.withdraw.ensures ∙ ap (λ (m : ℕ). unlisted m r) c.list_number.ensures),
       subst (Reorders r) (sym c.withdraw.ensures) (reorders-unlisted c.list_number.result r c.requires.0),
     )
@@ -29,20 +28,18 @@ pub returns-in-PutFirst : goal.returns-in-PutFirst
 unfolding as_change map_change frees
 returns-in-PutFirst c =
     let s = c.args in
-    let g = c.entry-in-PutFirst-1.given in
     let r = record_in s.rec.now in (
-      relists-brings _ _ r _ s.entry g.0.0 (λ f. rw g.1) (λ f rs. rw g.1) c.withdraw-in-PutFirst.ensures,
-      subst (Reorders r) (sym c.withdraw-in-PutFirst.ensures) (reorders-unlisted g.0.0 r c.requires.0),
+      relists-brings _ _ r _ s.entry c.in-PutFirst.block (λ f. rw c.in-PutFirst.is) (λ f rs. rw c.in-PutFirst.is) c.withdraw-in-PutFirst.ensures,
+      subst (Reorders r) (sym c.withdraw-in-PutFirst.ensures) (reorders-unlisted c.in-PutFirst.block r c.requires.0),
     )
 
 pub returns-in-PutAfter : goal.returns-in-PutAfter
 unfolding as_change map_change frees
 returns-in-PutAfter c =
     let s = c.args in
-    let g = c.entry-in-PutAfter-1.given in
     let r = record_in s.rec.now in (
-      relists-brings _ _ r _ s.entry g.0.0 (λ f. rw g.1) (λ f rs. rw g.1) c.withdraw-in-PutAfter.ensures,
-      subst (Reorders r) (sym c.withdraw-in-PutAfter.ensures) (reorders-unlisted g.0.0 r c.requires.0),
+      relists-brings _ _ r _ s.entry c.in-PutAfter.block (λ f. rw c.in-PutAfter.is) (λ f rs. rw c.in-PutAfter.is) c.withdraw-in-PutAfter.ensures,
+      subst (Reorders r) (sym c.withdraw-in-PutAfter.ensures) (reorders-unlisted c.in-PutAfter.block r c.requires.0),
     )
 
 pub returns-in-DeleteBlock : goal.returns-in-DeleteBlock

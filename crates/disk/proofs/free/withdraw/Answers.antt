@@ -1,10 +1,8 @@
 -- The invariant: the places before k are done, and the first `left` of them hold the numbers kept (Sifted). The measure is what is left of those listed. Assumes nothing.
 use mathlib.Core.Path.{◌∙◌}
-use Prim.Native.Nat.{◌-◌, ◌≤◌}
 use native.Mathlib.Omega.{arith}
-use Rattle.disk.specs.Record.{record_in}
 use Rattle.disk.proofs.Bytes.{order-length}
-use Rattle.disk.proofs.Listing.{Sifted, sifted-none, sifted-more, sifted-all, sifted-within}
+use Rattle.disk.proofs.Listing.{sifted-none, sifted-more, sifted-all, sifted-within}
 use Rattle.disk.proofs.free.withdraw.Goals as goal
 
 pub loop-k-init : goal.loop-k-init

@@ -11,32 +11,28 @@ returns-in_default c =
 pub overflow_sub-all : goal.overflow_sub-all
 overflow_sub-all c =
     let a = c.args in
-    let h = c.home-1.given in
-    let t = listable a.content.now c.requires.1 a.member a.e a.segments a.place a.done c.requires.0 c.home_of.result c.home_of.ensures _ h.1 in
-    omega (arith, t.left, c.stores_of-all.ensures h.0.0 a.member a.content.now c.requires.1)
+    let t = listable a.content.now c.requires.1 a.member a.e a.segments a.place a.done c.requires.0 c.home_of.result c.home_of.ensures _ c.in-At.is in
+    omega (arith, t.left, c.stores_of-all.ensures c.in-At.home a.member a.content.now c.requires.1)
 
 pub put_words-requires : goal.put_words-requires
 put_words-requires c =
     let a = c.args in
-    let h = c.home-1.given in
-    let t = listable a.content.now c.requires.1 a.member a.e a.segments a.place a.done c.requires.0 c.home_of.result c.home_of.ensures _ h.1 in
-    let n = c.stores_of-all.ensures h.0.0 a.member a.content.now c.requires.1 in
+    let t = listable a.content.now c.requires.1 a.member a.e a.segments a.place a.done c.requires.0 c.home_of.result c.home_of.ensures _ c.in-At.is in
+    let n = c.stores_of-all.ensures c.in-At.home a.member a.content.now c.requires.1 in
     (t, omega (arith, c.if-room-all.true, n), c.requires.1, omega arith, omega (arith, c.requires.2, c.requires.3))
 
 pub returns-then-room-all : goal.returns-then-room-all
 returns-then-room-all c =
     let a = c.args in
-    let h = c.home-1.given in
-    let n = c.stores_of-all.ensures h.0.0 a.member a.content.now c.requires.1 in
-    lists-ended a.content.now c.requires.1 a.member a.e a.segments a.place a.done c.requires.0 c.home_of.result c.home_of.ensures _ h.1 a.most a.at a.stores.now _ c.requires.2
+    let n = c.stores_of-all.ensures c.in-At.home a.member a.content.now c.requires.1 in
+    lists-ended a.content.now c.requires.1 a.member a.e a.segments a.place a.done c.requires.0 c.home_of.result c.home_of.ensures _ c.in-At.is a.most a.at a.stores.now _ c.requires.2
     (omega (arith, c.if-room-all.true, n)) c.put_words.ensures
 
 pub put_words-requires-2 : goal.put_words-requires-2
 put_words-requires-2 c =
     let a = c.args in
-    let h = c.home-1.given in
-    let t = listable a.content.now c.requires.1 a.member a.e a.segments a.place a.done c.requires.0 c.home_of.result c.home_of.ensures _ h.1 in
-    let n = c.stores_of-all.ensures h.0.0 a.member a.content.now c.requires.1 in
+    let t = listable a.content.now c.requires.1 a.member a.e a.segments a.place a.done c.requires.0 c.home_of.result c.home_of.ensures _ c.in-At.is in
+    let n = c.stores_of-all.ensures c.in-At.home a.member a.content.now c.requires.1 in
     (t, omega (arith, n), c.requires.1, omega (arith, t.left, n), omega (arith, c.if-room-all.false, c.requires.2, c.requires.3))
 
 pub after-requires : goal.after-requires
@@ -47,14 +43,12 @@ after-requires c =
 pub overflow_sub-result : goal.overflow_sub-result
 overflow_sub-result c =
     let a = c.args in
-    let h = c.home-1.given in
-    let t = listable a.content.now c.requires.1 a.member a.e a.segments a.place a.done c.requires.0 c.home_of.result c.home_of.ensures _ h.1 in
-    omega (arith, t.left, c.stores_of-all.ensures h.0.0 a.member a.content.now c.requires.1)
+    let t = listable a.content.now c.requires.1 a.member a.e a.segments a.place a.done c.requires.0 c.home_of.result c.home_of.ensures _ c.in-At.is in
+    omega (arith, t.left, c.stores_of-all.ensures c.in-At.home a.member a.content.now c.requires.1)
 
 pub returns : goal.returns
 returns c =
     let a = c.args in
-    let h = c.home-1.given in
-    let n = c.stores_of-all.ensures h.0.0 a.member a.content.now c.requires.1 in
-    lists-behind a.content.now c.requires.1 a.member a.e a.segments a.place a.done c.requires.0 c.home_of.result c.home_of.ensures _ h.1 a.most a.at _ _ a.stores.now _ c.requires.2
+    let n = c.stores_of-all.ensures c.in-At.home a.member a.content.now c.requires.1 in
+    lists-behind a.content.now c.requires.1 a.member a.e a.segments a.place a.done c.requires.0 c.home_of.result c.home_of.ensures _ c.in-At.is a.most a.at _ _ a.stores.now _ c.requires.2
     n c.if-room-all.false c.after.ensures c.put_words-2.ensures

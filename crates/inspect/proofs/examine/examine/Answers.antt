@@ -46,5 +46,4 @@ returns c =
     let ls = sym (c.lengths_right.ensures (record_in s.rec.now)) ∙ not-false _ c.if-not-lengths_right.false-raw in
     let ns = sym c.numbers_right.ensures ∙ not-false _ c.if-not-numbers_right.false-raw in
     let us = sym c.units_right.ensures ∙ not-false _ c.if-not-units_right.false-raw in
-    let l = c.examine_log.new.1.1.1.1 in
-    log-examined (cond s.persistent 5 0) d (tables_in l.0) ls (in-shaped s.rec.now) ns us c.examine_log.result (c.examine_log.ensures s.journal_data.now)
+    log-examined (cond s.persistent 5 0) d (tables_in c.examine_log.new.nodes) ls (in-shaped s.rec.now) ns us c.examine_log.result (c.examine_log.ensures s.journal_data.now)

@@ -15,57 +15,50 @@ returns-in_default c =
 pub settle_apart-requires : goal.settle_apart-requires
 settle_apart-requires c =
     let s = c.args in
-    let g = c.behind-1.given in
     let w = c.walk in
     let m = memory w.new.nodes w.new.members in
-    let e = rw g.1 at w.ensures in
-    let (i, k) = place-asked s.card.now g.0.0 g.0.1.0 m c.requires.0 e in
+    let e = rw c.in-Sound.is at w.ensures in
+    let (i, k) = place-asked s.card.now c.in-Sound.behind c.in-Sound.run' m c.requires.0 e in
     (c.requires.0, c.requires.1, c.requires.2, c.requires.3, c.requires.4, e.place, i, k, e.short)
 
 pub returns-then-settle_apart : goal.returns-then-settle_apart
 returns-then-settle_apart c =
     let s = c.args in
-    let g = c.behind-1.given in
     let w = c.walk in
     let m = memory w.new.nodes w.new.members in
-    let e = rw g.1 at w.ensures in
-    λ j. rw c.if-persistent.true (settled-log s.card.now s.queue_data.now j (record_in s.rec.now) c.requires.0 g.0.0 g.0.1.0 m e c.settle_apart.result c.settle_apart.ensures c.if-settle_apart.true)
+    let e = rw c.in-Sound.is at w.ensures in
+    λ j. rw c.if-persistent.true (settled-log s.card.now s.queue_data.now j (record_in s.rec.now) c.requires.0 c.in-Sound.behind c.in-Sound.run' m e c.settle_apart.result c.settle_apart.ensures c.if-settle_apart.true)
 
 pub returns-then-persistent : goal.returns-then-persistent
 returns-then-persistent c =
     let s = c.args in
-    let g = c.behind-1.given in
     let w = c.walk in
     let m = memory w.new.nodes w.new.members in
-    let e = rw g.1 at w.ensures in
-    λ j. unsettled s.card.now s.queue_data.now j (record_in s.rec.now) c.requires.0 g.0.0 g.0.1.0 m e 0 m.tables c.settle_apart.result c.settle_apart.ensures c.if-settle_apart.false
+    let e = rw c.in-Sound.is at w.ensures in
+    λ j. unsettled s.card.now s.queue_data.now j (record_in s.rec.now) c.requires.0 c.in-Sound.behind c.in-Sound.run' m e 0 m.tables c.settle_apart.result c.settle_apart.ensures c.if-settle_apart.false
 
 pub settle-requires : goal.settle-requires
 settle-requires c =
     let s = c.args in
-    let g = c.behind-1.given in
     let w = c.walk in
     let m = memory w.new.nodes w.new.members in
-    let e = rw g.1 at w.ensures in
-    let (i, k) = place-asked s.card.now g.0.0 g.0.1.0 m c.requires.0 e in
+    let e = rw c.in-Sound.is at w.ensures in
+    let (i, k) = place-asked s.card.now c.in-Sound.behind c.in-Sound.run' m c.requires.0 e in
     (c.requires.0, c.requires.1, c.requires.2, c.requires.3, c.requires.4, e.place, i, k, e.short)
 
 pub returns-then-settle : goal.returns-then-settle
 returns-then-settle c =
     let s = c.args in
-    let g = c.behind-1.given in
     let w = c.walk in
     let m = memory w.new.nodes w.new.members in
-    let e = rw g.1 at w.ensures in
+    let e = rw c.in-Sound.is at w.ensures in
     let y = c.settle in
-    let l = y.new.1.1.1.1.1 in
-    λ j. rw c.if-persistent.false (settled-queue s.card.now s.queue_data.now j (record_in s.rec.now) c.requires.0 g.0.0 g.0.1.0 m e y.result (tables_in l.0) y.ensures c.if-settle.true)
+    λ j. rw c.if-persistent.false (settled-queue s.card.now s.queue_data.now j (record_in s.rec.now) c.requires.0 c.in-Sound.behind c.in-Sound.run' m e y.result (tables_in y.new.nodes) y.ensures c.if-settle.true)
 
 pub returns : goal.returns
 returns c =
     let s = c.args in
-    let g = c.behind-1.given in
     let w = c.walk in
     let m = memory w.new.nodes w.new.members in
-    let e = rw g.1 at w.ensures in
-    λ j. unsettled s.card.now s.queue_data.now j (record_in s.rec.now) c.requires.0 g.0.0 g.0.1.0 m e 0 m.tables c.settle.result c.settle.ensures.answer c.if-settle.false
+    let e = rw c.in-Sound.is at w.ensures in
+    λ j. unsettled s.card.now s.queue_data.now j (record_in s.rec.now) c.requires.0 c.in-Sound.behind c.in-Sound.run' m e 0 m.tables c.settle.result c.settle.ensures.answer c.if-settle.false

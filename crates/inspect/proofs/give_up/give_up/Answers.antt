@@ -1,11 +1,7 @@
 -- The invariant: the numbers up to i are done (GivenUpTo), and nothing but the order is another (Reorders). Assumes nothing.
-use Prim.Native.Nat.{◌-◌, ◌≤◌}
 use native.Mathlib.Omega.{arith}
-use Rattle.lists.specs.promises.Tables.{OfShown, tables_in}
-use Rattle.disk.specs.Record.{record_in}
-use Rattle.disk.specs.promises.Listing.{Reorders}
 use Rattle.disk.proofs.Listing.{reorders-same, reorders-then}
-use Rattle.inspect.proofs.Yielding.{GivenUpTo, given-none, given-more, given-all}
+use Rattle.inspect.proofs.Yielding.{given-none, given-more, given-all}
 use Rattle.inspect.proofs.give_up.give_up.Goals as goal
 
 pub loop-i-init : goal.loop-i-init

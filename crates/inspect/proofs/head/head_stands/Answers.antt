@@ -37,11 +37,10 @@ returns-in-At c =
     let h = c.head-at in
     let a = c.args in
     let r = record_in a.rec.now in
-    let g = c.p-1.given in
     λ j.
-    rw (head-some a.card.now a.queue_data.now j r r.ring.done _ a.place (some g.0.0) c.requires.3
+    rw (head-some a.card.now a.queue_data.now j r r.ring.done _ a.place (some c.in-At.p) c.requires.3
     (λ z. c.if-len-eq0.false (c.len.ensures ∙ z)) (slot-part a.queue_data.now r.ring.head) c.requires.4
-    (sym (rw (g.1, q.ensures.1, h.ensures) at c.home_of.ensures)))
+    (sym (rw (c.in-At.is, q.ensures.1, h.ensures) at c.home_of.ensures)))
     (rw (q.ensures.0, q.ensures.1, h.ensures, c.done-stores.ensures) at c.is_begun.ensures)
 
 pub returns-in-Full : goal.returns-in-Full

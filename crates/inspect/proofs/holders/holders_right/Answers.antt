@@ -9,6 +9,7 @@ use Rattle.disk.specs.Record.{record_in}
 use Rattle.disk.specs.Sound.{holder_sound}
 use Rattle.inspect.proofs.Judging.{Left, left-fails, left-passes, left-ends, open-high, open-unit, held_none, held-closed, held-used, held-well, holders-all}
 use Rattle.inspect.proofs.holders.holders_right.Goals as goal
+use Rattle.inspect.proofs.holders.holders_right.Goals.{then-h-ne0+else-h-gt-UNITS+else-not-opened+else-is_used, else-h-ne0}
 
 pub loop-i-init : goal.loop-i-init
 loop-i-init c = (omega arith, λ rs s. refl)
@@ -54,12 +55,10 @@ loop-i-preserved c =
       omega arith,
       λ rs s.
           left-passes (holder_sound r rs) (λ k. k + 1) 80 l.i (l.invariant.1 rs s) (omega arith)
-          (⊎_elim
-          (λ w.
-          held-well r rs (l.i + 1) h e w.0.taken (sym (open-unit r h (omega arith) (omega arith)) ∙ sym w.2.ensures ∙ not-false _ w.3.left)
-          (sym (w.4.ensures rs s) ∙ w.5.left))
-          (λ w. held_none r rs (l.i + 1) h e w.left)
-          c.if-h-ne0.branch),
+          (elim c.if-h-ne0.branch [
+            | then-h-ne0+else-h-gt-UNITS+else-not-opened+else-is_used w ↦ held-well r rs (l.i + 1) h e w.if-h-ne0.true (sym (open-unit r h (omega arith) (omega arith)) ∙ sym w.opened.ensures ∙ not-false _ w.if-not-opened.false-raw) (sym (w.is_used.ensures rs s) ∙ w.if-is_used.false)
+            | else-h-ne0 w ↦ held_none r rs (l.i + 1) h e w.if-h-ne0.false
+          ]),
     )
 
 pub returns : goal.returns

@@ -10,6 +10,7 @@ use Rattle.lists.specs.promises.Tables.{ShowsAll, tables_in}
 use Rattle.disk.specs.Record.{record_in, unit_at}
 use Rattle.inspect.proofs.Overlaying.{Laid, journal-race, laid_none, laid-turn, laid-all}
 use Rattle.inspect.proofs.journal.enter_journal.Goals as goal
+use Rattle.inspect.proofs.journal.enter_journal.Goals.{then-not-act, else-not-act}
 
 pub loop-k-init : goal.loop-k-init
 loop-k-init c = (omega arith, c.journal_len-n.ensures, λ s h. laid_none _ _ s _ h)
@@ -28,7 +29,7 @@ loop-k-preserved c =
           laid-turn _ _ s c.requires.3 _ a.result _ c.loop-k.k w.result
           (tables_in c.loop-k.nodes)
           (tables_in a.new.nodes) (omega arith) ((rw (c.fields_of-f.ensures, c.journal_entry.ensures) at w.ensures) ∙ omega arith)
-          (⊎_elim (λ w. inl (not-true a.result w.0.taken, w.1)) (λ w. inr (not-false a.result w.0.left, w.1)) c.if-not-act.branch)
+          (elim c.if-not-act.branch [ then-not-act w ↦ inl (not-true a.result w.if-not-act.true-raw, w.every-is) | else-not-act w ↦ inr (not-false a.result w.if-not-act.false-raw, w.every-is) ])
           (rw (c.fields_of-f.ensures, c.journal_entry.ensures) at a.ensures)
           (c.loop-k.invariant.2 s h),
     )

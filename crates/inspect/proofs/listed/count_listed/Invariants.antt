@@ -1,10 +1,7 @@
 -- The invariant: the table has how often each byte is among the places passed (Counted). None is among more than 80. Assumes nothing.
-use mathlib.Core.Path.{◌≡◌}
-use Prim.Native.Nat.{◌-◌, ◌≤◌, ◌<◌}
-use native.Mathlib.Omega.{arith}
-use Rattle.disk.specs.Record.{record_in, listed_in}
-use Rattle.inspect.proofs.Ordering.{Counted, counted_none, counted-few, counted_next}
-use Rattle.disk.proofs.Bytes.{order-length}
+use Prim.Native.Nat.{◌-◌, ◌≤◌}
+use Rattle.disk.specs.Record.{record_in}
+use Rattle.inspect.proofs.Ordering.{Counted}
 use Rattle.inspect.proofs.listed.count_listed.Given as goal
 
 abbrev pub invariant-loop-k : goal.invariant-loop-k

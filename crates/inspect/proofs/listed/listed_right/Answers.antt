@@ -1,11 +1,10 @@
 -- The invariant: the numbers 1 to i are listed as often as they are due, over every list of rows that the owners show. Assumes nothing.
 use mathlib.Core.Path.{refl, ◌∙◌}
-use Prim.Native.Nat.{◌+◌, ◌-◌, ◌≤◌}
+use Prim.Native.Nat.{◌+◌}
 use native.Mathlib.Omega.{arith}
-use Rattle.lists.specs.promises.Tables.{OfShown, tables_in}
 use Rattle.disk.specs.Record.{record_in}
 use Rattle.disk.specs.Sound.{listed_sound}
-use Rattle.inspect.proofs.Judging.{Left, left-fails, left-passes, left-ends}
+use Rattle.inspect.proofs.Judging.{left-fails, left-passes, left-ends}
 use Rattle.inspect.proofs.Ordering.{listed-wrong, listed-well, listed-all}
 use Rattle.inspect.proofs.listed.listed_right.Goals as goal
 

@@ -37,8 +37,7 @@ pub returns-then-persistent : goal.returns-then-persistent
 returns-then-persistent c =
     let s = c.args in
     let d = disk_in s.card.now s.queue_data.now s.journal_data.now s.rec.now in
-    let m = c.examine.new.1.1.1.1.1 in
-    look-no-stream s.looked d s.v _ (tables_in m.0)
+    look-no-stream s.looked d s.v _ (tables_in c.examine.new.nodes)
     (rw c.in-Sound.is at c.examine.ensures) (eqb-true s.v 5 c.if-persistent.true-raw) c.if-looked.false any
 
 pub returns-then-v-eq0 : goal.returns-then-v-eq0
@@ -50,8 +49,7 @@ returns-then-v-eq0 c =
 pub returns-then-not-is_open : goal.returns-then-not-is_open
 returns-then-not-is_open c =
     let s = c.args in
-    let m = c.examine.new.1.1.1.1.1 in
-    look-closed s.looked (disk_in s.card.now s.queue_data.now s.journal_data.now s.rec.now) s.v _ (tables_in m.0)
+    look-closed s.looked (disk_in s.card.now s.queue_data.now s.journal_data.now s.rec.now) s.v _ (tables_in c.examine.new.nodes)
     (rw c.in-Sound.is at c.examine.ensures) (eqb-neq s.v 5 c.if-persistent.false-raw) c.if-v-eq0.false
     (sym c.is_open.ensures ∙ not-true c.is_open.result c.if-not-is_open.true-raw) any
 
@@ -66,9 +64,7 @@ enter_journal-requires c =
 pub returns : goal.returns
 returns c =
     let s = c.args in
-    let m = c.examine.new.1.1.1.1.1 in
-    let n = c.enter_journal.new in
-    look-unit s.looked (disk_in s.card.now s.queue_data.now s.journal_data.now s.rec.now) s.v _ (tables_in m.0)
+    look-unit s.looked (disk_in s.card.now s.queue_data.now s.journal_data.now s.rec.now) s.v _ (tables_in c.examine.new.nodes)
     (rw c.in-Sound.is at c.examine.ensures) (eqb-neq s.v 5 c.if-persistent.false-raw) c.if-v-eq0.false
     (sym c.is_open.ensures ∙ not-false c.is_open.result c.if-not-is_open.false-raw)
-    c.enter_journal.result (tables_in n.0) c.enter_journal.ensures
+    c.enter_journal.result (tables_in c.enter_journal.new.nodes) c.enter_journal.ensures

@@ -1,10 +1,9 @@
 -- The invariant: the places before k hold what they may. Assumes nothing.
 use mathlib.Core.Path.{refl, sym, ◌∙◌}
-use Prim.Native.Nat.{◌-◌, ◌≤◌}
 use native.Mathlib.Omega.{arith}
 use borrow.Author.Tests.{not-true, not-false}
 use Rattle.disk.specs.Record.{record_in}
-use Rattle.inspect.proofs.Judging.{Left, left-fails, left-passes, left-ends}
+use Rattle.inspect.proofs.Judging.{left-fails, left-passes, left-ends}
 use Rattle.inspect.proofs.Ordering.{place_good, order-long, order-all}
 use Rattle.disk.proofs.Bytes.{order-length}
 use Rattle.inspect.proofs.numbers.order_right.Goals as goal

@@ -12,8 +12,8 @@ use Rattle.inspect.proofs.queue.enter_queue.Given as goal
 abbrev pub invariant-loop-k : goal.invariant-loop-k
 invariant-loop-k l =
     let r = record_in l.rec in
-    (l.k ≤ l.n) × (l.n ≡ r.ring.len) × (l.first ≡ r.ring.head) × (members-in-run ≤ l.run + l.k)
-    × ((x : Reader ℕ) → Keeps (memory l.initial.nodes l.initial.members) l.run x → FedUpTo r x l.k members-in-run (memory l.nodes l.members))
+    (l.k ≤ l.n) × (l.n ≡ r.ring.len) × (l.first ≡ r.ring.head) × (l.members_in_run ≤ l.run + l.k)
+    × ((x : Reader ℕ) → Keeps (memory l.initial.nodes l.initial.members) l.run x → FedUpTo r x l.k l.members_in_run (memory l.nodes l.members))
 
 abbrev pub decreases-loop-k : goal.decreases-loop-k
 decreases-loop-k l = l.n - l.k

@@ -40,5 +40,5 @@ returns-in-PutAfter c =
 
 pub returns-in_default : goal.returns-in_default
 returns-in_default c =
-    let s = c.args in
-    change-brings-none (record_in s.rec.now).held.holder s.u s.e c.in_default.in_default-own.keys4 (sym c.is_member.ensures ∙ not-false _ c.if-not-is_member.false-raw)
+    let d = c.in_default in
+    change-brings-none (record_in c.args.rec.now).held.holder c.args.u c.args.e d.not-Take d.not-PutFirst d.not-PutAfter (sym c.is_member.ensures ∙ not-false _ c.if-not-is_member.false-raw)
