@@ -1,13 +1,11 @@
 -- End: the journal queued as members and a commit, the unit closed, and what the call performs.
 use mathlib.Core.Path.{◌≡◌, refl, sym, ap, ◌∙◌, subst}
-use mathlib.Core.Logic.{inl, inr, ◌≢◌}
+use mathlib.Core.Logic.{◌≢◌}
 use mathlib.Core.Bool.{Bool, true, false, cond, false≢true}
 use mathlib.Core.Option.{some}
 use mathlib.Core.List.{List, [], ◌∷◌, ◌++◌, map}
 use Prim.Native.Nat.{ℕ, ◌+◌, ◌-◌, ◌*◌, ◌≤◌, ◌<◌}
 use native.Mathlib.Omega.{arith}
-use denote.Enum.Declared.{tag_of}
-use types.Run.{OneOf}
 use lib.Dec.{leb, eqb}
 use lib.ListN.{length, take, drop, get_or}
 use Rattle.lists.specs.Basic.{is_some, all, from}
@@ -16,7 +14,6 @@ use Rattle.lists.specs.State.{State, apply_all, overlay}
 use Rattle.lists.specs.promises.Tables.{Tables, ShowsAll, OfShown}
 use Rattle.lists.proofs.Basic.{some_of, from_step, from-none, all_from, le-true, gt-false}
 use Rattle.lists.proofs.Lookup.{lists-shown}
-use Rattle.card_log.specs.contracts.entry.LogEntry.{the_type}
 use Rattle.card_log.specs.declared.entry.LogEntry.{LogEntry}
 use Rattle.card_log.specs.declared.entry.LogEntry.TheVariants.{Take, PutFirst, PutAfter, Write, DeleteBlock, DeleteList, Commit}
 use Rattle.card_log.specs.Card.{Written, slot, slot_bytes, splice}
@@ -64,22 +61,14 @@ module _ (q j : List ℕ) (r : Record) (k : ℕ) where
   unfolding enqueue map_change as_change carried carried_by splice_some cell_of raw map_entry as_entry
   member-write b s n q' r' h g c = rw (h, g)
 
-  no_write : OneOf (0 ∷ 1 ∷ 2 ∷ 4 ∷ 5 ∷ 6 ∷ []) 3 → ⊥
-  no_write (inl e) = omega arith
-  no_write (inr (inl e)) = omega arith
-  no_write (inr (inr (inl e))) = omega arith
-  no_write (inr (inr (inr (inl e)))) = omega arith
-  no_write (inr (inr (inr (inr (inl e))))) = omega arith
-  no_write (inr (inr (inr (inr (inr e))))) = omega arith
-
   -- an entry that is no write carries nothing
-  pub member-other : (e : LogEntry) (r' : Record) → OneOf (0 ∷ 1 ∷ 2 ∷ 4 ∷ 5 ∷ 6 ∷ []) (tag_of the_type e) → legal (raw 0 (member (as_change e))) ≡ true → r' ≡ queued_as e
+  pub member-other : (e : LogEntry) (r' : Record) → ((b s n : ℕ) → e ≢ Write b s n) → legal (raw 0 (member (as_change e))) ≡ true → r' ≡ queued_as e
       → QueuesMember q j r e k q r'
   unfolding enqueue map_change as_change carried carried_by splice_some cell_of as_entry legal legal_change raw map_entry
   member-other (Take l) r' t h g c = rw g
   member-other (PutFirst b l) r' t h g c = rw g
   member-other (PutAfter b l p) r' t h g c = rw g
-  member-other (Write b s n) r' t h g c = absurd (no_write t)
+  member-other (Write b s n) r' t h g c = absurd (t b s n refl)
   member-other (DeleteBlock b) r' t h g c = rw g
   member-other (DeleteList l) r' t h g c = rw g
   member-other (Commit n) r' t h g c = absurd (false≢true h)

@@ -1,5 +1,5 @@
 // Begin: a unit opened for a window, its journal empty.
-ghost use Rattle.disk.specs.Call.{begin as beginOf};
+ghost use Rattle.disk.specs.Call.{begin as begin_of};
 ghost use Rattle.answers.specs.Answers.{reply_answer};
 ghost use Rattle.calls.specs.Performs.{ChangesRecord};
 
@@ -20,7 +20,7 @@ pub fn begin(
     unit: usize,
     window: usize,
 ) -> Reply
-    ensures { ChangesRecord (beginOf unit window) card.now queue_data.now journal_data.now rec.old rec.new (reply_answer result) }
+    ensures { ChangesRecord (begin_of unit window) card.now queue_data.now journal_data.now rec.old rec.new (reply_answer result) }
 {
     match check(card, queue_data, journal_data, rec) {
         Looked::Refused(x) => {

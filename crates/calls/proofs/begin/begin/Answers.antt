@@ -1,8 +1,8 @@
 -- Questions 1 and 3 are those of `check`; the unit's number, the window and whether the unit is open are tested behind them. Assumes nothing.
 use mathlib.Core.Path.{refl, sym, ◌∙◌}
-use mathlib.Core.Logic.{inl, inr, ⊎_elim}
+use mathlib.Core.Logic.{inl, inr}
 use native.Mathlib.Omega.{arith}
-use borrow.Author.Tests.{ltb-true, ltb-false, not-true, not-false}
+use borrow.Author.Tests.{ltb-false, not-true, not-false}
 use Rattle.disk.specs.Disk.{disk_in}
 use Rattle.disk.specs.Call as Call
 use Rattle.disk.specs.Call.{destination}
@@ -12,6 +12,7 @@ use Rattle.answers.specs.Answers.{reply_answer}
 use Rattle.calls.proofs.Refusing.{checked, first-refused}
 use Rattle.calls.proofs.Checking.{begin-outside, begin-nowhere, begin-twice, begin-opens, window-range}
 use Rattle.calls.proofs.begin.begin.Goals as goal
+use Rattle.calls.proofs.begin.begin.Goals.{then-unit-lt1-via-then-unit-lt1, then-unit-lt1-via-else-unit-lt1+then-unit-gt-UNITS}
 
 pub returns-in-Refused : goal.returns-in-Refused
 unfolding refusal questions destination reply_answer
@@ -25,7 +26,7 @@ unfolding reply_answer
 returns-then-unit-lt1 c =
     let a = c.args in
     begin-outside (disk_in a.card.now a.queue_data.now a.journal_data.now a.rec.now) a.unit a.window (rw c.in-Seen.is at c.check.ensures)
-    (⊎_elim (λ x. inl x.taken) (λ x. inr (ltb-true 4 a.unit x.1.taken)) c.then-unit-lt1.branch)
+    (elim c.then-unit-lt1.branch [ then-unit-lt1-via-then-unit-lt1 w ↦ inl w.if-unit-lt1.true | then-unit-lt1-via-else-unit-lt1+then-unit-gt-UNITS w ↦ inr w.if-unit-gt-UNITS.true ])
 
 pub returns-then-not-is_window : goal.returns-then-not-is_window
 unfolding reply_answer

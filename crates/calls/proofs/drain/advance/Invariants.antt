@@ -1,13 +1,11 @@
 -- The loop's invariant: the stores that are left, done on the card as it is, leave what all of them leave, and are each in turn. Assumes nothing.
-use mathlib.Core.Path.{◌≡◌, refl, sym, ◌∙◌}
+use mathlib.Core.Path.{◌≡◌}
 use Prim.Native.Nat.{◌-◌}
-use native.Mathlib.Omega.{arith}
 use lib.ListN.{length}
 use Rattle.card_log.specs.Store.{do_stores, entry_stores}
 use Rattle.card_log.specs.Turns.{AllInTurn}
 use Rattle.card_log.proofs.LogStores.{going}
-use Rattle.calls.proofs.Storing.{several, stores-next, stores-done}
-use Rattle.calls.proofs.Turns.{turn-now, turns_next}
+use Rattle.calls.proofs.Storing.{several}
 use Rattle.calls.proofs.drain.advance.Given as goal
 
 abbrev pub invariant-loop-k : goal.invariant-loop-k

@@ -1,13 +1,13 @@
 -- The loop's invariant: the record is as it was, and the flush from where it stands is the flush whole. Assumes nothing.
-use mathlib.Core.Path.{◌≡◌, refl, sym, ◌∙◌, subst}
-use Prim.Native.Nat.{◌+◌, ◌-◌, ◌%◌}
+use mathlib.Core.Path.{refl, sym, ◌∙◌, subst}
+use Prim.Native.Nat.{◌+◌, ◌%◌}
 use native.Mathlib.Omega.{arith}
 use Rattle.disk.specs.Record.{record_in}
 use Rattle.card_log.specs.Entry.{Entry}
 use Rattle.card_log.specs.Card.{Written}
-use Rattle.calls.specs.promises.Flushing.{HeadReady, Flushable}
+use Rattle.calls.specs.promises.Flushing.{HeadReady}
 use Rattle.calls.proofs.Storing.{few-stores}
-use Rattle.calls.proofs.Draining.{data_at, data-size, entry-met, heads-met, Going, going_start, going-head, going_on, flushes-full, flushes-spent, flushes-drained}
+use Rattle.calls.proofs.Draining.{data_at, data-size, entry-met, heads-met, going_start, going-head, going_on, flushes-full, flushes-spent, flushes-drained}
 use Rattle.calls.proofs.drain.drain.Goals as goal
 
 pub loop-gone-init : goal.loop-gone-init
@@ -29,9 +29,6 @@ overflow_add-data c = omega arith
 
 pub slice_bounds-store_head-count : goal.slice_bounds-store_head-count
 slice_bounds-store_head-count c = omega arith
-
--- TODO slice-bounds-store-head-end
---  omega (arith, c.before.before.before.before.loop.invariant.1.queue_data)
 
 pub store_head-requires : goal.store_head-requires
 store_head-requires c =

@@ -8,32 +8,31 @@ use Rattle.disk.specs.Record.{record_in, conflict_counted}
 use Rattle.calls.proofs.Ending.{queued-ready, ends-conflict, ends-full, ends-accepted}
 use Rattle.calls.proofs.end.end_unit.Goals as goal
 
-returns : tie.Need-returns
-returns c st sh =
-    let f = c.before.before.before.before.before.before.before in
-    let j = f.before.enter-journal in
-    let a = c.before.before.before.before.before.before.before.before.before.before.before.before.before.before.args in
-    ends-conflict st a.queue_data.now a.journal_data.now (record_in a.rec.now) a.u (record_in c.count-conflict.new.0) (sym (j.ensures.answer st sh) ∙ not-true j.result f.if1.true)
-    (c.count-conflict.ensures ∙ (λ i. conflict_counted (c.before.before.before.before.before.window.ensures i) (c.before.before.close.ensures st.lists (lists-shown _ st sh) i)))
+pub returns-then-not-enter_journal : goal.returns-then-not-enter_journal
+returns-then-not-enter_journal c st sh =
+    let j = c.enter_journal in
+    let a = c.args in
+    ends-conflict st a.queue_data.now a.journal_data.now (record_in a.rec.now) a.u (record_in c.count_conflict.new.rec) (sym (j.ensures.answer st sh) ∙ not-true j.result c.if-not-enter_journal.true-raw)
+    (c.count_conflict.ensures ∙ (λ i. conflict_counted (c.window-w.ensures i) (c.close.ensures st.lists (lists-shown _ st sh) i)))
 
-returns-2 : tie.Need-returns-2
-returns-2 c st sh =
-    let a = c.before.before.before.before.before.before.before.before.before.before.before.before.args in
-    let j = c.before.before.before.before.before.before.enter-journal in
-    ends-full st a.queue_data.now a.journal_data.now (record_in a.rec.now) a.u (sym (j.ensures.answer st sh) ∙ not-false j.result c.before.before.before.before.before.if1.false)
-    (omega (arith, c.before.before.before.len.ensures, c.before.journal-len.ensures, c.if2.true))
-
-returns-3 : tie.Need-returns-3
-returns-3 c st sh =
-    let a = c.before.before.before.before.before.before.before.before.before.before.before.before.before.before.before.before.before.before.before.before.before.before.before.args in
-    let j = c.before.before.before.before.before.before.before.before.before.before.before.before.before.before.before.before.before.enter-journal in
-    let q = c.before.before.before.before.before.before.before.before.queue-unit in
-    let f = c.before.before.before.relist-journal in
-    ends-accepted st a.queue_data.now a.journal_data.now (record_in a.rec.now) a.u (sym (j.ensures.answer st sh) ∙ not-false j.result c.before.before.before.before.before.before.before.before.before.before.before.before.before.before.before.before.if1.false)
-    _ (tables_in f.new.0) _ (record_in q.new.1.1.0) (record_in f.new.1.0) (record_in c.close2.new.1.0) sh
-    (omega (arith, c.before.before.before.before.before.before.before.before.before.before.before.before.before.before.len.ensures, c.before.before.before.before.before.before.before.before.before.before.before.before.journal-len.ensures, c.before.before.before.before.before.before.before.before.before.before.before.if2.false)) q.ensures f.ensures c.close2.ensures
+pub returns-then-len-journal_len-ge-QUEUE : goal.returns-then-len-journal_len-ge-QUEUE
+returns-then-len-journal_len-ge-QUEUE c st sh =
+    let a = c.args in
+    let j = c.enter_journal in
+    ends-full st a.queue_data.now a.journal_data.now (record_in a.rec.now) a.u (sym (j.ensures.answer st sh) ∙ not-false j.result c.if-not-enter_journal.false-raw)
+    (omega (arith, c.len.ensures, c.journal_len.ensures, c.if-len-journal_len-ge-QUEUE.true))
 
 pub relist_journal-requires : goal.relist_journal-requires
 relist_journal-requires c =
     let q = c.queue_unit in
     queued-ready c.args.queue_data.now c.args.journal_data.now (record_in c.args.rec.now) c.args.u _ (record_in q.new.rec) q.ensures c.requires
+
+pub returns : goal.returns
+returns c st sh =
+    let a = c.args in
+    let j = c.enter_journal in
+    let q = c.queue_unit in
+    let f = c.relist_journal in
+    ends-accepted st a.queue_data.now a.journal_data.now (record_in a.rec.now) a.u (sym (j.ensures.answer st sh) ∙ not-false j.result c.if-not-enter_journal.false-raw)
+    _ (tables_in f.new.nodes) _ (record_in q.new.rec) (record_in f.new.rec) (record_in c.close-2.new.rec) sh
+    (omega (arith, c.len.ensures, c.journal_len.ensures, c.if-len-journal_len-ge-QUEUE.false)) q.ensures f.ensures c.close-2.ensures

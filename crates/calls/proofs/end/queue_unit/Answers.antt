@@ -1,8 +1,7 @@
 -- The invariant: the entries passed are queued in their order (Along). The measure is what is left of the journal. Assumes nothing.
-use Prim.Native.Nat.{◌-◌}
 use native.Mathlib.Omega.{arith}
 use Rattle.disk.specs.Record.{record_in}
-use Rattle.calls.proofs.Ending.{Along, along-start, along-lawful, along-step, along-end}
+use Rattle.calls.proofs.Ending.{along-start, along-lawful, along-step, along-end}
 use borrow.Author.Rules.{rules}
 use Rattle.calls.proofs.end.queue_unit.Goals as goal
 

@@ -1,12 +1,11 @@
 -- The invariant: the entries passed are queued in their order (Along). The measure is what is left of the journal. Assumes nothing.
 use Prim.Native.Nat.{◌-◌}
-use native.Mathlib.Omega.{arith}
 use Rattle.disk.specs.Record.{record_in}
-use Rattle.calls.proofs.Ending.{Along, along-start, along-lawful, along-step, along-end}
+use Rattle.calls.proofs.Ending.{Along}
 use Rattle.calls.proofs.end.queue_unit.Given as goal
 
 abbrev pub invariant-loop-k : goal.invariant-loop-k
-invariant-loop-k l = Along queue-data₀ journal-data l.u (record_in l.initial.rec) queue-data (record_in l.rec) l.k
+invariant-loop-k l = Along l.initial.queue_data l.journal_data l.u (record_in l.initial.rec) l.queue_data (record_in l.rec) l.k
 
 abbrev pub decreases-loop-k : goal.decreases-loop-k
 decreases-loop-k l = l.entries - l.k

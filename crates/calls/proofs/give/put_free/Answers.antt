@@ -10,21 +10,11 @@ use Rattle.calls.proofs.Giving.{free-limit, put-outside, put-inside}
 use Rattle.calls.proofs.Putting.{puts-number}
 use Rattle.calls.proofs.give.put_free.Goals as goal
 
-returns : tie.Need-returns
-returns c rs sh =
-    let x = c.before.before.args in
+pub returns-then-not-is_position : goal.returns-then-not-is_position
+returns-then-not-is_position c rs sh =
+    let x = c.args in
     let r = record_in x.rec.now in
-    put-outside x.s x.l x.p (or_else 0 (free_block_in r)) r rs (sym c.before.is-position.ensures ∙ not-true c.before.is-position.result c.if1.true)
-
-returns-2 : tie.Need-returns-2
-returns-2 c rs sh =
-    let o = c.before.before.before.before in
-    let x = o.before.before.args in
-    let f = c.before.before.first-free in
-    let r = record_in x.rec.now in
-    puts-number rs x.s x.l x.p f.result _ r c.put_on.result (record_in c.put_on.new.1.0) f.ensures
-    (put-inside x.s x.l x.p f.result r rs c.put_on.result (record_in c.put_on.new.1.0)
-    (sym o.before.is-position.ensures ∙ not-false o.before.is-position.result o.if1.false) (c.put_on.ensures rs sh))
+    put-outside x.s x.l x.p (or_else 0 (free_block_in r)) r rs (sym c.is_position.ensures ∙ not-true c.is_position.result c.if-not-is_position.true-raw)
 
 pub overflow_cast-l : goal.overflow_cast-l
 overflow_cast-l c =
@@ -42,3 +32,12 @@ put_on-requires c =
     let h = c.requires in
     let (l, q) = position-range a.l a.p (sym c.is_position.ensures ∙ not-false c.is_position.result c.if-not-is_position.false-raw) in
     (h.0, h.1, l, q, free-limit 0 64 _ _ c.first_free-b.ensures, h.2)
+
+pub returns : goal.returns
+returns c rs sh =
+    let x = c.args in
+    let f = c.first_free-b in
+    let r = record_in x.rec.now in
+    puts-number rs x.s x.l x.p f.result _ r c.put_on.result (record_in c.put_on.new.rec) f.ensures
+    (put-inside x.s x.l x.p f.result r rs c.put_on.result (record_in c.put_on.new.rec)
+    (sym c.is_position.ensures ∙ not-false c.is_position.result c.if-not-is_position.false-raw) (c.put_on.ensures rs sh))

@@ -1,11 +1,10 @@
 -- Each turn stores the list taken next. Assumes nothing.
-use mathlib.Core.Path.{◌≡◌, refl, ◌∙◌}
-use Prim.Native.Nat.{◌-◌, ◌≤◌}
+use mathlib.Core.Path.{refl, ◌∙◌}
 use native.Mathlib.Omega.{arith}
-use lib.ListN.{length, length-set}
+use lib.ListN.{length-set}
 use Rattle.lists.proofs.Lookup.{list-said}
-use Rattle.lists.specs.promises.Tables.{OfShown, tables_in}
-use Rattle.calls.proofs.Taken.{Taking, taking-none, taking-more, taking-end, taking-full}
+use Rattle.lists.specs.promises.Tables.{tables_in}
+use Rattle.calls.proofs.Taken.{taking-none, taking-more, taking-end, taking-full}
 use Rattle.calls.proofs.inventory.put_lists.Goals as goal
 
 pub list_after-list-requires : goal.list_after-list-requires

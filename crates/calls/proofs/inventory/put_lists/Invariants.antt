@@ -1,11 +1,9 @@
 -- Each turn stores the list taken next. Assumes nothing.
-use mathlib.Core.Path.{◌≡◌, refl, ◌∙◌}
+use mathlib.Core.Path.{◌≡◌}
 use Prim.Native.Nat.{◌-◌, ◌≤◌}
-use native.Mathlib.Omega.{arith}
-use lib.ListN.{length, length-set}
-use Rattle.lists.proofs.Lookup.{list-said}
+use lib.ListN.{length}
 use Rattle.lists.specs.promises.Tables.{OfShown, tables_in}
-use Rattle.calls.proofs.Taken.{Taking, taking-none, taking-more, taking-end, taking-full}
+use Rattle.calls.proofs.Taken.{Taking}
 use Rattle.calls.proofs.inventory.put_lists.Given as goal
 
 abbrev pub invariant-loop-i : goal.invariant-loop-i

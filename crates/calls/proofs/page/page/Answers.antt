@@ -14,8 +14,8 @@ returns-then-buffer-length c =
     page-short _ _ _ _ (rw c.in-Seen.is at c.look_view.ensures) _ c.page_length-length.ensures c.if-buffer-length.true
 
 pub shape_of-buffer : goal.shape_of-buffer
-shape_of-buffer c = c.put_page.ensures.0
+shape_of-buffer c = c.put_page.ensures.out_len_unchanged
 
 pub returns : goal.returns
 returns c =
-    page-given _ _ _ _ (rw c.in-Seen.is at c.look_view.ensures) _ c.page_length-length.ensures c.if-buffer-length.false _ _ c.put_page.ensures.1
+    page-given _ _ _ _ (rw c.in-Seen.is at c.look_view.ensures) _ c.page_length-length.ensures c.if-buffer-length.false _ _ c.put_page.ensures.of_shown

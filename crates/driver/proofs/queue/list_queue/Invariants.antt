@@ -13,7 +13,7 @@ use Rattle.driver.proofs.queue.list_queue.Given as goal
 
 abbrev pub invariant-loop-gone : goal.invariant-loop-gone
 invariant-loop-gone l =
-    Flushable l.card queue-data (record_in l.rec) l.initial.place × Going l.card queue-data (record_in l.rec) l.initial.place l.most l.initial.stores l.stores l.place l.done l.at l.gone
+    Flushable l.card l.queue_data (record_in l.rec) l.initial.place × Going l.card l.queue_data (record_in l.rec) l.initial.place l.most l.initial.stores l.stores l.place l.done l.at l.gone
 
 abbrev pub decreases-loop-gone : goal.decreases-loop-gone
 decreases-loop-gone l = l.entries - l.gone
