@@ -25,7 +25,7 @@ unfolding command_of is_quiet ended_at word_from run bytes named first_rows pick
 bounds = (refl, refl, refl)
 
 -- the digits stand at 10 to 14 of the line; without N 256 bytes are lent, without RACE it is 0
-data-lent : (command_of (bytes "write 1 2 0a_ff") ≡ on_stream 1 (E.Write 2 256 0 (record { start = 10; end = 14 }))) × (command_of (bytes "write 1 2 0a_ff 300") ≡ on_stream 1 (E.Write 2 300 0 (record { start = 10; end = 14 }))) × (command_of (bytes "write 1 2 0a_ff 300 25") ≡ on_stream 1 (E.Write 2 300 25 (record { start = 10; end = 14 }))) × (command_of (bytes "write 1 2 0a_ff 300 25 1") ≡ C.Unknown) × (command_of (bytes "write 1 2 0a_ff 301") ≡ C.Unknown) × (command_of (bytes "write 1 2 0a_f") ≡ C.Unknown)
+data-lent : (command_of (bytes "write 1 2 0aFf") ≡ on_stream 1 (E.Write 2 256 0 (record { start = 10; end = 14 }))) × (command_of (bytes "write 1 2 0aFf 300") ≡ on_stream 1 (E.Write 2 300 0 (record { start = 10; end = 14 }))) × (command_of (bytes "write 1 2 0aFf 300 25") ≡ on_stream 1 (E.Write 2 300 25 (record { start = 10; end = 14 }))) × (command_of (bytes "write 1 2 0aFf 300 25 1") ≡ C.Unknown) × (command_of (bytes "write 1 2 0aFf 301") ≡ C.Unknown) × (command_of (bytes "write 1 2 0aF") ≡ C.Unknown)
 unfolding command_of is_quiet ended_at word_from run bytes named first_rows middle_named middle_rows pick same write_from raced_from part_from one_from number_of number_after digits_only value is_hex hex_only is_nibble between
 data-lent = (refl, refl, refl, refl, refl, refl)
 

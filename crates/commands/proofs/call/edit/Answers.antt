@@ -9,7 +9,7 @@ use Rattle.commands.proofs.Calling.{calls}
 use Rattle.commands.proofs.call.edit.Goals as goal
 
 pub slice_bounds-part-end : goal.slice_bounds-part-end
-slice_bounds-part-end c = sym (length_front {A = ℕ} (replicate 300 0) c.hex.new.out 256 c.hex.auto.1.0)
+slice_bounds-part-end c = sym (length_front {A = ℕ} (replicate 300 0) c.hex.new.out 256 c.hex.auto.out)
 
 pub returns-in-NewList : goal.returns-in-NewList
 unfolding edit_of line_of edit_line

@@ -13,11 +13,11 @@ pub slice_bounds-inventory-end : goal.slice_bounds-inventory-end
 slice_bounds-inventory-end c = rw c.least-n.ensures (lent-count c.args.lent (replicate 1000 0))
 
 pub slice_bounds-part-end : goal.slice_bounds-part-end
-slice_bounds-part-end c = sym (length_front {A = ℕ} (replicate 1000 0) c.inventory-reply.new.dest c.least-n.result c.inventory-reply.auto.1.1.1.1.1.0)
+slice_bounds-part-end c = sym (length_front {A = ℕ} (replicate 1000 0) c.inventory-reply.new.dest c.least-n.result c.inventory-reply.auto.dest)
 
 pub returns : goal.returns
 unfolding bytes_lent line_of look_line
 returns c =
     let n = c.args.lent in
     let k = c.least-n.ensures in
-    calls (rw (zeros-lent n _ k) at c.inventory-reply.ensures) (rw (c.part.ensures, zeros-back n _ k _ c.inventory-reply.auto.1.1.1.1.1.0) at c.put_inventory.ensures)
+    calls (rw (zeros-lent n _ k) at c.inventory-reply.ensures) (rw (c.part.ensures, zeros-back n _ k _ c.inventory-reply.auto.dest) at c.put_inventory.ensures)

@@ -13,11 +13,11 @@ pub slice_bounds-read-end : goal.slice_bounds-read-end
 slice_bounds-read-end c = rw c.least-n.ensures (lent-count c.args.lent (replicate 1000 0))
 
 pub slice_bounds-part-end : goal.slice_bounds-part-end
-slice_bounds-part-end c = sym (length_front {A = ℕ} (replicate 1000 0) c.read-reply.new.dest c.least-n.result c.read-reply.auto.1.1.1.1.1.1.0)
+slice_bounds-part-end c = sym (length_front {A = ℕ} (replicate 1000 0) c.read-reply.new.dest c.least-n.result c.read-reply.auto.dest)
 
 pub returns : goal.returns
 unfolding bytes_lent line_of look_line
 returns c =
     let n = c.args.lent in
     let k = c.least-n.ensures in
-    calls (rw (zeros-lent n _ k) at c.read-reply.ensures) (rw (c.part.ensures, zeros-back n _ k _ c.read-reply.auto.1.1.1.1.1.1.0) at c.put_read.ensures)
+    calls (rw (zeros-lent n _ k) at c.read-reply.ensures) (rw (c.part.ensures, zeros-back n _ k _ c.read-reply.auto.dest) at c.put_read.ensures)

@@ -34,7 +34,7 @@ returns-in-Flush c =
     let n = c.least-n.result in
     let many : n ≡ min (min a.state.card a.state.size) (length a.card.now) = omega (arith, c.least-n.ensures, f.whole) in
     rw (c.in-Flush.is, disk-lent a.card.now a.state f n many a.queue.now a.journal.now, ← c.part.ensures, ← c.part-in-Flush.ensures)
-    (broken-runs a.card.now a.state f n many _ c.broken_flush-broken.auto.0 _ a.queue.now a.journal.now a.out.now a.at _ _ _ _ _
+    (broken-runs a.card.now a.state f n many _ c.broken_flush-broken.auto.card _ a.queue.now a.journal.now a.out.now a.at _ _ _ _ _
     c.broken_flush-broken.ensures c.cut_short.ensures)
 
 pub returns-in-Format : goal.returns-in-Format
@@ -45,5 +45,5 @@ returns-in-Format c =
     let n = c.least-n-in-Format.result in
     let many : n ≡ min (min a.state.card a.state.size) (length a.card.now) = omega (arith, c.least-n-in-Format.ensures, f.whole) in
     rw (c.in-Format.is, disk-lent a.card.now a.state f n many a.queue.now a.journal.now, ← c.part-in-Format.ensures, ← c.part-in-Format-2.ensures)
-    (broken-runs a.card.now a.state f n many _ c.broken_format-broken.auto.0 _ a.queue.now a.journal.now a.out.now a.at _ _ _ _ _
+    (broken-runs a.card.now a.state f n many _ c.broken_format-broken.auto.card _ a.queue.now a.journal.now a.out.now a.at _ _ _ _ _
     (c.broken_format-broken.ensures (record_in a.state.rec)) c.cut_short-in-Format.ensures)

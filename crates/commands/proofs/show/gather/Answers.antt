@@ -1,8 +1,6 @@
 -- Each turn stores the next block of the list. Assumes nothing.
-use Prim.Native.Nat.{◌-◌}
 use native.Mathlib.Omega.{arith}
-use Rattle.disk.specs.Disk.{disk_in}
-use Rattle.commands.proofs.Showing.{Gathered, gathered_none, gathered-more, gathered-end, gathered-full}
+use Rattle.commands.proofs.Showing.{gathered_none, gathered-more, gathered-end, gathered-full}
 use Rattle.commands.proofs.show.gather.Goals as goal
 
 pub block_after-block-requires : goal.block_after-block-requires

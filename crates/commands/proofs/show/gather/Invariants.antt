@@ -1,8 +1,7 @@
 -- Each turn stores the next block of the list. Assumes nothing.
 use Prim.Native.Nat.{◌-◌}
-use native.Mathlib.Omega.{arith}
 use Rattle.disk.specs.Disk.{disk_in}
-use Rattle.commands.proofs.Showing.{Gathered, gathered_none, gathered-more, gathered-end, gathered-full}
+use Rattle.commands.proofs.Showing.{Gathered}
 use Rattle.commands.proofs.show.gather.Given as goal
 
 abbrev pub invariant-loop-n : goal.invariant-loop-n

@@ -1,13 +1,10 @@
 -- Each turn shows one block more. Assumes nothing.
-use Prim.Native.Nat.{◌-◌, ◌≤◌}
 use native.Mathlib.Omega.{arith}
-use lib.ListN.{length, take}
 use lib.Seq.{take_all}
 use Rattle.lists.specs.Basic.{joined}
-use Rattle.text.specs.Written.{Puts}
 use Rattle.text.proofs.Writing.{puts_none, puts-more, puts-length}
 use Rattle.disk.specs.Disk.{disk_in}
-use Rattle.commands.specs.Shown.{each_of, block_shown}
+use Rattle.commands.specs.Shown.{block_shown}
 use Rattle.commands.proofs.Showing.{each_more}
 use Rattle.commands.proofs.show.show_blocks.Goals as goal
 

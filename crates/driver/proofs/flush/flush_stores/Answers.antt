@@ -1,6 +1,6 @@
 -- Questions 1 and 3 as `examine` answers them, then 5; the queue of a disk that all accept is listed. Assumes nothing.
 use mathlib.Core.Path.{◌≡◌, ap, ◌∙◌}
-use mathlib.Core.Logic.{◌⊎◌, inl, inr, ⊎_elim}
+use mathlib.Core.Logic.{◌⊎◌, inl, inr}
 use mathlib.Core.Bool.{true, false}
 use mathlib.Core.List.{List, []}
 use Prim.Native.Nat.{ℕ, ◌≤◌, ◌<◌}
@@ -22,6 +22,7 @@ use Rattle.driver.specs.Stores.{stores_made, list_stores}
 use Rattle.driver.specs.promises.Listing.{listed}
 use Rattle.driver.proofs.Listing.{take-smaller, lists-accepted, lists-refused}
 use Rattle.driver.proofs.flush.flush_stores.Goals as goal
+use Rattle.driver.proofs.flush.flush_stores.Goals.{then-allowance-room, else-allowance-room}
 
 module _ (a : ℕ) (d : Disk) (x : List ℕ) where
   wrong-length : lengths_right d ≡ false → list_stores (flush a) d x ≡ (number_answer (Refused WrongLength), x)
@@ -55,7 +56,7 @@ list_queue-requires c =
     let a = c.args in
     let x = rw c.in-Sound.is at c.examine.ensures in (
       flushable (disk_in a.card.now a.queue_data.now a.journal_data.now a.rec.now) _ x.lengths x.sound x.place,
-      ⊎_elim (λ w. omega arith) (λ w. omega arith) c.if-allowance-room.branch,
+      elim c.if-allowance-room.branch [ then-allowance-room w ↦ omega arith | else-allowance-room w ↦ omega arith ],
     )
 
 pub returns-in-WrongLength : goal.returns-in-WrongLength
@@ -75,5 +76,5 @@ returns-after-allowance-room c =
     let x = rw c.in-Sound.is at c.examine.ensures in
     let m = c.if-allowance-room in
     stores-listed a.allowance (disk_in a.card.now a.queue_data.now a.journal_data.now a.rec.now) a.stores.now m.most _ _ x.lengths x.sound c.if-allowance-gt-ALLOWANCE.false
-    (⊎_elim (λ w. omega arith) (λ w. omega arith) m.branch) (⊎_elim (λ w. omega arith) (λ w. omega arith) m.branch) (⊎_elim (λ w. inl (omega arith)) (λ w. inr (omega arith)) m.branch)
+    (elim c.if-allowance-room.branch [ then-allowance-room w ↦ omega arith | else-allowance-room w ↦ omega arith ]) (elim c.if-allowance-room.branch [ then-allowance-room w ↦ omega arith | else-allowance-room w ↦ omega arith ]) (elim c.if-allowance-room.branch [ then-allowance-room w ↦ inl (omega arith) | else-allowance-room w ↦ inr (omega arith) ])
     (c.list_queue.ensures a.journal_data.now)

@@ -1,22 +1,22 @@
 -- The loop's invariant: the words that are left, put into the buffer as it is, leave what all of them leave. Assumes nothing.
-use mathlib.Core.Path.{◌≡◌, refl, sym, ◌∙◌}
-use mathlib.Core.Logic.{⊎_elim, inl, inr}
+use mathlib.Core.Path.{refl, sym, ◌∙◌}
+use mathlib.Core.Logic.{inl, inr}
 use Prim.Native.Nat.{◌-◌, ◌≤◌}
 use native.Mathlib.Omega.{arith}
-use lib.ListN.{length, take, length-set}
+use lib.ListN.{length, length-set}
 use Rattle.card_log.specs.Store.{format_stores}
-use Rattle.driver.specs.promises.Listing.{listed}
 use Rattle.driver.proofs.Listing.{counts_start, counts-next, listed-done}
 use Rattle.driver.proofs.format.list_counts.Goals as goal
+use Rattle.driver.proofs.format.list_counts.Goals.{then-segments-room, else-segments-room}
 
 pub loop-at-init : goal.loop-at-init
 loop-at-init c =
     let a = c.args in
     let n = c.if-segments-room.most in
     let l = length a.stores.now in
-    let h : n ≤ a.segments = ⊎_elim (λ w. omega arith) (λ w. omega arith) c.if-segments-room.branch in
-    let k : n ≤ l = ⊎_elim (λ w. omega arith) (λ w. omega arith) c.if-segments-room.branch in
-    (omega arith, h, k, refl, counts_start a.segments l n a.stores.now (⊎_elim (λ w. inl (omega arith)) (λ w. inr (omega arith)) c.if-segments-room.branch) h k)
+    let h : n ≤ a.segments = elim c.if-segments-room.branch [ then-segments-room w ↦ omega arith | else-segments-room w ↦ omega arith ] in
+    let k : n ≤ l = elim c.if-segments-room.branch [ then-segments-room w ↦ omega arith | else-segments-room w ↦ omega arith ] in
+    (omega arith, h, k, refl, counts_start a.segments l n a.stores.now (elim c.if-segments-room.branch [ then-segments-room w ↦ inl (omega arith) | else-segments-room w ↦ inr (omega arith) ]) h k)
 
 pub overflow_sub-segments : goal.overflow_sub-segments
 overflow_sub-segments c = omega arith

@@ -1,12 +1,9 @@
 -- The loop's invariant: the words that are left, put into the buffer as it is, leave what all of them leave. Assumes nothing.
-use mathlib.Core.Path.{◌≡◌, refl, sym, ◌∙◌}
-use mathlib.Core.Logic.{⊎_elim, inl, inr}
+use mathlib.Core.Path.{◌≡◌}
 use Prim.Native.Nat.{◌-◌, ◌≤◌}
-use native.Mathlib.Omega.{arith}
-use lib.ListN.{length, take, length-set}
+use lib.ListN.{length, take}
 use Rattle.card_log.specs.Store.{format_stores}
 use Rattle.driver.specs.promises.Listing.{listed}
-use Rattle.driver.proofs.Listing.{counts_start, counts-next, listed-done}
 use Rattle.driver.proofs.format.list_counts.Given as goal
 
 abbrev pub invariant-loop-at : goal.invariant-loop-at

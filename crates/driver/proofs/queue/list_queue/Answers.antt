@@ -1,14 +1,13 @@
 -- The loop's invariant: the listing from where it stands is the listing whole. Assumes nothing.
 use mathlib.Core.Path.{sym, ◌∙◌, subst}
-use Prim.Native.Nat.{◌+◌, ◌-◌, ◌%◌, ◌≤◌, ◌<◌}
+use Prim.Native.Nat.{◌+◌, ◌%◌, ◌≤◌, ◌<◌}
 use native.Mathlib.Omega.{arith}
 use Rattle.card_log.specs.Entry.{Entry}
 use Rattle.card_log.specs.Card.{Written, segments_in}
 use Rattle.disk.specs.Record.{record_in}
-use Rattle.calls.specs.promises.Flushing.{Flushable}
 use Rattle.calls.proofs.Draining.{data-size, entry-met}
 use Rattle.driver.specs.promises.Listing.{HeadListable}
-use Rattle.driver.proofs.Queueing.{lists-met, Going, going_start, going-head, going_on, whole-todo, whole-ended, whole-drained}
+use Rattle.driver.proofs.Queueing.{lists-met, going_start, going-head, going_on, whole-todo, whole-ended, whole-drained}
 use Rattle.driver.proofs.queue.list_queue.Goals as goal
 
 pub loop-gone-init : goal.loop-gone-init
@@ -30,9 +29,6 @@ overflow_add-data c = omega arith
 
 pub slice_bounds-list_head-count : goal.slice_bounds-list_head-count
 slice_bounds-list_head-count c = omega arith
-
--- TODO slice-bounds-list-head-end
---  omega (arith, c.before.before.loop.invariant.0.queue_data)
 
 pub list_head-requires : goal.list_head-requires
 list_head-requires c =

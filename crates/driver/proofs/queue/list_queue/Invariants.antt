@@ -1,14 +1,8 @@
 -- The loop's invariant: the listing from where it stands is the listing whole. Assumes nothing.
-use mathlib.Core.Path.{sym, ◌∙◌, subst}
-use Prim.Native.Nat.{◌+◌, ◌-◌, ◌%◌, ◌≤◌, ◌<◌}
-use native.Mathlib.Omega.{arith}
-use Rattle.card_log.specs.Entry.{Entry}
-use Rattle.card_log.specs.Card.{Written, segments_in}
+use Prim.Native.Nat.{◌-◌}
 use Rattle.disk.specs.Record.{record_in}
 use Rattle.calls.specs.promises.Flushing.{Flushable}
-use Rattle.calls.proofs.Draining.{data-size, entry-met}
-use Rattle.driver.specs.promises.Listing.{HeadListable}
-use Rattle.driver.proofs.Queueing.{lists-met, Going, going_start, going-head, going_on, whole-todo, whole-ended, whole-drained}
+use Rattle.driver.proofs.Queueing.{Going}
 use Rattle.driver.proofs.queue.list_queue.Given as goal
 
 abbrev pub invariant-loop-gone : goal.invariant-loop-gone

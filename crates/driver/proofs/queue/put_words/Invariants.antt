@@ -1,15 +1,13 @@
 -- The loop's invariant: the words that are left, put into the buffer as it is, leave what all of them leave. Assumes nothing.
-use mathlib.Core.Path.{◌≡◌, refl, sym, ap, ◌∙◌}
+use mathlib.Core.Path.{◌≡◌}
 use mathlib.Core.List.{map}
-use Prim.Native.Nat.{ℕ, suc, ◌+◌, ◌-◌, ◌≤◌}
-use native.Mathlib.Omega.{arith}
-use lib.ListN.{length, length-set}
+use Prim.Native.Nat.{◌+◌, ◌-◌, ◌≤◌}
+use lib.ListN.{length}
 use lib.Seq.{sets}
 use Rattle.card_log.specs.Store.{entry_stores}
 use Rattle.card_log.proofs.LogStores.{going}
 use Rattle.calls.proofs.Storing.{several}
 use Rattle.driver.specs.Stores.{word}
-use Rattle.driver.proofs.Listing.{words-next, words-done}
 use Rattle.driver.proofs.queue.put_words.Given as goal
 
 abbrev pub invariant-loop-k : goal.invariant-loop-k
