@@ -1,5 +1,9 @@
 -- The folder that a path names, and where a link's text goes.
-use Rattle.std.specs.Prelude.{Bool, false, cond, List, [], ◌∷◌, ◌++◌, ℕ, zero, suc, eqb, take}
+use Rattle.std.specs.Prelude.{◌≡◌, Bool, false, cond, List, [], ◌∷◌, ◌++◌, ℕ, zero, suc, eqb, take, slice_index_or}
+
+-- the last of a path's 4096 bytes is 0
+abbrev pub Ended : List ℕ → Type 0
+Ended bytes = slice_index_or bytes 4095 1 ≡ 0
 
 -- a byte before a path of whose bytes so many name its folder
 unfoldable pub folder_behind : ℕ → ℕ → ℕ

@@ -6,4 +6,4 @@ use Rattle.files.specs.declared.transfer.Read.TheVariants.{Bytes, Failed}
 -- no more bytes than there is room for
 abbrev pub InBuffer : Read → ℕ → Type 0
 InBuffer (Bytes k) n = k ≤ n
-InBuffer Failed n = Unit {0}
+InBuffer (Failed error) n = Unit {0}

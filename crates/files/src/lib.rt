@@ -1,5 +1,5 @@
 // What the programs ask of the system: arguments and messages, bytes moved whole, a file read whole and replaced whole. A failure
-// is never taken for an end, and where a function answers that it failed, errno is that of the call that did.
+// is never taken for an end, and where a function answers that it failed, the error is that of the call that did.
 #![tactic(auto)]
 
 pub mod arguments;

@@ -1,26 +1,38 @@
 // Paths as bytes: the folder that a path names, and where a link leads.
 ghost use Rattle.std.specs.Prelude.{◌≡◌};
 ghost use Rattle.std.proofs.Math.Seq.{slice};
-ghost use Rattle.libc.specs.Io.{Ended};
 ghost use Rattle.text.specs.Written.{Puts};
-ghost use Rattle.files.specs.Path.{folder_of, start_of, beside};
+ghost use Rattle.files.specs.Path.{Ended, folder_of, start_of, beside};
 
-use libc::PATH_MAX;
+use std::io;
+use std::io::ErrorKind;
+use std::str::from_utf8;
 use text::line::part;
 use text::put::put_bytes;
+
+// No path of the system's is as long.
+pub const PATH_MAX: usize = 4096;
 
 const LAST: usize = PATH_MAX - 1;
 
 const SLASH: u8 = b'/';
 
-// The array that C takes. What of a path has no room before the last 0 is lost: see `is_short`.
+// The array that C takes. What of a path has no room before the last 0 is lost.
 pub fn ended(path: &[u8]) -> [u8; PATH_MAX]
     ensures { Ended result }
 {
-    let mut array = io::buffer();
+    let mut array = [0u8; PATH_MAX];
     put_bytes(&mut array, 0, path);
     array[LAST] = 0;
     array
+}
+
+// A path as std takes it.
+pub fn path_text(path: &[u8]) -> io::Result<&str> {
+    match from_utf8(path) {
+        Ok(text) => Ok(text),
+        Err(_) => Err(io::Error::from(ErrorKind::InvalidFilename)),
+    }
 }
 
 // How many bytes of a path name its folder, the slash among them; 0 where it names none.

@@ -1,133 +1,149 @@
 // A file replaced whole: the bytes go to a new file beside it, which takes its place once all of it is on the disk. What was there
-// before is never opened for writing, so that the path names the old bytes or the new ones whatever happens.
+// before is never written, so that the path names the old bytes or the new ones whatever happens.
 use crate::found::{Found, open_folder};
-use crate::message::did;
-use crate::path::put_beside;
+use crate::message::{did, told};
+use crate::path::{PATH_MAX, path_text, put_beside};
 use crate::status::{Status, may_be_written, permissions};
 use crate::transfer::write_whole;
+use std::fs::{File, Permissions};
+use std::io::ErrorKind;
+use std::os::unix::fs::{OpenOptionsExt, PermissionsExt, fchown};
+use std::random::RandomSource;
+use std::{fs, io};
 use text::line::part;
+use text::put::put_bytes;
 
-pub fn save(who: &[u8], target: &[u8], found: Found, bytes: &[u8]) {
-    if !may_replace(who, target, found) {
+// As many names as C's mkstemp tries.
+const NAMES: usize = 238328;
+
+// What a name is drawn from.
+const LETTERS: [u8; 62] = *b"ABCDEFGHIJKLMNOPQRSTUVWXYZabcdefghijklmnopqrstuvwxyz0123456789";
+
+pub fn save(rt: &HostRuntime, who: &[u8], target: &[u8], found: Found, bytes: &[u8]) {
+    if !may_replace(rt, who, target, found) {
         return;
     }
-    let fd = open_folder(target);
-    if !did(fd >= 0, who, b"not saved: its folder") {
+    let opened = open_folder(rt, target);
+    let Some(folder) = told(rt, opened, who, b"not saved: its folder") else {
         return;
-    }
-    if replace(who, target, found, bytes) {
+    };
+    if replace(rt, who, target, found, bytes) {
         did(
-            libc::fsync(fd) == 0,
+            rt,
+            folder.sync_all(),
             who,
             b"saved, but its folder is not synced",
         );
     }
-    libc::close(fd);
 }
 
 // A file that may not be written is not replaced either.
-fn may_replace(who: &[u8], target: &[u8], found: Found) -> bool {
+fn may_replace(rt: &HostRuntime, who: &[u8], target: &[u8], found: Found) -> bool {
     let Found::File(_) = found else {
         return true;
     };
-    did(may_be_written(target), who, b"not saved")
+    did(rt, may_be_written(rt, target), who, b"not saved")
 }
 
-fn replace(who: &[u8], target: &[u8], found: Found, bytes: &[u8]) -> bool {
-    let mut space = io::buffer();
+fn replace(rt: &HostRuntime, who: &[u8], target: &[u8], found: Found, bytes: &[u8]) -> bool {
+    let mut space = [0u8; PATH_MAX];
     let length = put_beside(&mut space, target, b"card-XXXXXX");
-    let fd = make(&mut space, length, found);
-    if !did(fd >= 0, who, b"not saved: a new file beside it") {
+    let made = make(rt, &mut space, length, found);
+    let Some(file) = told(rt, made, who, b"not saved: a new file beside it") else {
         return false;
-    }
+    };
     let name = part(&space, 0, length);
-    if fill(who, fd, found, bytes) {
+    if fill(rt, who, file, found, bytes) {
         if did(
-            os::rename(name, target) == 0,
+            rt,
+            rename(rt, name, target),
             who,
             b"not saved: renaming the new file",
         ) {
             return true;
         }
     }
-    did(os::unlink(name) == 0, name, b"not removed");
+    did(rt, remove(rt, name), name, b"not removed");
     false
 }
 
-// A new file under the name, whose X's are replaced.
-fn make(name: &mut [u8], length: usize, found: Found) -> i32 {
-    let fd = make_new(name, length);
-    if fd < 0 {
-        return fd;
+fn rename(rt: &HostRuntime, from: &[u8], to: &[u8]) -> io::Result<()> {
+    fs::rename(rt, path_text(from)?, path_text(to)?)
+}
+
+fn remove(rt: &HostRuntime, path: &[u8]) -> io::Result<()> {
+    fs::remove_file(rt, path_text(path)?)
+}
+
+// A new file under the name, whose X's are replaced until no file has it.
+fn make(rt: &HostRuntime, name: &mut [u8], length: usize, found: Found) -> io::Result<File> {
+    for _ in 0..NAMES {
+        draw(rt, name, length)?;
+        match make_new(rt, part(name, 0, length), found) {
+            Err(error) if error.kind() == ErrorKind::AlreadyExists => {}
+            made => return made,
+        }
     }
-    let Found::Nothing = found else {
-        return fd;
+    Err(io::Error::from(ErrorKind::AlreadyExists))
+}
+
+// The last six bytes of a name.
+fn draw(rt: &HostRuntime, name: &mut [u8], length: usize) -> io::Result<()> {
+    let mut drawn = [0u8; 6];
+    rt.fill_bytes(&mut drawn)?;
+    for byte in drawn.iter_mut() {
+        *byte = LETTERS[(*byte % 62) as usize];
+    }
+    put_bytes(name, length.saturating_sub(6), &drawn);
+    Ok(())
+}
+
+// Nobody else may open it, until it is given the old file's permissions. Where there was no file, it has those that the system
+// gives to new files.
+fn make_new(rt: &HostRuntime, name: &[u8], found: Found) -> io::Result<File> {
+    let mode = match found {
+        Found::Nothing => 0o666,
+        _ => 0o600,
     };
-    make_open(fd, part(name, 0, length))
+    File::options()
+        .write(true)
+        .create_new(true)
+        .mode(mode)
+        .open(rt, path_text(name)?)
 }
 
-// Nobody else may open it, until it is given the old file's permissions.
-fn make_new(name: &mut [u8], length: usize) -> i32 {
-    if length < name.len() {
-        return os::create_temp(&mut name[..length]);
-    }
-    // Too long a name: os refuses it, and sets errno.
-    os::create_temp(name)
-}
-
-// Where there was no file, the new one has the permissions that the system gives to new files: only its name is kept.
-fn make_open(fd: i32, name: &[u8]) -> i32 {
-    libc::close(fd);
-    if os::unlink(name) < 0 {
-        return -1;
-    }
-    os::create(name)
-}
-
-fn fill(who: &[u8], fd: i32, found: Found, bytes: &[u8]) -> bool {
-    if !put_all(who, fd, found, bytes) {
-        libc::close(fd);
-        return false;
-    }
-    did(
-        libc::close(fd) == 0,
-        who,
-        b"not saved: closing the new file",
-    )
-}
-
-// A write takes permissions away, so they come after it.
-fn put_all(who: &[u8], fd: i32, found: Found, bytes: &[u8]) -> bool {
+fn fill(rt: &HostRuntime, who: &[u8], file: File, found: Found, bytes: &[u8]) -> bool {
+    let mut new = file;
     if !did(
-        write_whole(fd, bytes),
+        rt,
+        write_whole(&mut new, bytes),
         who,
         b"not saved: writing the new file",
     ) {
         return false;
     }
+    // A write takes permissions away, so they come after it.
     if let Found::File(status) = found {
-        if !keep_status(who, fd, status) {
+        if !keep_status(rt, who, &new, status) {
             return false;
         }
     }
-    did(
-        libc::fsync(fd) == 0,
-        who,
-        b"not saved: syncing the new file",
-    )
+    did(rt, new.sync_all(), who, b"not saved: syncing the new file")
 }
 
 // So does a change of owner.
-fn keep_status(who: &[u8], fd: i32, status: Status) -> bool {
+fn keep_status(rt: &HostRuntime, who: &[u8], file: &File, status: Status) -> bool {
     if !did(
-        libc::fchown(fd, status.owner, status.group) == 0,
+        rt,
+        fchown(file, Some(status.owner), Some(status.group)),
         who,
         b"not saved: keeping its owner and group",
     ) {
         return false;
     }
     did(
-        libc::fchmod(fd, permissions(status.mode)) == 0,
+        rt,
+        file.set_permissions(Permissions::from_mode(permissions(status.mode))),
         who,
         b"not saved: keeping its permissions",
     )

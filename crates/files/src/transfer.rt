@@ -1,75 +1,112 @@
 // Bytes read and written whole: every call is asked, and made again where a signal came before the first byte.
-ghost use Rattle.std.specs.Prelude.{◌≤◌, length};
+ghost use Rattle.std.specs.Prelude.{◌≤◌, length, IfOk};
 ghost use Rattle.files.specs.Within.{InBuffer};
+
+use std::fs::File;
+use std::io::ErrorKind;
+use std::os::fd::AsFd;
+use std::{fs, io};
 
 #[derive(Clone, Copy)]
 pub enum Read {
     Bytes(usize),
-    Failed,
+    Failed(io::Error),
 }
 
 // Up to the end of the input, or of the buffer.
-pub fn read_whole(fd: i32, buffer: &mut [u8]) -> Read
+pub fn read_whole<R: io::Read>(from: &mut R, buffer: &mut [u8]) -> Read
     ensures { InBuffer result (length buffer.old) }
 {
     let mut done = 0;
     while done < buffer.len() {
-        let Read::Bytes(n) = read_some(fd, &mut buffer[done..]) else {
-            return Read::Failed;
-        };
-        if n == 0 {
-            return Read::Bytes(done);
+        match read_some(from, &mut buffer[done..]) {
+            Read::Bytes(0) => return Read::Bytes(done),
+            Read::Bytes(n) => done += n,
+            Read::Failed(error) => return Read::Failed(error),
         }
-        done += n;
     }
     Read::Bytes(done)
 }
 
-// What there is, 0 bytes at the end of the input. No proof knows that signals end, so the loop counts its turns down, from a
-// number that is never used up.
-pub fn read_some(fd: i32, buffer: &mut [u8]) -> Read
+// What there is, 0 bytes at the end of the input. No proof knows that signals end, so the turns are counted, up to a number that
+// is never reached.
+pub fn read_some<R: io::Read>(from: &mut R, buffer: &mut [u8]) -> Read
     ensures { InBuffer result (length buffer.old) }
 {
-    let mut turns = u64::MAX;
-    while turns > 0 {
-        let got = libc::read(fd, buffer);
-        if got >= 0 {
-            return Read::Bytes(io::count(got, buffer));
+    for _ in 0..u64::MAX {
+        match from.read(buffer) {
+            Ok(n) => return Read::Bytes(n),
+            Err(error) if error.kind() == ErrorKind::Interrupted => {}
+            Err(error) => return Read::Failed(error),
         }
-        if os::errno() != libc::EINTR {
-            return Read::Failed;
-        }
-        turns -= 1;
     }
-    Read::Failed
+    Read::Failed(io::Error::from(ErrorKind::Interrupted))
 }
 
-pub fn write_whole(fd: i32, bytes: &[u8]) -> bool {
+pub fn write_whole<W: io::Write>(to: &mut W, bytes: &[u8]) -> io::Result<()> {
     let mut sent = 0;
     while sent < bytes.len() {
-        let n = write_some(fd, &bytes[sent..]);
+        let n = write_some(to, &bytes[sent..])?;
         if n == 0 {
-            return false;
+            return Err(io::Error::from(ErrorKind::WriteZero));
         }
         sent += n;
     }
-    true
+    Ok(())
 }
 
 // How many bytes were taken, 0 where none can be.
-fn write_some(fd: i32, bytes: &[u8]) -> usize
-    ensures { result ≤ length bytes.now }
+fn write_some<W: io::Write>(to: &mut W, bytes: &[u8]) -> io::Result<usize>
+    ensures { IfOk result (λ n. n ≤ length bytes.now) }
 {
-    let mut turns = u64::MAX;
-    while turns > 0 {
-        let put = libc::write(fd, bytes);
-        if put >= 0 {
-            return io::count(put, bytes);
+    for _ in 0..u64::MAX {
+        match to.write(bytes) {
+            Err(error) if error.kind() == ErrorKind::Interrupted => {}
+            put => return put,
         }
-        if os::errno() != libc::EINTR {
-            return 0;
-        }
-        turns -= 1;
     }
-    0
+    Ok(0)
+}
+
+// The streams that a program writes.
+#[derive(Clone, Copy)]
+pub enum Stream {
+    Output,
+    Error,
+}
+
+// The last text that goes to a stream.
+pub fn write_last(rt: &HostRuntime, to: Stream, text: &[u8]) -> io::Result<()> {
+    match to {
+        Stream::Output => write_whole(&mut rt.stdout(), text)?,
+        Stream::Error => write_whole(&mut rt.stderr(), text)?,
+    }
+    settle(rt, to)
+}
+
+// Is everything written? A file system may tell of a loss only at the end.
+pub fn settle(rt: &HostRuntime, to: Stream) -> io::Result<()> {
+    match to {
+        Stream::Output => sync(rt, &rt.stdout(), "/dev/stdout"),
+        Stream::Error => sync(rt, &rt.stderr(), "/dev/stderr"),
+    }
+}
+
+// No call closes a stream and tells how that went, so a file is synced by its name. What is no file, or has no sync, loses nothing
+// unsaid.
+fn sync<F: AsFd>(rt: &HostRuntime, stream: &F, path: &str) -> io::Result<()> {
+    let _open = stream.as_fd().try_clone_to_owned()?;
+    let Ok(status) = fs::metadata(rt, path) else {
+        return Ok(());
+    };
+    if !status.is_file() {
+        return Ok(());
+    }
+    let Ok(file) = File::open(rt, path) else {
+        return Ok(());
+    };
+    match file.sync_all() {
+        Err(error) if error.kind() == ErrorKind::InvalidInput => Ok(()),
+        synced => synced,
+    }
 }

@@ -4,34 +4,40 @@ ghost use Rattle.commands.specs.Ran.{Fits};
 use crate::feed::{Fed, LINE, feed};
 use commands::run::run;
 use commands::state::State;
-use files::transfer::{Read, read_some, write_whole};
-use libc::{STDIN_FILENO, STDOUT_FILENO};
+use files::transfer::{Read, Stream, read_some, settle, write_whole};
+use std::io;
 use text::line::part;
 
 // From here on what was printed is written before another line runs: no line prints more than 35,000 bytes.
 const FULL: usize = 30000;
 
-// The state, the position behind what was printed, how many bytes of a line have come, and whether it goes on: no line runs once
-// standard input or output has failed.
+// Does a script go on? No line runs once standard input or output has failed.
+#[derive(Clone, Copy)]
+pub enum Going {
+    On,
+    NoInput(io::Error),
+    NoOutput(io::Error),
+}
+
+// The state, the position behind what was printed, how many bytes of a line have come, and whether it goes on.
 #[derive(Clone, Copy)]
 pub struct Session {
     pub state: State,
     pub at: usize,
     pub length: usize,
-    pub going: bool,
+    pub going: Going,
 }
 
-// The length of the card that a script leaves, and whether it went on to its end. Where not, standard input failed, or else
-// standard output, and errno says why.
+// The length of the card that a script leaves, and whether it went on to its end.
 #[derive(Clone, Copy)]
 pub struct Over {
     pub size: usize,
-    pub going: bool,
-    pub no_input: bool,
+    pub going: Going,
 }
 
 // The whole script.
 pub fn run_whole(
+    rt: &HostRuntime,
     bytes: &mut [u8],
     line: &mut [u8; LINE],
     card: &mut [u8],
@@ -42,28 +48,27 @@ pub fn run_whole(
 ) -> Over
     requires { Fits card.old start.state }
 {
-    let ran = run_script(bytes, line, card, queue, journal, out, start);
+    let ran = run_script(rt, bytes, line, card, queue, journal, out, start);
     let session = ran.session;
-    let last = run_last(line, card, queue, journal, out, session);
+    let last = run_last(rt, line, card, queue, journal, out, session);
     let state = last.state;
     Over {
         size: state.size,
         going: last.going,
-        no_input: ran.no_input,
     }
 }
 
-// What a turn leaves, whether more of the script may come, and whether standard input failed.
+// What a turn leaves, and whether more of the script may come.
 #[derive(Clone, Copy)]
 struct Turned {
     session: Session,
     more: bool,
-    no_input: bool,
 }
 
 // All lines but a last one that lacks its end. No proof knows that a script ends, so the loop counts its turns down, from a
 // number that no script uses up.
 fn run_script(
+    rt: &HostRuntime,
     bytes: &mut [u8],
     line: &mut [u8; LINE],
     card: &mut [u8],
@@ -78,7 +83,7 @@ fn run_script(
     let mut session = start;
     let mut turns = u64::MAX;
     while turns > 0 {
-        let turned = turn(bytes, line, card, queue, journal, out, session);
+        let turned = turn(rt, bytes, line, card, queue, journal, out, session);
         if !turned.more {
             return turned;
         }
@@ -88,12 +93,12 @@ fn run_script(
     Turned {
         session,
         more: false,
-        no_input: false,
     }
 }
 
 // What was printed is written before more of the script is asked for.
 fn turn(
+    rt: &HostRuntime,
     bytes: &mut [u8],
     line: &mut [u8; LINE],
     card: &mut [u8],
@@ -105,52 +110,42 @@ fn turn(
     requires { Fits card.old session.state }
     ensures { Fits card.new result.session.state }
 {
-    let written = write(out, session.at, session.going);
-    let got = ask(bytes, written);
+    let written = write(rt, out, session.at, session.going);
+    let got = ask(rt, bytes, written);
     let n = got.count;
     let mut next = session;
     next.at = 0;
     next.going = got.going;
-    let ran = run_bytes(part(bytes, 0, n), line, card, queue, journal, out, next);
+    let ran = run_bytes(rt, part(bytes, 0, n), line, card, queue, journal, out, next);
     Turned {
         session: ran,
         more: n > 0,
-        no_input: got.no_input,
     }
 }
 
-// How many bytes of the script came, whether it goes on, and whether standard input failed.
+// How many bytes of the script came, and whether it goes on.
 #[derive(Clone, Copy)]
 struct Got {
     count: usize,
-    going: bool,
-    no_input: bool,
+    going: Going,
 }
 
 // The next bytes of the script, unless it has stopped.
-fn ask(bytes: &mut [u8], going: bool) -> Got {
-    if !going {
-        return Got {
+fn ask(rt: &HostRuntime, bytes: &mut [u8], going: Going) -> Got {
+    let Going::On = going else {
+        return Got { count: 0, going };
+    };
+    match read_some(&mut rt.stdin(), bytes) {
+        Read::Bytes(count) => Got { count, going },
+        Read::Failed(error) => Got {
             count: 0,
-            going: false,
-            no_input: false,
-        };
-    }
-    match read_some(STDIN_FILENO, bytes) {
-        Read::Bytes(count) => Got {
-            count,
-            going: true,
-            no_input: false,
-        },
-        Read::Failed => Got {
-            count: 0,
-            going: false,
-            no_input: true,
+            going: Going::NoInput(error),
         },
     }
 }
 
 fn run_bytes(
+    rt: &HostRuntime,
     bytes: &[u8],
     line: &mut [u8; LINE],
     card: &mut [u8],
@@ -167,13 +162,14 @@ fn run_bytes(
     while i < bytes.len() {
         let fed = feed(line, session.length, bytes, i);
         i = fed.next;
-        session = run_fed(fed, line, card, queue, journal, out, session);
+        session = run_fed(rt, fed, line, card, queue, journal, out, session);
     }
     session
 }
 
 // A line that is whole runs, unless the script has stopped.
 fn run_fed(
+    rt: &HostRuntime,
     fed: Fed,
     line: &[u8; LINE],
     card: &mut [u8],
@@ -187,15 +183,16 @@ fn run_fed(
 {
     let mut next = session;
     next.length = fed.length;
-    if fed.whole && next.going {
-        run_line(line, card, queue, journal, out, next)
+    if fed.whole && is_on(next.going) {
+        run_line(rt, line, card, queue, journal, out, next)
     } else {
         next
     }
 }
 
-// A last line may lack its end. A file system may tell only when the file is closed that it lost what was written.
+// A last line may lack its end. A file system may tell only at the end that it lost what was written.
 fn run_last(
+    rt: &HostRuntime,
     line: &[u8; LINE],
     card: &mut [u8],
     queue: &mut [u8],
@@ -210,12 +207,13 @@ fn run_last(
         next: 0,
         whole: true,
     };
-    let mut last = run_fed(fed, line, card, queue, journal, out, session);
-    last.going = close(write(out, last.at, last.going));
+    let mut last = run_fed(rt, fed, line, card, queue, journal, out, session);
+    last.going = finish(rt, write(rt, out, last.at, last.going));
     last
 }
 
 fn run_line(
+    rt: &HostRuntime,
     line: &[u8; LINE],
     card: &mut [u8],
     queue: &mut [u8],
@@ -238,9 +236,9 @@ fn run_line(
     );
     let after = ran.state;
     let mut at = ran.at;
-    let mut going = true;
+    let mut going = Going::On;
     if at > FULL {
-        going = write(out, at, true);
+        going = write(rt, out, at, going);
         at = 0;
     }
     Session {
@@ -251,16 +249,27 @@ fn run_line(
     }
 }
 
-fn write(out: &[u8], at: usize, going: bool) -> bool {
-    if !going {
-        return false;
-    }
-    write_whole(STDOUT_FILENO, part(out, 0, at))
+fn is_on(going: Going) -> bool {
+    matches!(going, Going::On)
 }
 
-fn close(going: bool) -> bool {
-    if !going {
-        return false;
+fn write(rt: &HostRuntime, out: &[u8], at: usize, going: Going) -> Going {
+    let Going::On = going else {
+        return going;
+    };
+    output(write_whole(&mut rt.stdout(), part(out, 0, at)))
+}
+
+fn finish(rt: &HostRuntime, going: Going) -> Going {
+    let Going::On = going else {
+        return going;
+    };
+    output(settle(rt, Stream::Output))
+}
+
+fn output(written: io::Result<()>) -> Going {
+    match written {
+        Ok(()) => Going::On,
+        Err(error) => Going::NoOutput(error),
     }
-    libc::close(STDOUT_FILENO) == 0
 }
