@@ -6,7 +6,8 @@ DESTDIR =
 
 ARCHIVE = target/staticlib/libnumgalis.a
 PROGRAMS = shell lister page
-SOURCES := crates.txt $(shell find crates -name '*.rt' -o -name '*.antt')
+BUILT = $(foreach p,$(PROGRAMS),crates/$p/out/$p)
+SOURCES := crates.txt $(shell find crates -path 'crates/*/out' -prune -o \( -name '*.rt' -o -name '*.antt' \) -print)
 VERSION := $(shell sed -n 's/^\#define NUMGALIS_VERSION "\(.*\)"$$/\1/p' include/numgalis.h)
 
 ROOT = $(DESTDIR)$(PREFIX)
@@ -15,21 +16,21 @@ INSTALLED = lib/libnumgalis.a lib/pkgconfig/numgalis.pc include/numgalis.h share
 	$(PROGRAMS:%=bin/numgalis-%) $(PROGRAMS:%=share/man/man1/numgalis-%.1)
 
 # An installed command has the launcher's exit status, and a name that does not clash; its page says so.
-LAUNCHER = s|"\$$bin/with-status"|"$$bin/../libexec/numgalis/with-status"|; s|target/bin/|libexec/numgalis/|g
+LAUNCHER = s|"\$$bin/with-status"|"$$bin/../libexec/numgalis/with-status"|; s|crates/[a-z]*/out/|libexec/numgalis/|g
 NAMES = shell|lister|page
 PAGE = s/^\.TH (SHELL|LISTER|PAGE) /.TH NUMGALIS-\1 /; s/^($(NAMES)) \\-/numgalis-\1 \\-/; \
 	s/^\.B ($(NAMES))$$/.B numgalis-\1/; s/^\.BR ($(NAMES)) \(1\)/.BR numgalis-\1 (1)/; \
 	s/\| shell card/| numgalis-shell card/; s!^\.I bin/($(NAMES))$$!.I numgalis-\1!; \
 	s/^0, also where something failed.* The launcher$$/The program that it runs has none of its own. The launcher/
 
-all: $(ARCHIVE) $(PROGRAMS:%=target/bin/%)
+all: $(ARCHIVE) $(BUILT)
 
 $(ARCHIVE): $(SOURCES)
-	rt staticlib numgalis
+	bin/build library
 	touch $@
 
-target/bin/%: $(SOURCES)
-	rt check $*
+$(BUILT): $(SOURCES)
+	bin/build $(notdir $@)
 	touch $@
 
 install: all
@@ -40,7 +41,7 @@ install: all
 	sed 's|@PREFIX@|$(PREFIX)|; s|@VERSION@|$(VERSION)|' numgalis.pc.in >"$(ROOT)/lib/pkgconfig/numgalis.pc"
 	install -m 755 bin/with-status "$(ROOT)/libexec/numgalis/with-status"
 	set -e; for p in $(PROGRAMS); do \
-		install -m 755 target/bin/$$p "$(ROOT)/libexec/numgalis/$$p"; \
+		install -m 755 crates/$$p/out/$$p "$(ROOT)/libexec/numgalis/$$p"; \
 		sed '$(LAUNCHER)' bin/$$p >"$(ROOT)/bin/numgalis-$$p"; \
 		sed -E '$(PAGE)' docs/man/$$p.1 >"$(ROOT)/share/man/man1/numgalis-$$p.1"; \
 	done

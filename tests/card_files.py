@@ -1,6 +1,6 @@
 """What tests/card-file and tests/card-file-faults share: card files in folders of their own, runs of the programs, and cases.
 
-The programs are target/bin/shell, target/bin/lister and target/bin/page, or the commands in the environment variables
+The programs are shell, lister and page as bin/build makes them, or the commands in the environment variables
 SHELL_UNDER_TEST, LISTER_UNDER_TEST and PAGE_UNDER_TEST. They are copied first, so that a user without rights can run them too.
 """
 

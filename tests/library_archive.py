@@ -20,7 +20,7 @@ def archive():
         return Path(os.environ["LIBRARY_UNDER_TEST"]).resolve(strict=True)
     path = ROOT / "target" / "staticlib" / "libnumgalis.a"
     if not path.exists():
-        subprocess.run(["rt", "staticlib", "numgalis"], cwd=ROOT, check=True)
+        subprocess.run([ROOT / "bin" / "build", "library"], check=True)
     return path
 
 

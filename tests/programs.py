@@ -33,10 +33,10 @@ def second(name, *arguments):
 def ours(name):
     """The command of our shell, lister or page program, or the one in NAME_UNDER_TEST; a path in it begins at the repository's root."""
     variable = f"{name.upper()}_UNDER_TEST"
-    command = shlex.split(os.environ.get(variable, f"target/bin/{name}"))
+    command = shlex.split(os.environ.get(variable, f"crates/{name}/out/{name}"))
     path = shutil.which(ROOT / command[0] if "/" in command[0] else command[0])
     if path is None:
-        sys.exit(f"no program {command[0]}: build it, or name it in {variable}")
+        sys.exit(f"no program {command[0]}: `bin/build {name}` builds ours, or name one in {variable}")
     return [path, *command[1:]]
 
 

@@ -11,6 +11,37 @@ SPECS = CRATES / "disk" / "specs"
 LENT = ["card", "queue_data", "journal_data", "rec"]
 
 
+def members(tree):
+    """The paths of a tree of imports, `a::{b, c::{d, e as f}}`, each with the name that it has where it is brought in."""
+    head, opened, inner = tree.partition("{")
+    if not opened:
+        path, _, name = tree.partition(" as ")
+        yield name or path.rsplit("::", 1)[-1], path
+        return
+    depth, parts = 0, [""]
+    for letter in inner[: inner.rindex("}")]:
+        depth += (letter == "{") - (letter == "}")
+        if letter == "," and depth == 0:
+            parts.append("")
+        else:
+            parts[-1] += letter
+    for part in filter(None, map(str.strip, parts)):
+        for name, path in members(part):
+            yield (head.split("::")[-2], head.removesuffix("::")) if path == "self" else (name, head + path)
+
+
+def imports(source):
+    """What a source of code brings in, by the name that it has there, with its path."""
+    trees = re.findall(r"^(?:pub )?use ([^;]+);", source, re.M)
+    return dict(pair for tree in trees for pair in members(" ".join(tree.split())))
+
+
+def archived():
+    """The crate that the library's archive is made of: the one static library of crates.txt."""
+    (name,) = re.findall(r"^(\w+) +staticlib\b", (ROOT / "crates.txt").read_text(), re.M)
+    return name
+
+
 def constants():
     """The numbers that constants are given, by name: several where a name stands in several modules."""
     found = {}
@@ -49,16 +80,20 @@ def constructors():
     return names
 
 
+def names_of_constructors(source):
+    """The constructors by the names that a source of code may have for them: their own, and those that it imports them by."""
+    renamed = re.findall(r"(\w+) as (\w+)", " ".join(re.findall(r"^ghost use .*\.specs\.Call\.\{[^}]*\}", source, re.M)))
+    return {name: name for name in constructors()} | {new: old for old, new in renamed}
+
+
 def calls():
     """The calls: of each public module the function of its name."""
-    known = constructors()
     for module in re.findall(r"^pub mod (\w+);", (CALLS / "lib.rt").read_text(), re.M):
         source = (CALLS / f"{module}.rt").read_text()
-        aliases = {new: old for old, new in re.findall(r"(\w+) as (\w+)", " ".join(re.findall(r"^ghost use .*\.specs\.Call\b.*", source, re.M)))}
         found = re.search(rf"((?:^//[^\n]*\n)*)^pub fn ({module})\(([^)]*)\) -> (\w+)\n(.*?)^\{{", source, re.M | re.S)
         if found:
             comment, name, parameters, answer, contract = found.groups()
-            yield Call(name, comment, parameters, answer, contract, {name: name for name in known} | aliases)
+            yield Call(name, comment, parameters, answer, contract, names_of_constructors(source))
 
 
 def numbered(definition, head):
@@ -70,12 +105,12 @@ def numbered(definition, head):
 
 def questions(constructor):
     """The questions that the definition asks for a call, in order."""
-    edit = numbered("editQuestions", rf"\w+ \(?{constructor}\b")
+    edit = numbered("edit_questions", rf"\w+ \(?{constructor}\b")
     if edit is not None:
-        return numbered("questions", r"\(onStream\b") + edit
-    look = numbered("lookQuestions", rf"\(?{constructor}\b")
+        return numbered("questions", r"\(on_stream\b") + edit
+    look = numbered("look_questions", rf"\(?{constructor}\b")
     if look is not None:
-        return numbered("questions", r"\(inView\b") + look
+        return numbered("questions", r"\(in_view\b") + look
     return numbered("questions", rf"\(?{constructor}\b")
 
 

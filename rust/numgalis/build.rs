@@ -14,7 +14,7 @@ fn main() {
     println!("cargo:rerun-if-changed={}", archive.display());
     if !archive.is_file() {
         println!(
-            "cargo::error=there is no {}: `rt staticlib numgalis` in the repository builds it; {FOLDER} names another folder",
+            "cargo::error=there is no {}: `bin/build library` in the repository builds it; {FOLDER} names another folder",
             archive.display()
         );
         return;

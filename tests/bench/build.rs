@@ -1,10 +1,7 @@
 //! Links the proved walk and calls, two archives that `tests/bench/run` has built.
 
 fn main() {
-    link(
-        "bench",
-        concat!(env!("CARGO_MANIFEST_DIR"), "/../../target/bench/target/staticlib"),
-    );
+    link("bench", concat!(env!("CARGO_MANIFEST_DIR"), "/../../target/bench"));
     link(
         "numgalis",
         concat!(env!("CARGO_MANIFEST_DIR"), "/../../target/staticlib"),

@@ -114,7 +114,7 @@ impl Lent<'_> {
     /// Formatting. Asks 1.
     pub fn format(&mut self) -> Result<(), Refusal> {
         let segments = self.lengths()?;
-        card_log::format(self.card, segments);
+        log::format(self.card, segments);
         *self.record = Record::FRESH;
         Ok(())
     }
@@ -123,7 +123,7 @@ impl Lent<'_> {
     pub fn format_cut(&mut self, stores: u64) -> Result<u64, Refusal> {
         let segments = self.lengths()?;
         let stores = stores.min(segments as u64);
-        card_log::format(self.card, stores as usize);
+        log::format(self.card, stores as usize);
         Ok(stores)
     }
 
@@ -295,7 +295,7 @@ impl Lent<'_> {
         Ok(self.store_entries(versions.log.end, allowance.min(stores) as usize))
     }
 
-    fn store_entries(&mut self, mut end: card_log::End, allowance: usize) -> Flushed {
+    fn store_entries(&mut self, mut end: log::End, allowance: usize) -> Flushed {
         let segments = self.card.len() / SEGMENT_BYTES;
         let mut stores = 0;
         let ending = loop {
@@ -310,7 +310,7 @@ impl Lent<'_> {
                 break Ending::Spent;
             }
             let done = self.record.done();
-            let total = card_log::stores_of(head);
+            let total = log::stores_of(head);
             let goal = total.min(done + allowance - stores);
             let data = &self.queue_data[self.record.head_place() * BLOCK_BYTES..][..BLOCK_BYTES];
             let sequence = Stores::new(head, place, data);
@@ -391,7 +391,7 @@ impl Lent<'_> {
 
     /// Question 1. Returns the card's segments.
     fn lengths(&self) -> Result<usize, Refusal> {
-        card_log::segments(self.card)
+        log::segments(self.card)
             .filter(|_| self.queue_data.len() == QUEUE_BYTES)
             .filter(|_| self.journal_data.len() == JOURNAL_BYTES)
             .ok_or(Refusal::Lengths)
@@ -463,7 +463,7 @@ impl Lent<'_> {
     /// The bytes of a content.
     fn bytes_of(&self, content: Content) -> &[u8] {
         let (buffer, at): (&[u8], usize) = match content {
-            Content::Slot { segment, slot } => (self.card, card_log::slot_at(usize::from(segment), slot)),
+            Content::Slot { segment, slot } => (self.card, log::slot_at(usize::from(segment), slot)),
             Content::Queue { place } => (self.queue_data, usize::from(place) * BLOCK_BYTES),
             Content::Journal { unit, entry } => (self.journal_data, journal_data_at(unit, usize::from(entry))),
         };
