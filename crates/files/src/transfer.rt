@@ -92,8 +92,8 @@ pub fn settle(rt: &HostRuntime, to: Stream) -> io::Result<()> {
     }
 }
 
-// No call closes a stream and tells how that went, so a file is synced by its name. What is no file, or has no sync, loses nothing
-// unsaid.
+// No call closes a stream and tells how that went, so a file is synced, opened again by the stream's name. Of a file that cannot be
+// opened so, as one that may not be read, a loss at the end stays untold.
 fn sync<F: AsFd>(rt: &HostRuntime, stream: &F, path: &str) -> io::Result<()> {
     let _open = stream.as_fd().try_clone_to_owned()?;
     let Ok(status) = fs::metadata(rt, path) else {
