@@ -1,13 +1,12 @@
 -- The calls' answers as their numbers: "Each enum answer has a definition that gives this paper's number and values for each of its cases."
-use Rattle.std.specs.Prelude.{ℕ}
+use Rattle.std.specs.Prelude.{ℕ, Result, Ok, Err}
 use Rattle.card_log.specs.Flush.{Ending, drained, full, spent}
 use Rattle.answers.specs.declared.Refusal.{Refusal}
 use Rattle.answers.specs.declared.Refusal.TheVariants.{WrongLength, LogFault, RecordUnsound, StreamClosed, OutOfRange, UnitOpen, ListNotTaken, BlockNotPlaced, PredecessorElsewhere, NoNumberFree, JournalFull, Conflict, QueueFull, BufferTooShort, Unwritten}
-use Rattle.answers.specs.declared.Reply as R
-use Rattle.answers.specs.declared.MountReply as M
-use Rattle.answers.specs.declared.NumberReply as N
-use Rattle.answers.specs.declared.ReadReply as D
-use Rattle.answers.specs.declared.FlushReply as F
+use Rattle.answers.specs.declared.MountRefusal.{MountRefusal}
+use Rattle.answers.specs.declared.MountRefusal.TheVariants.{Fault, Refused}
+use Rattle.answers.specs.declared.Flushed.{Flushed}
+use Rattle.answers.specs.declared.Ending as E
 
 -- the returned numbers: the question's number or 0, and the results
 pub record Answer : Type 0 where
@@ -46,26 +45,30 @@ refused_answer x = record { code = number x; value = 0; second = 0 }
 abbrev pub accepted_answer : ℕ → ℕ → Answer
 accepted_answer n m = record { code = 0; value = n; second = m }
 
-unfoldable pub reply_answer : R.Reply → Answer
-reply_answer R.TheVariants.Accepted = accepted_answer 0 0
-reply_answer (R.TheVariants.Refused x) = refused_answer x
+unfoldable pub reply_answer : Result (Unit {0}) Refusal → Answer
+reply_answer (Ok done) = accepted_answer 0 0
+reply_answer (Err x) = refused_answer x
 
-unfoldable pub mount_answer : M.MountReply → Answer
-mount_answer M.TheVariants.Accepted = accepted_answer 0 0
-mount_answer (M.TheVariants.Fault g i) = record { code = 2; value = g; second = i }
-mount_answer (M.TheVariants.Refused x) = refused_answer x
+unfoldable pub mount_answer : Result (Unit {0}) MountRefusal → Answer
+mount_answer (Ok done) = accepted_answer 0 0
+mount_answer (Err (Fault g i)) = record { code = 2; value = g; second = i }
+mount_answer (Err (Refused x)) = refused_answer x
 
-unfoldable pub number_answer : N.NumberReply → Answer
-number_answer (N.TheVariants.Number n) = accepted_answer n 0
-number_answer (N.TheVariants.Refused x) = refused_answer x
+unfoldable pub number_answer : Result ℕ Refusal → Answer
+number_answer (Ok n) = accepted_answer n 0
+number_answer (Err x) = refused_answer x
 
 -- "Read returns the race"
-unfoldable pub read_answer : D.ReadReply → Answer
-read_answer (D.TheVariants.Race n) = accepted_answer n 0
-read_answer (D.TheVariants.Refused x) = refused_answer x
+unfoldable pub read_answer : Result ℕ Refusal → Answer
+read_answer (Ok n) = accepted_answer n 0
+read_answer (Err x) = refused_answer x
 
-unfoldable pub flush_answer : F.FlushReply → Answer
-flush_answer (F.TheVariants.Drained n) = accepted_answer n (ending_number drained)
-flush_answer (F.TheVariants.Full n) = accepted_answer n (ending_number full)
-flush_answer (F.TheVariants.Spent n) = accepted_answer n (ending_number spent)
-flush_answer (F.TheVariants.Refused x) = refused_answer x
+-- the ending that a flush answers
+unfoldable pub ending_of : E.Ending → Ending
+ending_of E.TheVariants.Drained = drained
+ending_of E.TheVariants.Full = full
+ending_of E.TheVariants.Spent = spent
+
+unfoldable pub flush_answer : Result Flushed Refusal → Answer
+flush_answer (Ok f) = accepted_answer f.stores (ending_number (ending_of f.ending))
+flush_answer (Err x) = refused_answer x
