@@ -88,7 +88,6 @@ fn pair_at(text: &[u8], i: usize) -> u8
     }
 }
 
-#[tactic(auto, using(crate::proofs::Nibbles::digit))]
 fn nibble(c: u8) -> u8
     ensures { (result < 16) × (result ≡ Hex·nibble c) }
 {

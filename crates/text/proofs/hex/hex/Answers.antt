@@ -13,7 +13,7 @@ loop-i-preserved c =
     let out = c.loop-i.out in
     let i = c.loop-i.i in
     rw (add-one, take-suc-set out i c.pair_at.result (omega arith), c.loop-i.invariant, c.pair_at.ensures, ← hex_bytes-at text i (omega arith))
-        (sym (take-suc (hex_bytes text) i 0 (omega (arith, hex_bytes-length text))))
+    (sym (take-suc (hex_bytes text) i 0 (omega (arith, hex_bytes-length text))))
 
 pub returns : goal.returns
 returns c =

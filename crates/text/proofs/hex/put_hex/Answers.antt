@@ -22,7 +22,7 @@ loop-b-preserved c =
     let kept = c.trimmed-kept.result.now in
     let i = c.loop-b.b-index in
     rw (add-one, take-suc kept i 0 (omega arith), glyphs-append (take i kept) (get_or kept i 0 ∷ []))
-        (puts-more c.loop-b.invariant c.put_pair-position.ensures)
+    (puts-more c.loop-b.invariant c.put_pair-position.ensures)
 
 pub returns : goal.returns
 returns c =

@@ -22,11 +22,11 @@ returns c =
     let line = c.args.line.now in
     let at = c.args.from + c.count.result in
     let one : c.count.result ≡ prefix_len (λ (b : ℕ). eqb b 32) (drop c.args.from line) =
-        count_from_yields_List c.take_while.result c.count.result c.count.ensures.ran
-            (YieldsList-from_take_while _ (λ (b : ℕ). eqb b 32) (YieldsList-from_skip c.args.from (YieldsList-from_slice line (cc)) (cc)) (cc) (cc) (λ x b q k. search (rules, tests)))
-        ∙ length-prefix_len (λ (b : ℕ). eqb b 32) (drop c.args.from line) in
+    count_from_yields_List c.take_while.result c.count.result c.count.ensures.ran
+    (YieldsList-from_take_while _ (λ (b : ℕ). eqb b 32) (YieldsList-from_skip c.args.from (YieldsList-from_slice line (cc)) (cc)) (cc) (cc) (λ x b q k. search (rules, tests)))
+    ∙ length-prefix_len (λ (b : ℕ). eqb b 32) (drop c.args.from line) in
     let two : c.count-2.result ≡ prefix_len (λ (b : ℕ). not (eqb b 32)) (drop at line) =
-        count_from_yields_List c.take_while-2.result c.count-2.result c.count-2.ensures.ran
-            (YieldsList-from_take_while _ (λ (b : ℕ). not (eqb b 32)) (YieldsList-from_skip at (YieldsList-from_slice line (cc)) (cc)) (cc) (cc) (λ x b q k. search (rules, tests)))
-        ∙ length-prefix_len (λ (b : ℕ). not (eqb b 32)) (drop at line) in
+    count_from_yields_List c.take_while-2.result c.count-2.result c.count-2.ensures.ran
+    (YieldsList-from_take_while _ (λ (b : ℕ). not (eqb b 32)) (YieldsList-from_skip at (YieldsList-from_slice line (cc)) (cc)) (cc) (cc) (λ x b q k. search (rules, tests)))
+    ∙ length-prefix_len (λ (b : ℕ). not (eqb b 32)) (drop at line) in
     rw (sym (run-blanks (drop c.args.from line)), ← one, ← run-others (drop at line), ← two)
