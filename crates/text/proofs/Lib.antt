@@ -5,3 +5,4 @@ pub mod Nibbles
 pub mod ReadBack
 pub mod Samples
 pub mod Writing
+pub mod Sums

@@ -1,26 +1,38 @@
 -- A line's runs of blanks and of other bytes, its parts, and bytes that are the same.
 use mathlib.Core.Path.{◌≡◌, refl, sym, ap, ◌∙◌}
-use mathlib.Core.Bool.{Bool, true, false, ◌&&◌, not, beq, false≢true}
+use mathlib.Core.Bool.{Bool, true, false, ◌&&◌, cond, not, beq}
 use mathlib.Core.List.{List, [], ◌∷◌}
-use Prim.Native.Nat.{ℕ, zero, suc, ◌-◌, ◌≤◌, ◌<◌, min}
+use Prim.Native.Nat.{ℕ, zero, suc, ◌+◌, ◌-◌, ◌≤◌, min}
+use native.Mathlib.Numerals.{one-add}
 use native.Mathlib.Omega.{arith}
 use native.Mathlib.Decide.{dec_le}
 use native.Mathlib.Nat.{sub-zero, zero-sub, suc-sub-suc, min-eq_left}
-use borrow.Author.Tests.{eq-eqb, eqb-true, not-true, not-false}
 use lib.Dec.{eqb}
-use lib.ListN.{length, get_or, take, drop, length-take, drop_of_length-le}
-use lib.Seq.{slice, take-nil, take_all, drop-cons}
+use lib.ListN.{length, take, drop, length-take, drop_of_length-le}
+use Rattle.std.specs.Prelude.{nat_eq}
+use Rattle.std.specs.List.{prefix_len}
+use Rattle.std.specs.Cmp.Lexicographic.{pointwise}
+use lib.Seq.{slice, take-nil, take_all}
 use Rattle.text.specs.Line.{run, same}
 
--- a run at a position: it ends there, or the byte there is its first
-module _ (blanks : Bool) (l : List ℕ) (i : ℕ) (h : i < length l) where
-  pub run-stop : not (beq (eqb (get_or l i 0) 32) blanks) ≡ true → run blanks (drop i l) ≡ 0
-  unfolding run
-  run-stop e = rw (drop-cons l i 0 h, not-true (beq (eqb (get_or l i 0) 32) blanks) e)
+-- runs as the library counts them
+pub run-blanks : (l : List ℕ) → prefix_len (λ (b : ℕ). eqb b 32) l ≡ run true l
+unfolding run
+run-blanks [] = refl
+run-blanks (b ∷ l) = go (eqb b 32) (run-blanks l)
+  where
+    go : (t : Bool) → prefix_len (λ (b : ℕ). eqb b 32) l ≡ run true l → cond t (1 + prefix_len (λ (b : ℕ). eqb b 32) l) 0 ≡ cond (beq t true) (suc (run true l)) 0
+    go true e = rw one-add (ap suc e)
+    go false e = refl
 
-  pub run_more : not (beq (eqb (get_or l i 0) 32) blanks) ≡ false → run blanks (drop i l) ≡ suc (run blanks (drop (suc i) l))
-  unfolding run
-  run_more e = rw (drop-cons l i 0 h, not-false (beq (eqb (get_or l i 0) 32) blanks) e)
+pub run-others : (l : List ℕ) → prefix_len (λ (b : ℕ). not (eqb b 32)) l ≡ run false l
+unfolding run
+run-others [] = refl
+run-others (b ∷ l) = go (eqb b 32) (run-others l)
+  where
+    go : (t : Bool) → prefix_len (λ (b : ℕ). not (eqb b 32)) l ≡ run false l → cond (not t) (1 + prefix_len (λ (b : ℕ). not (eqb b 32)) l) 0 ≡ cond (beq t false) (suc (run false l)) 0
+    go true e = refl
+    go false e = rw one-add (ap suc e)
 
 drop-take : (a e : ℕ) (l : List ℕ) → take (e - a) (drop a l) ≡ drop a (take e l)
 drop-take zero e l = rw (sub-zero e)
@@ -43,34 +55,16 @@ drop-least s n l e = go (dec_le s n)
     go (no h) = drop_of_length-le l {i = min s n} (omega arith) ∙ sym (drop_of_length-le l {i = s} (omega arith))
 
 -- the part between two positions that are brought into the line
-pub slice-within : (s e : ℕ) (l : List ℕ)
+pub slice_within : (s e : ℕ) (l : List ℕ)
     → take (min e (length l) - min s (min e (length l))) (drop (min s (min e (length l))) l) ≡ slice s e l
-slice-within s e l =
+slice_within s e l =
     drop-take (min s (min e (length l))) (min e (length l)) l
     ∙ drop-least s (min e (length l)) (take (min e (length l)) l) (length-take (min e (length l)) l ∙ omega arith)
     ∙ ap (drop s) (take-least e l)
 
-same_self : (a : List ℕ) → same a a ≡ true
+pub same_is : (a b : List ℕ) → pointwise nat_eq a b ≡ same a b
 unfolding same
-same_self [] = refl
-same_self (x ∷ a) = rw (eq-eqb x x refl) (same_self a)
-
-same-equal : (a b : List ℕ) → same a b ≡ true → a ≡ b
-unfolding same
-same-equal [] [] h = refl
-same-equal [] (y ∷ b) h = absurd (false≢true h)
-same-equal (x ∷ a) [] h = absurd (false≢true h)
-same-equal (x ∷ a) (y ∷ b) h = go (eqb x y) refl (same-equal a b) h
-  where
-    go : (t : Bool) → eqb x y ≡ t → (same a b ≡ true → a ≡ b) → t && same a b ≡ true → x ∷ a ≡ y ∷ b
-    go true e f k = let p = eqb-true x y e in let q = f k in cc
-    go false e f k = absurd (false≢true k)
-
--- a test that says whether two lists are equal
-pub same-iff : (r : Bool) (a b : List ℕ) → (r ≡ true → a ≡ b) → (a ≡ b → r ≡ true) → r ≡ same a b
-same-iff true a b f g = rw (f refl) (sym (same_self b))
-same-iff false a b f g = go (same a b) refl
-  where
-    go : (t : Bool) → same a b ≡ t → false ≡ same a b
-    go true e = absurd (false≢true (g (same-equal a b e)))
-    go false e = sym e
+same_is [] [] = refl
+same_is [] (y ∷ b) = refl
+same_is (x ∷ a) [] = refl
+same_is (x ∷ a) (y ∷ b) = ap (λ (t : Bool). eqb x y && t) (same_is a b)

@@ -1,14 +1,20 @@
 -- Hex digits put and read pair by pair, and lists without the zeros at their end.
-use mathlib.Core.Path.{◌≡◌, refl, ap, ◌∙◌}
+use mathlib.Core.Path.{◌≡◌, refl, ◌∙◌}
 use mathlib.Core.Logic.{◌≢◌}
-use mathlib.Core.Bool.{Bool, true, false, ◌&&◌, false≢true}
+use mathlib.Core.Bool.{cond}
 use mathlib.Core.List.{List, [], ◌∷◌, ◌++◌}
 use Prim.Native.Nat.{ℕ, zero, suc, ◌+◌, ◌*◌, ◌≤◌, ◌<◌}
+use native.Mathlib.Numerals.{add-one}
 use native.Mathlib.Omega.{arith}
-use borrow.Author.Tests.{ne_eqb, leb-true}
-use lib.Dec.{leb}
-use lib.ListN.{length, get_or, take, drop, replicate, length-append, length-take, length-replicate}
-use lib.Seq.{get_or-take, drop-cons}
+use borrow.Author.Tests.{ne_eqb, lt-ltb, le-ltb}
+use lib.Dec.{ltb}
+use Rattle.std.proofs.lemmas.Bool.Decides.{nat_tests}
+use Rattle.std.specs.Char.{digit_value, is_ascii_hexdigit}
+use Rattle.std.specs.List.{list_all, AllWithin, HoldsAt}
+use Rattle.std.specs.Option.{MatchOption, SomeIff}
+use Rattle.std.specs.Prelude.{Option, None, Some}
+use lib.ListN.{length, get_or, take, replicate, length-append, length-take, length-replicate}
+use lib.Seq.{get_or-take}
 use Rattle.text.specs.Hex.{glyphs, trim_onto, trimmed, or_dash, hex_text, between, is_nibble, nibble, hex_only, pairs, hex_bytes}
 
 -- The text of some bytes.
@@ -17,34 +23,45 @@ unfolding glyphs
 glyphs-append [] b = refl
 glyphs-append (x ∷ a) b = rw (glyphs-append a b)
 
--- a zero at the end goes, and any other byte stays with all before it
-pub trimmed-zero : (l : List ℕ) → trimmed (l ++ 0 ∷ []) ≡ trimmed l
+-- the zeros at the end go, and the last other byte stays with all before it
+trimmed-zeros : (l : List ℕ) → AllWithin (λ (b : ℕ). b ≡ 0) l 0 (length l) → trimmed l ≡ []
 unfolding trimmed trim_onto
-trimmed-zero [] = refl
-trimmed-zero (x ∷ l) = ap (trim_onto x) (trimmed-zero l)
+trimmed-zeros [] h = refl
+trimmed-zeros (x ∷ l) h =
+    rw (trimmed-zeros l (λ k d p q. h (suc k) d (omega arith) (omega arith)), h 0 0 (omega arith) (omega arith))
 
-trim-more : (x : ℕ) (l : List ℕ) (y : ℕ) → trim_onto x (l ++ y ∷ []) ≡ x ∷ (l ++ y ∷ [])
-unfolding trim_onto
-trim-more x [] y = refl
-trim-more x (z ∷ l) y = refl
-
-pub trimmed-last : (l : List ℕ) (y : ℕ) → y ≢ 0 → trimmed (l ++ y ∷ []) ≡ l ++ y ∷ []
+trimmed-upto : (l : List ℕ) (i : ℕ) → i < length l → HoldsAt (λ (b : ℕ). b ≢ 0) l i → AllWithin (λ (b : ℕ). b ≡ 0) l (i + 1) (length l)
+    → trimmed l ≡ take (i + 1) l
 unfolding trimmed trim_onto
-trimmed-last [] y h = rw (ne_eqb y 0 h)
-trimmed-last (x ∷ l) y h = ap (trim_onto x) (trimmed-last l y h) ∙ trim-more x l y
+trimmed-upto [] i h n z = absurd (omega arith)
+trimmed-upto (x ∷ l) zero h n z =
+    rw (trimmed-zeros l (λ k d p q. z (suc k) d (omega arith) (omega arith)), ne_eqb x 0 (n 0))
+trimmed-upto (x ∷ []) (suc i) h n z = absurd (omega arith)
+trimmed-upto (x ∷ y ∷ l) (suc i) h n z =
+    rw (trimmed-upto (y ∷ l) i (omega arith) n (λ k d p q. z (suc k) d (omega arith) (omega arith)), add-one i, add-one (suc i))
 
-pub hex-none : (l : List ℕ) → [] ≡ trimmed l → hex_text l ≡ 45 ∷ []
-unfolding hex_text or_dash glyphs
-hex-none l e = rw (← e)
+-- r is the last byte that is no zero, and n bytes are those up to it
+pub take-trimmed : (l : List ℕ) (r : Option ℕ) (n : ℕ)
+    → MatchOption r (AllWithin (λ (b : ℕ). b ≡ 0) l 0 (length l)) (λ i. (i < length l) × HoldsAt (λ (b : ℕ). b ≢ 0) l i × AllWithin (λ (b : ℕ). b ≡ 0) l (i + 1) (length l))
+    → MatchOption r (n ≡ 0) (λ i. n ≡ i + 1) → take n l ≡ trimmed l
+take-trimmed l None n h e = rw (e, trimmed-zeros l h)
+take-trimmed l (Some i) n h e = rw (e, trimmed-upto l i h.0 h.1 h.2)
 
-pub hex-some : (l : List ℕ) (n : ℕ) → 0 < n → n ≤ length l → take n l ≡ trimmed l → hex_text l ≡ glyphs (take n l)
+pub hex_none : (l : List ℕ) → length (trimmed l) ≡ 0 → hex_text l ≡ 45 ∷ []
 unfolding hex_text or_dash glyphs
-hex-some l n h k e = rw (← e) (go n l h k)
+hex_none l h = go (trimmed l) h
   where
-    go : (n : ℕ) (l : List ℕ) → 0 < n → n ≤ length l → or_dash (glyphs (take n l)) ≡ glyphs (take n l)
-    go zero l h k = absurd (omega arith)
-    go (suc n) [] h k = absurd (omega arith)
-    go (suc n) (x ∷ l) h k = refl
+    go : (t : List ℕ) → length t ≡ 0 → or_dash (glyphs t) ≡ 45 ∷ []
+    go [] h = refl
+    go (x ∷ t) h = absurd (omega arith)
+
+pub hex_some : (l : List ℕ) → 0 < length (trimmed l) → hex_text l ≡ glyphs (trimmed l)
+unfolding hex_text or_dash glyphs
+hex_some l h = go (trimmed l) h
+  where
+    go : (t : List ℕ) → 0 < length t → or_dash (glyphs t) ≡ glyphs t
+    go [] h = absurd (omega arith)
+    go (x ∷ t) h = refl
 
 -- The bytes that digits spell.
 pub pairs-in : (text : List ℕ) (i : ℕ) → 2 * i + 1 < length text
@@ -91,15 +108,23 @@ pub hex_bytes-at : (text : List ℕ) (i : ℕ) → i < 256 → get_or (hex_bytes
 unfolding hex_bytes
 hex_bytes-at text i h = padded-at 256 (pairs text) i h
 
--- Tests.
-pub between-true : (low high c : ℕ) → between low high c ≡ true → (low ≤ c) × (c ≤ high)
-unfolding between
-between-true low high c e = go (leb low c) refl e
-  where
-    go : (t : Bool) → leb low c ≡ t → t && leb c high ≡ true → (low ≤ c) × (c ≤ high)
-    go true f g = (leb-true low c f, leb-true c high g)
-    go false f g = absurd (false≢true g)
+-- Tests, as the library makes them.
+nibble_is : (c : ℕ) → nibble c ≡ cond (ltb (digit_value c) 16) (digit_value c) 0
+unfolding nibble between
+nibble_is c = grind (arith, nat_tests)
 
-pub hex_only-cons : (text : List ℕ) (i : ℕ) → i < length text → hex_only (drop i text) ≡ is_nibble (get_or text i 0) && hex_only (drop (suc i) text)
+-- r is the digit that the library reads, and n that digit, or 0
+pub nibble-from : (c : ℕ) (r : Option ℕ) (n : ℕ) → SomeIff r (digit_value c < 16) (digit_value c) → MatchOption r (n ≡ 0) (λ d. n ≡ d) → (n < 16) × (n ≡ nibble c)
+nibble-from c None n h e = rw (e, nibble_is c, le-ltb (digit_value c) 16 (omega arith)) (omega arith, refl)
+nibble-from c (Some d) n h e = rw (e, h.1, nibble_is c, lt-ltb (digit_value c) 16 h.0) (h.0, refl)
+
+is_nibble-is : (c : ℕ) → is_ascii_hexdigit c ≡ is_nibble c
+unfolding is_nibble between
+is_nibble-is c = grind (arith, nat_tests)
+
+pub hex_only-is : (text : List ℕ) → list_all is_ascii_hexdigit text ≡ hex_only text
 unfolding hex_only
-hex_only-cons text i h = rw (drop-cons text i 0 h)
+hex_only-is [] = refl
+hex_only-is (c ∷ cs) = rw (is_nibble-is c, hex_only-is cs)
+
+pub ruleset pair = (pairs-in, pairs-out)

@@ -9,10 +9,10 @@ use borrow.Author.Tests.{lt-ltb, le-ltb, le-leb, lt-leb, eq-eqb, eqb-true}
 use lib.Dec.{leb, eqb}
 use lib.ListN.{length, get_or, length-append}
 use lib.Seq.{ext_get_or}
+use Rattle.std.specs.Prelude.{Some}
 use Rattle.text.specs.Decimal.{digits, decimal, digits_only, value, number_after, number_of}
 use Rattle.text.specs.Hex.{glyph, glyphs, trim_onto, trimmed, or_dash, hex_text, between, is_nibble, nibble, hex_only, is_hex, pairs, hex_bytes}
 use Rattle.text.specs.Line.{same}
-use Rattle.text.specs.declared.number.Number.TheVariants.{Value}
 use Rattle.text.proofs.Digits.{number-some}
 use Rattle.text.proofs.Nibbles.{hex_bytes-length, hex_bytes-at}
 
@@ -53,7 +53,7 @@ digits-read (suc k) n h = go (dec_lt n 10) (λ g. digits-read k (n / 10) (omega 
           says = value-last 0 front last ∙ omega (arith, r.says);
         })
 
-pub decimal-read : (n : ℕ) → n < 2 ^ 64 → number_of (decimal n) ≡ Value n
+pub decimal-read : (n : ℕ) → n < 2 ^ 64 → number_of (decimal n) ≡ Some n
 unfolding decimal number_after
 decimal-read n h =
     let r = digits-read (suc n) n (omega arith) in

@@ -4,12 +4,12 @@ use mathlib.Core.Bool.{false}
 use mathlib.Core.List.{List, [], ◌∷◌}
 use Prim.Native.Nat.{ℕ}
 use lib.ListN.{take}
+use Rattle.std.specs.Prelude.{None, Some}
 use Rattle.text.specs.Adler.{adler, adler_from}
 use Rattle.text.specs.Decimal.{digits, decimal, digits_only, value, number_after, number_of}
 use Rattle.text.specs.Hex.{glyph, glyphs, trim_onto, trimmed, or_dash, hex_text, between, is_nibble, nibble, hex_only, is_hex, pairs, hex_bytes}
 use Rattle.text.specs.Line.{run, word_from, same}
 use Rattle.text.specs.Written.{written, after_text}
-use Rattle.text.specs.declared.number.Number.TheVariants.{Value, Bad}
 
 -- two bytes at the last place of three
 cut : (written (1 ∷ 2 ∷ 3 ∷ []) 2 (7 ∷ 8 ∷ []) ≡ 1 ∷ 2 ∷ 7 ∷ []) × (after_text 3 2 2 ≡ 4)
@@ -26,10 +26,10 @@ put-largest = refl
 
 -- 2 ^ 64, `007`, `1x`, and no digit
 numbers :
-    (number_of (49 ∷ 56 ∷ 52 ∷ 52 ∷ 54 ∷ 55 ∷ 52 ∷ 52 ∷ 48 ∷ 55 ∷ 51 ∷ 55 ∷ 48 ∷ 57 ∷ 53 ∷ 53 ∷ 49 ∷ 54 ∷ 49 ∷ 54 ∷ []) ≡ Bad)
-    × (number_of (48 ∷ 48 ∷ 55 ∷ []) ≡ Value 7)
-    × (number_of (49 ∷ 120 ∷ []) ≡ Bad)
-    × (number_of [] ≡ Bad)
+    (number_of (49 ∷ 56 ∷ 52 ∷ 52 ∷ 54 ∷ 55 ∷ 52 ∷ 52 ∷ 48 ∷ 55 ∷ 51 ∷ 55 ∷ 48 ∷ 57 ∷ 53 ∷ 53 ∷ 49 ∷ 54 ∷ 49 ∷ 54 ∷ []) ≡ None)
+    × (number_of (48 ∷ 48 ∷ 55 ∷ []) ≡ Some 7)
+    × (number_of (49 ∷ 120 ∷ []) ≡ None)
+    × (number_of [] ≡ None)
 unfolding number_of number_after digits_only value
 numbers = (refl, refl, refl, refl)
 

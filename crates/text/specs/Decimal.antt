@@ -1,7 +1,5 @@
 -- Numbers in decimal digits: the text of a number, and the number that a text says.
-use Rattle.std.specs.Prelude.{Bool, true, ◌&&◌, cond, List, [], ◌∷◌, ◌++◌, ℕ, zero, suc, ◌+◌, ◌-◌, ◌*◌, ◌/◌, ◌%◌, ◌^◌, leb, ltb}
-use Rattle.text.specs.declared.number.Number.{Number}
-use Rattle.text.specs.declared.number.Number.TheVariants.{Value, Bad}
+use Rattle.std.specs.Prelude.{Bool, true, ◌&&◌, cond, Option, None, Some, List, [], ◌∷◌, ◌++◌, ℕ, zero, suc, ◌+◌, ◌-◌, ◌*◌, ◌/◌, ◌%◌, ◌^◌, leb, ltb}
 
 -- the digits of n, of which there are at most so many
 unfoldable pub digits : ℕ → ℕ → List ℕ
@@ -24,9 +22,9 @@ value n [] = n
 value n (b ∷ bs) = value (10 * n + (b - 48)) bs
 
 -- what these bytes say behind the digits of n: a number of 64 bits, or nothing
-unfoldable pub number_after : ℕ → List ℕ → Number
-number_after n text = cond (digits_only text && ltb (value n text) (2 ^ 64)) (Value (value n text)) Bad
+unfoldable pub number_after : ℕ → List ℕ → Option ℕ
+number_after n text = cond (digits_only text && ltb (value n text) (2 ^ 64)) (Some (value n text)) None
 
-unfoldable pub number_of : List ℕ → Number
-number_of [] = Bad
+unfoldable pub number_of : List ℕ → Option ℕ
+number_of [] = None
 number_of (b ∷ bs) = number_after 0 (b ∷ bs)

@@ -1,70 +1,40 @@
-// Decimal numbers, put into a buffer and read from a line.
-ghost use Rattle.std.specs.Prelude.{◌≡◌, [], ◌∷◌, ◌+◌, ◌<◌};
-ghost use Rattle.std.proofs.Math.Seq.{slice};
+// Decimal numbers, put into a buffer and read from a word.
+ghost use Rattle.std.specs.Prelude.{◌≡◌, [], ◌∷◌};
 ghost use Rattle.text.specs.Decimal.{decimal, number_of, number_after};
 ghost use Rattle.text.specs.Written.{Puts};
 
-use crate::line::part;
-use crate::number::Number;
 use crate::put::put_byte;
-
-const MOST: u64 = 18446744073709551615;
 
 pub fn put_decimal(out: &mut [u8], at: usize, n: u64) -> usize
     ensures { Puts out.old at (decimal n) out.new result }
 {
     if n < 10 {
-        return put_byte(out, at, glyph(n));
+        return put_byte(out, at, b'0' + n as u8);
     }
     let position = put_decimal(out, at, n / 10);
-    put_byte(out, position, glyph(n % 10))
+    put_byte(out, position, b'0' + (n % 10) as u8)
 }
 
-fn glyph(digit: u64) -> u8
-    requires { digit < 10 }
-    ensures { result ≡ 48 + digit }
-{
-    b'0' + digit as u8
-}
-
-// The number from `start` up to `end`: one or more digits that fit 64 bits, zeros in front too.
-pub fn number(line: &[u8], start: usize, end: usize) -> Number
-    ensures { result ≡ number_of (slice start end line.now) }
-{
-    number_of(part(line, start, end))
-}
-
-fn number_of(text: &[u8]) -> Number
+// The number that the text says: one or more digits that fit 64 bits, zeros in front too.
+#[tactic(auto, using(crate::proofs::Digits::reading))]
+pub fn number(text: &[u8]) -> Option<u64>
     ensures { result ≡ number_of text.now }
 {
-    if text.len() == 0 {
-        return Number::Bad;
+    if text.is_empty() {
+        return None;
     }
     let mut n = 0;
-    let mut i = 0;
-    while i < text.len() {
-        let Number::Value(m) = with_digit(n, text[i]) else {
-            return Number::Bad;
-        };
-        n = m;
-        i += 1;
+    for b in text {
+        n = with_digit(n, *b)?;
     }
-    Number::Value(n)
+    Some(n)
 }
 
 // The number with one digit more.
-fn with_digit(n: u64, b: u8) -> Number
+#[tactic(auto, using(crate::proofs::Digits::digit))]
+fn with_digit(n: u64, b: u8) -> Option<u64>
     ensures { result ≡ number_after n (b ∷ []) }
 {
-    if b < b'0' {
-        return Number::Bad;
-    }
-    if b'9' < b {
-        return Number::Bad;
-    }
-    let digit = (b - b'0') as u64;
-    if n > (MOST - digit) / 10 {
-        return Number::Bad;
-    }
-    Number::Value(10 * n + digit)
+    let digit = char::from(b).to_digit(10)?;
+    n.checked_mul(10)?.checked_add(u64::from(digit))
 }

@@ -1,9 +1,8 @@
-// Bytes as hex digits, put into a buffer and read from a line.
-ghost use Rattle.std.specs.Prelude.{◌≡◌, [], ◌∷◌, ◌<◌, ◌≤◌, length, get_or, take};
+// Bytes as hex digits, put into a buffer and read from a word.
+ghost use Rattle.std.specs.Prelude.{◌≡◌, [], ◌∷◌, ◌<◌, length, get_or};
 ghost use Rattle.text.specs.Hex.{glyph as Hex·glyph};
 ghost use Rattle.text.specs.Hex.{nibble as Hex·nibble};
-ghost use Rattle.text.specs.Hex.{between as Hex·between};
-ghost use Rattle.text.specs.Hex.{glyphs, trimmed, hex_text, is_nibble, hex_only, is_hex, pairs, hex_bytes};
+ghost use Rattle.text.specs.Hex.{glyphs, trimmed, hex_text, is_hex, pairs, hex_bytes};
 ghost use Rattle.text.specs.Written.{Puts};
 
 use crate::line::is_same;
@@ -13,30 +12,25 @@ use crate::put::put_byte;
 pub fn put_hex(out: &mut [u8], at: usize, bytes: &[u8]) -> usize
     ensures { Puts out.old at (hex_text bytes.now) out.new result }
 {
-    let n = trimmed_length(bytes);
-    if n == 0 {
+    let kept = trimmed(bytes);
+    if kept.is_empty() {
         return put_byte(out, at, b'-');
     }
     let mut position = at;
-    let mut i = 0;
-    while i < n {
-        position = put_pair(out, position, bytes[i]);
-        i += 1;
+    for b in kept {
+        position = put_pair(out, position, *b);
     }
     position
 }
 
-fn trimmed_length(bytes: &[u8]) -> usize
-    ensures { (result ≤ length bytes.now) × (take result bytes.now ≡ trimmed bytes.now) }
+fn trimmed(bytes: &[u8]) -> &[u8]
+    ensures { result.now ≡ trimmed bytes.now }
 {
-    let mut n = bytes.len();
-    while n > 0 {
-        if bytes[n - 1] != 0 {
-            return n;
-        }
-        n -= 1;
-    }
-    n
+    let n = bytes
+        .iter()
+        .rposition(|b| *b != 0)
+        .map_or(0, |last| last + 1);
+    &bytes[..n]
 }
 
 fn put_pair(out: &mut [u8], at: usize, b: u8) -> usize
@@ -46,6 +40,7 @@ fn put_pair(out: &mut [u8], at: usize, b: u8) -> usize
     put_byte(out, next, glyph(b % 16))
 }
 
+#[tactic(auto, unfolding(crate::specs::Hex::glyph))]
 fn glyph(digit: u8) -> u8
     requires { digit < 16 }
     ensures { result ≡ Hex·glyph digit }
@@ -58,35 +53,15 @@ fn glyph(digit: u8) -> u8
 }
 
 // One or more pairs of digits, at most 256, or a dash.
+#[tactic(auto, using(std::proofs::lemmas::Bool::Decides::nat_tests), unfolding(crate::specs::Hex::is_hex))]
 pub fn is_hex(text: &[u8]) -> bool
     ensures { result ≡ is_hex text.now }
 {
-    if is_same(text, b"-") {
-        return true;
-    }
-    if text.len() == 0 {
-        return false;
-    }
-    if text.len() > 512 {
-        return false;
-    }
-    if text.len() % 2 != 0 {
-        return false;
-    }
-    hex_only(text)
-}
-
-fn hex_only(text: &[u8]) -> bool
-    ensures { result ≡ hex_only text.now }
-{
-    let mut i = 0;
-    while i < text.len() {
-        if !is_nibble(text[i]) {
-            return false;
-        }
-        i += 1;
-    }
-    true
+    is_same(text, b"-")
+        || (!text.is_empty()
+            && text.len() <= 512
+            && text.len() % 2 == 0
+            && text.iter().all(|c| c.is_ascii_hexdigit()))
 }
 
 // The bytes that hex digits spell, with zeros behind them.
@@ -94,14 +69,13 @@ pub fn hex(text: &[u8], out: &mut [u8])
     requires { length out.old ≡ 256 }
     ensures { out.new ≡ hex_bytes text.now }
 {
-    let mut i = 0;
-    while i < 256 {
-        out[i] = pair_at(text, i);
-        i += 1;
+    for (i, b) in out.iter_mut().enumerate() {
+        *b = pair_at(text, i);
     }
 }
 
 // The byte that pair `i` of the digits spells, 0 past the last pair.
+#[tactic(auto, using(crate::proofs::Nibbles::pair))]
 fn pair_at(text: &[u8], i: usize) -> u8
     requires { i < 256 }
     ensures { result ≡ get_or (pairs text.now) i 0 }
@@ -114,35 +88,8 @@ fn pair_at(text: &[u8], i: usize) -> u8
     }
 }
 
-fn is_nibble(c: u8) -> bool
-    ensures { result ≡ is_nibble c }
-{
-    if between(b'0', b'9', c) {
-        return true;
-    }
-    if between(b'a', b'f', c) {
-        return true;
-    }
-    between(b'A', b'F', c)
-}
-
 fn nibble(c: u8) -> u8
     ensures { (result < 16) × (result ≡ Hex·nibble c) }
 {
-    if between(b'0', b'9', c) {
-        return c - b'0';
-    }
-    if between(b'a', b'f', c) {
-        return c - b'a' + 10;
-    }
-    if between(b'A', b'F', c) {
-        return c - b'A' + 10;
-    }
-    0
-}
-
-fn between(low: u8, high: u8, c: u8) -> bool
-    ensures { result ≡ Hex·between low high c }
-{
-    if low <= c { c <= high } else { false }
+    char::from(c).to_digit(16).map_or(0, |digit| digit as u8)
 }

@@ -5,6 +5,5 @@ pub mod adler;
 pub mod decimal;
 pub mod hex;
 pub mod line;
-pub mod number;
 pub mod put;
 pub mod word;

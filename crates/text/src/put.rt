@@ -4,6 +4,7 @@ ghost use Rattle.std.specs.Prelude.{[], ◌∷◌};
 ghost use Rattle.text.specs.Columns.{blanks};
 ghost use Rattle.text.specs.Written.{Puts};
 
+#[tactic(auto, using(crate::proofs::Writing::written_out), unfolding(crate::specs::Written::written, crate::specs::Written::after_text))]
 pub fn put_byte(out: &mut [u8], at: usize, b: u8) -> usize
     ensures { Puts out.old at (b ∷ []) out.new result }
 {
@@ -18,10 +19,8 @@ pub fn put_bytes(out: &mut [u8], at: usize, src: &[u8]) -> usize
     ensures { Puts out.old at src.now out.new result }
 {
     let mut position = at;
-    let mut i = 0;
-    while i < src.len() {
-        position = put_byte(out, position, src[i]);
-        i += 1;
+    for b in src {
+        position = put_byte(out, position, *b);
     }
     position
 }
@@ -30,10 +29,8 @@ pub fn put_blanks(out: &mut [u8], at: usize, n: usize) -> usize
     ensures { Puts out.old at (blanks n) out.new result }
 {
     let mut position = at;
-    let mut i = 0;
-    while i < n {
+    for _ in 0..n {
         position = put_byte(out, position, b' ');
-        i += 1;
     }
     position
 }
