@@ -4,3 +4,4 @@ pub mod Contents
 pub mod Lines
 pub mod PageMost
 pub mod Pages
+pub mod Reading

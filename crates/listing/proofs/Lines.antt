@@ -9,17 +9,20 @@ use native.Mathlib.Decide.{dec_le}
 use native.Mathlib.Nat.{zero-add, mul_comm}
 use native.Mathlib.Numerals.{add-one}
 use lib.Dec.{ltb}
+use Rattle.std.specs.Int.{from_bool}
+use Rattle.std.specs.List.{sum}
+use Rattle.std.proofs.lemmas.List.Recursion.{is_sum_by}
 use lib.ListN.{length, take, drop, get_or, length-take, drop_of_length-le}
 use lib.Seq.{slice, take-suc, take-add, drop_at, length-take-le}
 use Rattle.lists.specs.Basic.{from, joined}
-use Rattle.lists.specs.State.{Row, taken, placed}
-use Rattle.lists.specs.Lookup.{blocks_of, content_of}
+use Rattle.lists.specs.State.{Row, placed}
+use Rattle.lists.specs.Lookup.{content_of}
 use Rattle.lists.proofs.Basic.{from-snoc, ge-false}
 use Rattle.card_log.specs.Card.{slot, count}
 use Rattle.card_log.specs.promises.Location.{bytes_at, content_at}
 use Rattle.card_log.proofs.Copying.{at-card}
 use Rattle.text.specs.Decimal.{decimal}
-use Rattle.listing.specs.Listing.{total, numbers, list_line, list_part, content_text, block_line, block_part}
+use Rattle.listing.specs.Listing.{total, numbers, content_text, block_line, block_part}
 use Rattle.listing.specs.promises.Shown.{sum_at}
 
 pub joined-append : {A : Type 0} (xs ys : List (List A)) → joined (xs ++ ys) ≡ joined xs ++ joined ys
@@ -48,6 +51,16 @@ total-more : (f : ℕ → ℕ) (k n : ℕ) → total (from f k (suc n)) ≡ tota
 unfolding total
 total-more f k n = ap total (from-snoc f k n) ∙ total-append (from f k n) (f (k + n) ∷ []) ∙ omega arith
 
+-- std's sum
+pub total-sum : (xs : List ℕ) → total xs ≡ sum xs
+unfolding total
+total-sum xs = simp (is_sum_by total (λ x. x) refl (λ _ _. refl))
+
+-- a test counted
+pub counted : (b : Bool) → from_bool b ≡ cond b 1 0
+counted true = refl
+counted false = refl
+
 -- one segment more
 pub total-step : (f : ℕ → ℕ) (g m n : ℕ) → m ≡ total (from f 0 g) → n ≡ f g → m + n ≡ total (from f 0 (g + 1))
 total-step f g m n h k =
@@ -56,10 +69,6 @@ total-step f g m n h k =
 pub count_at : (c : List ℕ) (g : ℕ) → get_or c (g * 4096 + 3584) 0 ≡ count c g
 unfolding count
 count_at c g = ap (λ (k : ℕ). get_or c (k + 3584) 0) (mul_comm g 4096)
-
-pub total-take : (l : List ℕ) (i : ℕ) → i < length l → total (take (suc i) l) ≡ total (take i l) + get_or l i 0
-unfolding total
-total-take l i h = ap total (take-suc l i 0 h) ∙ total-append (take i l) (get_or l i 0 ∷ []) ∙ omega arith
 
 pub numbers-one : (b : ℕ) → numbers (b ∷ []) ≡ 32 ∷ decimal b
 unfolding numbers joined
@@ -84,14 +93,6 @@ numbers-none = refl
 
 -- The parts of the text.
 module _ {D : Type 0} (rs : List (Row D)) where
-  pub list-none : (l : ℕ) → taken l rs ≡ false → list_part rs l ≡ []
-  unfolding list_part
-  list-none l h = rw h
-
-  pub list-some : (l : ℕ) → taken l rs ≡ true → list_part rs l ≡ list_line l (blocks_of rs l)
-  unfolding list_part
-  list-some l h = rw h
-
   module _ (sum : D → ℕ) (b : ℕ) where
     pub block_none : placed b rs ≡ false → block_part sum rs b ≡ []
     unfolding block_part
@@ -125,14 +126,6 @@ slot-part c k = go (dec_le (256 * k) (length c))
     go (no h) =
         drop_of_length-le (take (256 * k + 256) c) {i = 256 * k} (omega (arith, length-take (256 * k + 256) c))
         ∙ sym (ap (take 256) (drop_of_length-le c {i = 256 * k} (omega arith)))
-
-pub slot-length : (c : List ℕ) (k : ℕ) → length (slot c k) ≤ 256
-unfolding slot
-slot-length c k = omega (arith, length-take 256 (drop (256 * k) c))
-
--- as the code finds them
-pub part_length : (c : List ℕ) (k : ℕ) → length (slice (k * 256) (k * 256 + 256) c) ≤ 256
-part_length c k = rw (mul_comm k 256, slot-part c k) (slot-length c k)
 
 module _ (c : List ℕ) where
   pub sum-in : (n : ℕ) → (n - 1) % 2048 < 1024 → total (slice ((n - 1) % 2048 * 256) ((n - 1) % 2048 * 256 + 256) c) ≡ sum_at c n

@@ -16,6 +16,7 @@ use Rattle.lists.proofs.Naturality.{taken-map, blocks_of-map}
 use Rattle.text.specs.Columns.{blanks, right_aligned}
 use Rattle.text.proofs.Columns.{blanks-length, aligned-length}
 use Rattle.listing.specs.Page.{cells, on_line, margin, filled, page_line, line_count, list_page, page_lines, page_text}
+use Rattle.listing.specs.promises.Taken.{of_taken}
 use Rattle.listing.proofs.Lines.{joined-append, joined-more, each_take}
 
 -- The columns.
@@ -79,10 +80,6 @@ module _ (l : ℕ) (bs : List ℕ) (k : ℕ) where
         length-append ((margin l k ++ cells here) ++ blanks (35 - 3 * length here)) (10 ∷ []),
       )
 
--- the front of a buffer is no longer than it is told to be
-pub front-few : (n : ℕ) (x y : List ℕ) → y ≡ slice 0 n x → n ≤ 64 → length y ≤ 64
-front-few n x y e h = omega (arith, ap length e, length-take n x)
-
 -- no list has more than 6 lines
 pub count-few : (n : ℕ) → n ≤ 64 → line_count n ≤ 6
 unfolding line_count
@@ -125,6 +122,10 @@ unfolding joined from
 joined-joined f k zero = refl
 joined-joined f k (suc n) = joined-append (f k) (joined (from f (suc k) n)) ∙ ap (λ (t : List ℕ). joined (f k) ++ t) (joined-joined f (suc k) n)
 
+-- the lines of a list, one behind the other
+abbrev pub page_part : ℕ → List ℕ → List ℕ
+page_part l bs = joined (from (page_line l bs) 0 (line_count (length bs)))
+
 module _ {D : Type 0} (rs : List (Row D)) (l : ℕ) where
   pub list-page-none : taken l rs ≡ false → joined (list_page rs l) ≡ []
   unfolding list_page joined
@@ -133,6 +134,15 @@ module _ {D : Type 0} (rs : List (Row D)) (l : ℕ) where
   pub list-page-some : taken l rs ≡ true → list_page rs l ≡ from (page_line l (blocks_of rs l)) 0 (line_count (length (blocks_of rs l)))
   unfolding list_page
   list-page-some h = rw h
+
+  pub list-page-part : joined (list_page rs l) ≡ cond (taken l rs) (page_part l (blocks_of rs l)) []
+  unfolding list_page joined
+  list-page-part = go (taken l rs)
+    where
+      go : (b : Bool)
+          → joined (cond b (from (page_line l (blocks_of rs l)) 0 (line_count (length (blocks_of rs l)))) []) ≡ cond b (page_part l (blocks_of rs l)) []
+      go true = refl
+      go false = refl
 
   list-41 : all is41 (list_page rs l) ≡ true
   unfolding list_page all
@@ -154,6 +164,11 @@ module _ {D : Type 0} (rs : List (Row D)) where
   pub page-by-list : page_text rs ≡ joined (from (λ l. joined (list_page rs l)) 1 16)
   unfolding page_text page_lines
   page-by-list = joined-joined (list_page rs) 1 16
+
+  -- list after list, as `of_taken` puts them
+  pub page-taken : page_text rs ≡ of_taken page_part rs
+  unfolding of_taken
+  page-taken = page-by-list ∙ ap joined (from-shift (λ l. joined (list_page rs l)) (λ l. cond (taken l rs) (page_part l (blocks_of rs l)) []) 1 1 16 (λ k l. list-page-part rs (1 + k)))
 
   -- "every line has 41 bytes"
   pub page-lines : all (λ x. eqb (length x) 41) (page_lines rs) ≡ true

@@ -13,8 +13,6 @@ use text::decimal::put_decimal;
 use text::line::part;
 use text::put::{put_byte, put_bytes};
 
-const BLOCKS: u8 = LogEntry::BLOCKS;
-
 // How many locations a card has.
 const SLOTS: u16 = QUEUE_AT - 1;
 
@@ -25,10 +23,8 @@ pub fn put_blocks(out: &mut [u8], at: usize, card: &[u8], nodes: &[u8; 1280]) ->
         Puts out.old at (block_lines (sum_at card.now) rs) out.new result) }
 {
     let mut position = at;
-    let mut block = 1u8;
-    while block <= BLOCKS {
+    for block in 1..=LogEntry::BLOCKS {
         position = put_block(out, position, card, nodes, block);
-        block += 1;
     }
     position
 }
@@ -44,7 +40,7 @@ fn put_block(out: &mut [u8], at: usize, card: &[u8], nodes: &[u8; 1280], block: 
     }
     let number = location_of(nodes, block);
     let mut position = put_bytes(out, at, b"block ");
-    position = put_decimal(out, position, block as u64);
+    position = put_decimal(out, position, u64::from(block));
     position = put_bytes(out, position, b": ");
     position = put_content(out, position, card, number);
     put_byte(out, position, b'\n')
@@ -69,7 +65,7 @@ fn sum_at(card: &[u8], number: u16) -> u64
     if SLOTS <= at {
         return 0;
     }
-    let from = at as usize * SLOT;
+    let from = usize::from(at) * SLOT;
     sum(part(card, from, from + SLOT))
 }
 
@@ -77,11 +73,5 @@ fn sum(bytes: &[u8]) -> u64
     requires { length bytes.now ≤ 256 }
     ensures { result ≡ total bytes.now }
 {
-    let mut n = 0u64;
-    let mut i = 0;
-    while i < bytes.len() {
-        n += bytes[i] as u64;
-        i += 1;
-    }
-    n
+    bytes.iter().map(|b| u64::from(*b)).sum()
 }

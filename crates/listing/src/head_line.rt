@@ -1,5 +1,5 @@
 // The first line: how many segments a card has, how many of them are used, and how many entries they have.
-ghost use Rattle.std.specs.Prelude.{◌≡◌, cond, ltb};
+ghost use Rattle.std.specs.Prelude.{◌≡◌};
 ghost use Rattle.text.specs.Written.{Puts};
 ghost use Rattle.listing.specs.Listing.{head_line};
 ghost use Rattle.listing.specs.Listing.{used as Listing·used, entries as Listing·entries};
@@ -30,21 +30,12 @@ pub fn put_head(out: &mut [u8], at: usize, card: &[u8]) -> usize
 fn counts(card: &[u8]) -> Counted
     ensures { (result.used ≡ Listing·used card.now) × (result.entries ≡ Listing·entries card.now) }
 {
-    let n = card.len() / SEGMENT;
     let mut used = 0u64;
     let mut entries = 0u64;
-    let mut g = 0;
-    while g < n {
+    for g in 0..card.len() / SEGMENT {
         let count = card[g * SEGMENT + COUNT_AT];
-        used += one_if_used(count);
-        entries += count as u64;
-        g += 1;
+        used += u64::from(0 < count);
+        entries += u64::from(count);
     }
     Counted { used, entries }
-}
-
-fn one_if_used(count: u8) -> u64
-    ensures { result ≡ cond (ltb 0 count) 1 0 }
-{
-    if 0 < count { 1 } else { 0 }
 }

@@ -7,16 +7,15 @@ mod head_line;
 mod list_lines;
 pub mod page;
 mod page_line;
+mod read;
 mod state_lines;
+mod taken;
 
-ghost use Rattle.std.specs.Prelude.{◌≡◌};
 ghost use Rattle.text.specs.Written.{Puts};
 ghost use Rattle.listing.specs.Listing.{listing as Listing·listing};
-ghost use Rattle.listing.specs.Listing.{listable};
 
-use crate::state_lines::{LENGTH, LOG, put_refusal, put_state};
-use card_log::layout::SEGMENT;
-use card_log::walk::{Walked, walk};
+use crate::read::read;
+use crate::state_lines::{put_refusal, put_state};
 
 // The most segments that are listed.
 const SEGMENTS: usize = 16;
@@ -25,26 +24,9 @@ const SEGMENTS: usize = 16;
 pub fn listing(card: &[u8], out: &mut [u8], at: usize) -> usize
     ensures { Puts out.old at (Listing·listing card.now) out.new result }
 {
-    if !is_listable(card) {
-        return put_refusal(out, at, LENGTH);
-    }
     let mut nodes = [0u8; 1280];
-    let mut members = [0u8; 128];
-    match walk(card, &mut nodes, &mut members) {
-        Walked::Sound(_, _) => put_state(out, at, card, &nodes),
-        Walked::Fault(_, _) => put_refusal(out, at, LOG),
+    match read(card, SEGMENTS, &mut nodes) {
+        Ok(()) => put_state(out, at, card, &nodes),
+        Err(refusal) => put_refusal(out, at, refusal),
     }
-}
-
-fn is_listable(card: &[u8]) -> bool
-    ensures { result ≡ listable card.now }
-{
-    if card.len() % SEGMENT != 0 {
-        return false;
-    }
-    let n = card.len() / SEGMENT;
-    if n < 1 {
-        return false;
-    }
-    n <= SEGMENTS
 }

@@ -7,27 +7,23 @@ ghost use Rattle.listing.specs.Page.{list_page, page_text, card_page};
 
 use crate::blocks::{BLOCKS, blocks_of};
 use crate::page_line::{LINE, line_count, put_lines};
-use crate::state_lines::{LENGTH, LOG, put_refusal};
+use crate::read::read;
+use crate::state_lines::put_refusal;
+use crate::taken::put_taken;
 use card_log::entry::LogEntry;
-use card_log::mount::is_card;
-use card_log::walk::{Walked, walk};
+use card_log::mount::SEGMENTS;
 use lists::tables::is_taken;
-use text::line::part;
 
 // The most bytes that a page has: 16 lists and 64 blocks make 21 lines at most.
 pub const PAGE: usize = 861;
-
-const LISTS: u8 = LogEntry::LISTS;
 
 // How many bytes the page has.
 pub fn page_length(nodes: &[u8; 1280]) -> usize
     ensures { OfShown (tables_in nodes.now) (λ rs. result ≡ length (page_text rs)) }
 {
     let mut n = 0;
-    let mut list = 1u8;
-    while list <= LISTS {
+    for list in 1..=LogEntry::LISTS {
         n += list_length(nodes, list);
-        list += 1;
     }
     n
 }
@@ -48,40 +44,16 @@ pub fn put_page(out: &mut [u8], at: usize, nodes: &[u8; 1280]) -> usize
     ensures out_len_unchanged { length out.new ≡ length out.old }
     ensures of_shown { OfShown (tables_in nodes.now) (λ rs. Puts out.old at (page_text rs) out.new result) }
 {
-    let mut position = at;
-    let mut list = 1u8;
-    while list <= LISTS {
-        position = put_list(out, position, nodes, list);
-        list += 1;
-    }
-    position
-}
-
-// A list's lines, where it is taken.
-fn put_list(out: &mut [u8], at: usize, nodes: &[u8; 1280], list: u8) -> usize
-    ensures out_len_unchanged { length out.new ≡ length out.old }
-    ensures of_shown { OfShown (tables_in nodes.now) (λ rs.
-        IsList list → Puts out.old at (joined (list_page rs list)) out.new result) }
-{
-    if !is_taken(nodes, list) {
-        return at;
-    }
-    let mut blocks = [0u8; BLOCKS];
-    let n = blocks_of(nodes, list, &mut blocks);
-    put_lines(out, at, list, part(&blocks, 0, n))
+    put_taken(out, at, nodes, put_lines)
 }
 
 // The page of a card's persistent state, put at a position; the one after the text is returned. `PAGE` bytes are enough for any card.
 pub fn card_page(card: &[u8], out: &mut [u8], at: usize) -> usize
     ensures { Puts out.old at (card_page card.now) out.new result }
 {
-    if !is_card(card) {
-        return put_refusal(out, at, LENGTH);
-    }
     let mut nodes = [0u8; 1280];
-    let mut members = [0u8; 128];
-    match walk(card, &mut nodes, &mut members) {
-        Walked::Sound(_, _) => put_page(out, at, &nodes),
-        Walked::Fault(_, _) => put_refusal(out, at, LOG),
+    match read(card, SEGMENTS, &mut nodes) {
+        Ok(()) => put_page(out, at, &nodes),
+        Err(refusal) => put_refusal(out, at, refusal),
     }
 }

@@ -31,22 +31,16 @@ const PER_LINE: usize = 11;
 pub fn line_count(blocks: usize) -> usize
     ensures { result ≡ line_count blocks }
 {
-    if blocks == 0 {
-        return 1;
-    }
-    (blocks - 1) / PER_LINE + 1
+    blocks.div_ceil(PER_LINE).max(1)
 }
 
 pub fn put_lines(out: &mut [u8], at: usize, list: u8, blocks: &[u8]) -> usize
     requires { length blocks.now ≤ 64 }
     ensures { Puts out.old at (joined (from (page_line list blocks.now) 0 (line_count (length blocks.now)))) out.new result }
 {
-    let lines = line_count(blocks.len());
     let mut position = at;
-    let mut k = 0;
-    while k < lines {
+    for k in 0..line_count(blocks.len()) {
         position = put_line(out, position, list, blocks, k);
-        k += 1;
     }
     position
 }
@@ -78,10 +72,8 @@ fn put_cells(out: &mut [u8], at: usize, blocks: &[u8]) -> usize
     ensures { Puts out.old at (Page·cells blocks.now) out.new result }
 {
     let mut position = at;
-    let mut i = 0;
-    while i < blocks.len() {
-        position = put_right(out, position, BLOCK, blocks[i]);
-        i += 1;
+    for block in blocks {
+        position = put_right(out, position, BLOCK, *block);
     }
     position
 }
@@ -92,7 +84,7 @@ fn put_right(out: &mut [u8], at: usize, columns: usize, n: u8) -> usize
     ensures { Puts out.old at (right_aligned columns n) out.new result }
 {
     let position = put_blanks(out, at, columns - digits(n));
-    put_decimal(out, position, n as u64)
+    put_decimal(out, position, u64::from(n))
 }
 
 fn digits(n: u8) -> usize

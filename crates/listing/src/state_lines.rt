@@ -2,25 +2,22 @@
 ghost use Rattle.std.specs.Prelude.{◌≡◌, ◌++◌, length};
 ghost use Rattle.lists.specs.promises.Tables.{tables_in, OfShown};
 ghost use Rattle.text.specs.Written.{Puts};
+ghost use Rattle.answers.specs.Answers.{number};
 ghost use Rattle.listing.specs.Listing.{refusal_line, head_line, list_lines, block_lines};
 ghost use Rattle.listing.specs.promises.Shown.{sum_at};
 
 use crate::block_lines::put_blocks;
 use crate::head_line::put_head;
 use crate::list_lines::put_lists;
+use answers::Refusal;
 use text::decimal::put_decimal;
 use text::put::{put_byte, put_bytes};
 
-// What a refusal says of a wrong length, and of a log that is not acceptable.
-pub const LENGTH: u64 = 1;
-
-pub const LOG: u64 = 2;
-
-pub fn put_refusal(out: &mut [u8], at: usize, number: u64) -> usize
-    ensures { Puts out.old at (refusal_line number) out.new result }
+pub fn put_refusal(out: &mut [u8], at: usize, refusal: Refusal) -> usize
+    ensures { Puts out.old at (refusal_line (number refusal)) out.new result }
 {
     let mut position = put_bytes(out, at, b"refused ");
-    position = put_decimal(out, position, number);
+    position = put_decimal(out, position, u64::from(refusal));
     put_byte(out, position, b'\n')
 }
 

@@ -8,61 +8,39 @@ use lib.ListN.{length, get_or}
 use Rattle.lists.specs.Basic.{from}
 use Rattle.card_log.specs.Card.{count}
 use Rattle.listing.specs.Listing.{total, used, entries}
-use Rattle.listing.proofs.Lines.{total-step, count_at}
 use Rattle.lists.proofs.Times.{once-most}
+use Rattle.listing.proofs.Lines.{counted, total-step, count_at}
 use Rattle.listing.proofs.head_line.counts.Goals as goal
 
 pub loop-g-init : goal.loop-g-init
 unfolding total from
-loop-g-init c = (omega arith, refl, omega arith, omega arith, refl, refl)
+loop-g-init c = (omega arith, omega arith, refl, refl)
 
-pub overflow_mul-count : goal.overflow_mul-count
-overflow_mul-count c = omega arith
+used-more : (c : goal.After-from-entries)
+    → c.loop-g.used + c.from-used.result ≡ total (from (λ k. cond (ltb 0 (count c.args.card.now k)) 1 0) 0 (c.loop-g.g + 1))
+used-more c =
+    let card = c.args.card.now in
+    let s = c.loop-g in
+    let used-is = c.from-used.ensures ∙ counted (ltb 0 (get_or card (s.g * 4096 + 3584) 0)) in
+    total-step (λ k. cond (ltb 0 (count card k)) 1 0) s.g s.used c.from-used.result s.invariant.2
+    (used-is ∙ ap (λ (n : ℕ). cond (ltb 0 n) 1 0) (count_at card s.g))
 
-pub overflow_add-count : goal.overflow_add-count
-overflow_add-count c = omega arith
-
-pub bounds-card-g : goal.bounds-card-g
-bounds-card-g c = omega arith
-
-pub one_if_used-used-requires : goal.one_if_used-used-requires
-one_if_used-used-requires c = tt
-
-pub overflow_add-used : goal.overflow_add-used
-overflow_add-used c = omega (arith, c.one_if_used-used.ensures, once-most (ltb 0 (get_or c.args.card.now (c.loop-g.g * 4096 + 3584) 0)))
-
-pub overflow_cast-entries : goal.overflow_cast-entries
-overflow_cast-entries c = omega (arith, c.shared_slice_known-in-loop-g-1.given (c.loop-g.g * 4096 + 3584))
-
-pub overflow_add-entries : goal.overflow_add-entries
-overflow_add-entries c = omega (arith, c.shared_slice_known-in-loop-g-1.given (c.loop-g.g * 4096 + 3584))
-
-pub overflow_add-g : goal.overflow_add-g
-overflow_add-g c = omega arith
-
-pub loop-g-smaller : goal.loop-g-smaller
-loop-g-smaller c = omega arith
+entries-more : (c : goal.After-from-entries) → c.loop-g.entries + c.from-entries.result ≡ total (from (count c.args.card.now) 0 (c.loop-g.g + 1))
+entries-more c =
+    let s = c.loop-g in
+    total-step (count c.args.card.now) s.g s.entries c.from-entries.result s.invariant.3 (c.from-entries.ensures ∙ count_at c.args.card.now s.g)
 
 pub loop-g-preserved : goal.loop-g-preserved
 loop-g-preserved c =
-    let card = c.args.card.now in
-    let g = c.loop-g.g in
-    let byte = c.shared_slice_known-in-loop-g-1.given (g * 4096 + 3584) in
-    let one = once-most (ltb 0 (get_or card (g * 4096 + 3584) 0)) in (
-      omega arith,
-      refl,
-      omega (arith, c.one_if_used-used.ensures),
-      omega arith,
-      total-step (λ k. cond (ltb 0 (count card k)) 1 0) g c.loop-g.used c.one_if_used-used.result c.loop-g.invariant.4
-          (c.one_if_used-used.ensures ∙ ap (λ (n : ℕ). cond (ltb 0 n) 1 0) (count_at card g)),
-      total-step (count card) g c.loop-g.entries (get_or card (g * 4096 + 3584) 0) c.loop-g.invariant.5 (count_at card g),
-    )
+    let byte = get_or c.args.card.now (c.loop-g.g * 4096 + 3584) 0 in
+    let used-is = c.from-used.ensures ∙ counted (ltb 0 byte) in
+    let one = once-most (ltb 0 byte) in
+    let fits = c.type_inv.card (c.loop-g.g * 4096 + 3584) in
+    (omega (arith, used-is), omega (arith, c.from-entries.ensures), used-more c, entries-more c)
 
 pub returns : goal.returns
 unfolding used entries
 returns c =
     let card = c.args.card.now in
-    let e : c.loop-g.g ≡ length card / 4096 = omega arith in (
-      c.loop-g.invariant.4 ∙ ap (λ (n : ℕ). total (from (λ k. cond (ltb 0 (count card k)) 1 0) 0 n)) e,
-      c.loop-g.invariant.5 ∙ ap (λ (n : ℕ). total (from (count card) 0 n)) e,
-    )
+    let e : c.loop-g.g ≡ length card / 4096 = omega arith in
+    (rw e at c.loop-g.invariant.2, rw e at c.loop-g.invariant.3)

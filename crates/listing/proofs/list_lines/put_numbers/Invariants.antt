@@ -1,12 +1,8 @@
 -- Each turn puts one number more. Assumes nothing.
-use Prim.Native.Nat.{◌-◌, ◌≤◌}
-use lib.ListN.{length, take}
+use lib.ListN.{take}
 use Rattle.listing.specs.Listing.{numbers}
 use Rattle.text.specs.Written.{Puts}
 use Rattle.listing.proofs.list_lines.put_numbers.Given as goal
 
-abbrev pub invariant-loop-i : goal.invariant-loop-i
-invariant-loop-i l = (l.i ≤ length l.blocks) × Puts l.initial.out l.at (numbers (take l.i l.blocks)) l.out l.position
-
-abbrev pub decreases-loop-i : goal.decreases-loop-i
-decreases-loop-i l = length l.blocks - l.i
+abbrev pub invariant-loop-block : goal.invariant-loop-block
+invariant-loop-block l = Puts l.initial.out l.at (numbers (take l.block-index l.blocks)) l.out l.position

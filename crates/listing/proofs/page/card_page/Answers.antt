@@ -1,32 +1,12 @@
--- By the walk, whose tables show the state that the page is of. Assumes nothing.
-use mathlib.Core.Path.{◌≡◌, sym, ◌∙◌}
-use mathlib.Core.Bool.{true}
-use borrow.Author.Tests.{not-true, not-false}
+-- By what reading the card answers. Assumes nothing.
 use Rattle.lists.proofs.Lookup.{lists-shown}
-use Rattle.card_log.specs.Card.{card_length}
-use Rattle.listing.proofs.CardPage.{card-refused, card-fault, card-sound}
+use Rattle.listing.proofs.CardPage.{card-refused, card-shown}
 use Rattle.listing.proofs.page.card_page.Goals as goal
 
-pub returns-then-not-is_card : goal.returns-then-not-is_card
-returns-then-not-is_card c =
-    let card = c.args.card.now in
-    rw (card-refused card (sym c.is_card.ensures ∙ not-true c.is_card.result c.if-not-is_card.true-raw))
-    c.put_refusal.ensures
+pub returns-in-Ok : goal.returns-in-Ok
+returns-in-Ok c =
+    let (fits, s) = c.in-Ok.ensures in
+    rw (card-shown _ _ fits s) (c.put_page.ensures.of_shown s.here.lists (lists-shown _ s.here s.shows))
 
-pub walk-requires : goal.walk-requires
-walk-requires c =
-    sym c.is_card.ensures ∙ not-false c.is_card.result c.if-not-is_card.false-raw
-
-pub returns-in-Sound : goal.returns-in-Sound
-returns-in-Sound c =
-    let card = c.args.card.now in
-    let h : card_length card ≡ true = sym c.is_card.ensures ∙ not-false c.is_card.result c.if-not-is_card.false-raw in
-    let w = rw c.in-Sound.is at c.walk.ensures in
-    rw (card-sound card h w.reader w.walked) (c.put_page.ensures.of_shown w.reader.state.lists (lists-shown _ w.reader.state w.kept.shows))
-
-pub returns-in-Fault : goal.returns-in-Fault
-returns-in-Fault c =
-    let card = c.args.card.now in
-    let h : card_length card ≡ true = sym c.is_card.ensures ∙ not-false c.is_card.result c.if-not-is_card.false-raw in
-    let w = rw c.in-Fault.is at c.walk.ensures in
-    rw (card-fault card h _ _ w) c.put_refusal-in-Fault.ensures
+pub returns-in-Err : goal.returns-in-Err
+returns-in-Err c = rw (card-refused _ _ c.in-Err.ensures) c.put_refusal.ensures

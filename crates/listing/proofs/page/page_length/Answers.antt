@@ -12,33 +12,19 @@ use Rattle.listing.proofs.page.page_length.Goals as goal
 
 pub loop-list-init : goal.loop-list-init
 unfolding joined from
-loop-list-init c = (omega arith, omega arith, omega arith, λ rs w. refl)
-
-pub list_length-n-requires : goal.list_length-n-requires
-list_length-n-requires c = tt
-
-pub overflow_add-n : goal.overflow_add-n
-overflow_add-n c = let s = c.loop-list in omega (arith, s.invariant.2, c.list_length-n.ensures.upper_bound)
-
-pub overflow_add-list : goal.overflow_add-list
-overflow_add-list c = omega arith
-
-pub loop-list-smaller : goal.loop-list-smaller
-loop-list-smaller c = omega arith
+loop-list-init c = (omega arith, λ rs w. refl)
 
 pub loop-list-preserved : goal.loop-list-preserved
 loop-list-preserved c =
     let s = c.loop-list in (
-      omega arith,
-      omega arith,
-      omega (arith, s.invariant.2, c.list_length-n.ensures.upper_bound),
+      omega (arith, s.invariant.0, c.list_length-n.ensures.upper_bound),
       λ rs w.
           let f : ℕ → List ℕ = λ l. joined (list_page rs l) in
-          rw (lines_more f s.list (omega arith), length-append (joined (from f 1 (s.list - 1))) (f s.list), ← (s.invariant.3 rs w), ← (c.list_length-n.ensures.of_shown rs w (omega arith, omega arith))),
+          rw (lines_more f s.list (omega arith), length-append (joined (from f 1 (s.list - 1))) (f s.list), ← (s.invariant.1 rs w), ← (c.list_length-n.ensures.of_shown rs w (omega arith, omega arith))),
     )
 
 pub returns : goal.returns
-returns c =
+returns c = λ rs w.
     let s = c.loop-list in
     let e : s.list - 1 ≡ 16 = omega arith in
-    λ rs w. rw (page-by-list rs, ← e) (s.invariant.3 rs w)
+    rw (page-by-list rs, ← e) (s.invariant.1 rs w)

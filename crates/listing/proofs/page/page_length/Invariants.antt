@@ -9,8 +9,4 @@ use Rattle.listing.proofs.page.page_length.Given as goal
 
 abbrev pub invariant-loop-list : goal.invariant-loop-list
 invariant-loop-list l =
-    (1 ≤ l.list) × (l.list ≤ 17) × (l.n ≤ 246 * (l.list - 1))
-    × OfShown (tables_in l.nodes) (λ rs. l.n ≡ length (joined (from (λ l. joined (list_page rs l)) 1 (l.list - 1))))
-
-abbrev pub decreases-loop-list : goal.decreases-loop-list
-decreases-loop-list l = 17 - l.list
+    (l.n ≤ 246 * (l.list - 1)) × OfShown (tables_in l.nodes) (λ rs. l.n ≡ length (joined (from (λ k. joined (list_page rs k)) 1 (l.list - 1))))

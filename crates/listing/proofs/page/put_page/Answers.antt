@@ -1,43 +1,6 @@
--- Each turn puts one list's lines more. Assumes nothing.
-use mathlib.Core.Path.{◌≡◌, refl, ◌∙◌}
-use Prim.Native.Nat.{◌-◌}
-use native.Mathlib.Omega.{arith}
-use Rattle.lists.specs.Basic.{from, joined}
-use Rattle.text.proofs.Writing.{puts_none, puts-more}
-use Rattle.listing.specs.Page.{list_page}
-use Rattle.listing.proofs.Lines.{lines_more}
-use Rattle.listing.proofs.Pages.{page-by-list}
+-- The lines of each list taken. Assumes nothing.
+use Rattle.listing.proofs.Pages.{page-taken, page_part}
 use Rattle.listing.proofs.page.put_page.Goals as goal
 
-pub loop-list-init : goal.loop-list-init
-unfolding joined from
-loop-list-init c = let a = c.args in (omega arith, omega arith, refl, λ rs w. puts_none a.out.now a.at)
-
-pub put_list-position-requires : goal.put_list-position-requires
-put_list-position-requires c = tt
-
-pub overflow_add-list : goal.overflow_add-list
-overflow_add-list c = omega arith
-
-pub loop-list-smaller : goal.loop-list-smaller
-loop-list-smaller c = omega arith
-
-pub loop-list-preserved : goal.loop-list-preserved
-loop-list-preserved c =
-    let s = c.loop-list in (
-      omega arith,
-      omega arith,
-      c.put_list-position.ensures.out_len_unchanged ∙ s.invariant.2,
-      λ rs w.
-          rw (lines_more (λ l. joined (list_page rs l)) s.list (omega arith))
-          (puts-more (s.invariant.3 rs w) (c.put_list-position.ensures.of_shown rs w (omega arith, omega arith))),
-    )
-
-pub shape_of-out : goal.shape_of-out
-shape_of-out c = c.loop-list.invariant.2
-
-pub returns : goal.returns
-returns c =
-    let s = c.loop-list in
-    let e : s.list - 1 ≡ 16 = omega arith in
-    record { out_len_unchanged = s.invariant.2; of_shown = λ rs w. rw (page-by-list rs, ← e) (s.invariant.3 rs w) }
+pub returns-clause-of_shown : goal.returns-clause-of_shown
+returns-clause-of_shown c = λ rs w. rw (page-taken rs) (c.put_taken.ensures.of_shown page_part (λ out at l bs r left h. h) rs w)

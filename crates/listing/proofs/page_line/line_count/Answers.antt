@@ -3,10 +3,6 @@ use native.Mathlib.Omega.{arith}
 use Rattle.listing.specs.Page.{line_count}
 use Rattle.listing.proofs.page_line.line_count.Goals as goal
 
-pub returns-then-blocks-eq0 : goal.returns-then-blocks-eq0
-unfolding line_count
-returns-then-blocks-eq0 c = omega arith
-
 pub returns : goal.returns
 unfolding line_count
-returns c = omega arith
+returns c = omega (arith, c.max.ensures, c.div_ceil.ensures)

@@ -1,13 +1,8 @@
 -- Each turn puts one line more. Assumes nothing.
-use Prim.Native.Nat.{◌-◌, ◌≤◌}
 use Rattle.lists.specs.Basic.{from, joined}
 use Rattle.text.specs.Written.{Puts}
 use Rattle.listing.specs.Page.{page_line}
 use Rattle.listing.proofs.page_line.put_lines.Given as goal
 
 abbrev pub invariant-loop-k : goal.invariant-loop-k
-invariant-loop-k l =
-    (l.k ≤ l.lines) × (l.lines ≤ 6) × Puts l.initial.out l.at (joined (from (page_line l.list l.blocks) 0 l.k)) l.out l.position
-
-abbrev pub decreases-loop-k : goal.decreases-loop-k
-decreases-loop-k l = l.lines - l.k
+invariant-loop-k l = Puts l.initial.out l.at (joined (from (page_line l.list l.blocks) 0 l.k)) l.out l.position

@@ -8,4 +8,4 @@ pub returns : goal.returns
 returns c =
     let d = c.digits.ensures in
     let a = c.args in
-    rw (aligned-fits a.columns a.n (omega (arith, d.0, d.1)), ← d.0) (puts-more c.put_blanks-position.ensures c.put_decimal.ensures)
+    rw (aligned-fits a.columns a.n (omega (arith, d.0, d.1)), ← d.0) (puts-more c.put_blanks-position.ensures (rw c.from.ensures at c.put_decimal.ensures))

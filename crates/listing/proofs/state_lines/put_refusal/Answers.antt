@@ -6,4 +6,4 @@ use Rattle.listing.proofs.state_lines.put_refusal.Goals as goal
 pub returns : goal.returns
 unfolding refusal_line
 returns c =
-    puts-more (puts-more c.put_bytes-position.ensures c.put_decimal-position.ensures) c.put_byte.ensures
+    puts-more (puts-more c.put_bytes-position.ensures (rw c.from.ensures at c.put_decimal-position.ensures)) c.put_byte.ensures
