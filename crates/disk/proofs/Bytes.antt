@@ -1,20 +1,22 @@
 -- The record in its bytes: a byte stored changes one part, and leaves the others.
 use mathlib.Core.Path.{◌≡◌, refl, sym, ap, ◌∙◌}
-use mathlib.Core.Logic.{◌≢◌, ◌⊎◌, inl, inr, ⊎_elim}
+use mathlib.Core.Logic.{◌≢◌, ◌⊎◌, inl, inr}
 use mathlib.Core.Bool.{true, cond}
-use mathlib.Core.List.{List, ◌∷◌, map}
-use Prim.Native.Nat.{ℕ, zero, suc, ◌+◌, ◌-◌, ◌*◌, ◌≤◌, ◌<◌}
+use mathlib.Core.List.{List, [], ◌∷◌, ◌++◌, map, append-nil}
+use Prim.Native.Nat.{ℕ, zero, suc, ◌+◌, ◌-◌, ◌*◌, ◌/◌, ◌%◌, ◌≤◌, ◌<◌}
 use native.Mathlib.Omega.{arith}
 use native.Mathlib.Nat.{zero-add}
 use native.Mathlib.Decide.{dec_lt, ℕ_discrete}
 use lib.Dec.{eqb}
-use lib.ListN.{length, get_or, set, length-set}
-use lib.Seq.{ext_get_or, get_or-set_same, get_or-set_other}
+use lib.ListN.{length, get_or, set, take, drop, length-set, length-drop, length-map, get_or-append}
+use Rattle.std.proofs.lemmas.List.{take_all, drop_all}
+use lib.Seq.{ext_get_or, get_or-set_same, get_or-set_other, get_or-take, get_or-drop, get_or-append-add, get_or-append_right, length-take-le}
+use borrow.Rule.Slice.PartMut.{put_mid, post_of}
 use Rattle.lists.specs.Basic.{from}
 use Rattle.lists.proofs.Basic.{from-length, from-get, from-ext}
 use Rattle.card_log.specs.Cell.{Cell, cell}
-use Rattle.disk.specs.Record.{Unit, unit, cells_in, bytes_in, pair_in, pairs_in, unit_in, record_in, no_cell, no_unit, unit_at, shaped, Ring, Held, Tally, with_ring, with_flow, with_held, with_tally, emptied, releasing, released}
-use Rattle.disk.specs.promises.Bytes.{cell_set}
+use Rattle.disk.specs.Record.{Unit, unit, cells_in, bytes_in, pair_in, pairs_in, unit_in, record_in, no_cell, no_unit, unit_at, shaped, Ring, Held, Tally, with_ring, with_flow, with_held, with_tally, with_count, emptied, releasing, released}
+use Rattle.disk.specs.promises.Bytes.{cell_set, pair_set}
 
 -- A list by its elements' numbers, with one element changed.
 from-set : {A : Type 0} (z : A) (f g : ℕ → A) (n x : ℕ) (v : A) → x < n → g x ≡ v → ((i : ℕ) → i < n → i ≢ x → g i ≡ f i) → from g 0 n ≡ set (from f 0 n) x v
@@ -53,6 +55,62 @@ pair_read bs a n k l = from-get (λ j. pair_in bs (a + 2 * j)) 0 n k 0 l ∙ ap 
 pub unit-read : (bs : List ℕ) (u : ℕ) → 1 ≤ u → u ≤ 4 → unit_at (record_in bs) u ≡ unit_in bs (u - 1)
 unfolding record_in
 unit-read bs u p q = from-get (unit_in bs) 0 4 (u - 1) no_unit (omega arith) ∙ ap (unit_in bs) (zero-add (u - 1))
+
+-- A part of the bytes.
+pub part-read : (bs : List ℕ) (a n : ℕ) → a + n ≤ length bs → take n (drop a bs) ≡ bytes_in bs a n
+part-read bs a n l =
+    ext_get_or 0 (take n (drop a bs)) (bytes_in bs a n) (part-length ∙ sym (bytes-length bs a n))
+    (λ i h. get_or-take n (drop a bs) i 0 (omega (arith, part-length)) ∙ get_or-drop a bs i 0 ∙ sym (byte-read bs a n i (omega (arith, part-length))))
+  where
+    part-length : length (take n (drop a bs)) ≡ n
+    part-length = length-take-le n (drop a bs) (omega (arith, length-drop a bs))
+
+pub ruleset reads = (byte-read, pair_read, unit-read, cell-read, part-read)
+
+-- Others in its place.
+module _ (bs ys : List ℕ) (a k : ℕ) (l : a + k ≤ length bs) (m : length ys ≡ k) where
+  front-length : length (take a bs) ≡ a
+  front-length = length-take-le a bs (omega arith)
+
+  put-here : (i : ℕ) → i < k → get_or (put_mid a k bs ys) (a + i) 0 ≡ get_or ys i 0
+  put-here i h =
+      let e : a + i ≡ length (take a bs) + i = omega (arith, front-length) in
+      ap (λ (j : ℕ). get_or (put_mid a k bs ys) j 0) e ∙ get_or-append-add (take a bs) (ys ++ post_of a k bs) i 0 ∙ get_or-append ys (post_of a k bs) 0 i (omega arith)
+
+  put-other : (j : ℕ) → j < a ⊎ a + k ≤ j → get_or (put_mid a k bs ys) j 0 ≡ get_or bs j 0
+  put-other j (inl h) = get_or-append (take a bs) (ys ++ post_of a k bs) 0 j (omega (arith, front-length)) ∙ get_or-take a bs j 0 h
+  put-other j (inr h) =
+      let e : j - length (take a bs) - length ys ≡ j - a - k = omega (arith, front-length) in
+      get_or-append_right (take a bs) (ys ++ post_of a k bs) j 0 (omega (arith, front-length))
+      ∙ get_or-append_right ys (post_of a k bs) (j - length (take a bs)) 0 (omega (arith, front-length))
+      ∙ ap (λ (i : ℕ). get_or (post_of a k bs) i 0) e
+      ∙ get_or-drop k (drop a bs) (j - a - k) 0 ∙ get_or-drop a bs (k + (j - a - k)) 0
+      ∙ ap (λ (i : ℕ). get_or bs i 0) (omega arith)
+
+  put-bytes : bytes_in (put_mid a k bs ys) a k ≡ ys
+  put-bytes =
+      ext_get_or 0 (bytes_in (put_mid a k bs ys) a k) ys (bytes-length (put_mid a k bs ys) a k ∙ sym m)
+      (λ i h. let n : i < k = omega (arith, bytes-length (put_mid a k bs ys) a k) in byte-read (put_mid a k bs ys) a k i n ∙ put-here i n)
+
+-- A number in two of them.
+pair_sum : (n : ℕ) → n < 65536 → n % 256 + 256 * (n / 256 % 256) ≡ n
+pair_sum n h = omega arith
+
+pub pair-put : (bs ys : List ℕ) (a k n : ℕ) → k ≡ 2 → a + 2 ≤ length bs → ys ≡ n % 256 ∷ n / 256 % 256 ∷ [] → put_mid a k bs ys ≡ pair_set bs a n
+pair-put bs ys a k n e l q = rw (e, q) (go a bs l)
+  where
+    x : ℕ
+    x = n % 256
+
+    y : ℕ
+    y = n / 256 % 256
+
+    go : (a : ℕ) (bs : List ℕ) → a + 2 ≤ length bs → put_mid a 2 bs (x ∷ y ∷ []) ≡ set (set bs a x) (a + 1) y
+    go zero (b ∷ c ∷ bs) l = refl
+    go zero (b ∷ []) l = absurd (omega arith)
+    go zero [] l = absurd (omega arith)
+    go (suc a) [] l = absurd (omega arith)
+    go (suc a) (b ∷ bs) l = let e : suc a + 1 ≡ suc (a + 1) = omega arith in rw e (ap (λ (zs : List ℕ). b ∷ zs) (go a bs (omega arith)))
 
 -- Bytes that agree from a up to e.
 abbrev Agree : List ℕ → List ℕ → ℕ → ℕ → Type 0
@@ -219,10 +277,10 @@ module _ (bs : List ℕ) (l : length bs ≡ 573) where
   twice : (i v k w j : ℕ) → j ≢ i → j ≢ k → get_or (set (set bs i v) k w) j 0 ≡ get_or bs j 0
   twice i v k w j n m = get_or-set_other (set bs i v) k j w 0 m ∙ away i v j n
 
-  pub count-in : (x a b : ℕ) → x < 16
+  count-bytes : (x a b : ℕ) → x < 16
       → record_in (set (set bs (461 + 2 * x) a) (461 + 2 * x + 1) b) ≡ with_tally (record_in bs) (record_in bs).tally.order (record_in bs).tally.listed (set (record_in bs).tally.conflicts x (a + 256 * b))
   unfolding record_in pairs_in
-  count-in x a b h =
+  count-bytes x a b h =
       let y = 461 + 2 * x in
       let cs = set (set bs y a) (y + 1) b in
       let other = twice y a (y + 1) b in
@@ -237,6 +295,9 @@ module _ (bs : List ℕ) (l : length bs ≡ 573) where
             from-set 0 (λ k. pair_in bs (461 + 2 * k)) (λ k. pair_in cs (461 + 2 * k)) 16 x (a + 256 * b) h (λ j. low j + 256 * high j)
             (λ k l n. same-pair bs cs (461 + 2 * k) (λ j p q. other j (λ z. n (omega arith)) (λ z. n (omega arith)))) i;
       })
+
+  pub count-in : (w n : ℕ) → 1 ≤ w → w ≤ 16 → n < 65536 → record_in (pair_set bs (461 + 2 * (w - 1)) n) ≡ with_count (record_in bs) w n
+  count-in w n p q h = count-bytes (w - 1) (n % 256) (n / 256 % 256) (omega arith) ∙ ap (with_count (record_in bs) w) (pair_sum n h)
 
   pub turn_in : (i o : ℕ) → i < 4 → record_in (set (set bs (368 + i) o) (372 + i) 0) ≡ with_held (record_in bs) (set (record_in bs).held.units i (emptied o (unit_in bs i))) (record_in bs).held.holder
   unfolding record_in unit_in
@@ -314,9 +375,9 @@ module _ (bs : List ℕ) (l : length bs ≡ 573) where
   flowed h n a b j (inr m) =
       get_or-set_other (set (set (set bs 456 h) 457 n) 458 a) 459 j b 0 (λ z. omega arith) ∙ get_or-set_other (set (set bs 456 h) 457 n) 458 j a 0 (λ z. omega arith) ∙ twice 456 h 457 n j (λ z. omega arith) (λ z. omega arith)
 
-  pub flow-in : (h n a b : ℕ) → record_in (set (set (set (set bs 456 h) 457 n) 458 a) 459 b) ≡ with_flow (record_in bs) h n (a + 256 * b)
+  flow-bytes : (h n a b : ℕ) → record_in (set (set (set (set bs 456 h) 457 n) 458 a) 459 b) ≡ with_flow (record_in bs) h n (a + 256 * b)
   unfolding record_in
-  flow-in h n a b =
+  flow-bytes h n a b =
       let x = set bs 456 h in
       let y = set x 457 n in
       let w = set y 458 a in
@@ -332,52 +393,38 @@ module _ (bs : List ℕ) (l : length bs ≡ 573) where
       parts cs (λ i. record { queue = cells_agree bs cs 0 32 (λ j p q. other j (inl (omega arith))) i; head = head i; len = len i; done = low i + 256 * high i })
       (same-held bs cs (λ j p q. other j (inl (omega arith)))) (same-tally bs cs (λ j p q. other j (inr (omega arith))))
 
--- What unit u holds, given up block by block: bytes cs when those before number i + 1 are done.
-pub record Freed (u : ℕ) (bs cs : List ℕ) (i : ℕ) : Type 0 where
-  pub size : length cs ≡ 573
-  pub done : (k : ℕ) → k < i → get_or cs (376 + k) 0 ≡ cond (eqb (get_or bs (376 + k) 0) u) 0 (get_or bs (376 + k) 0)
-  pub others : (j : ℕ) → j < 376 ⊎ 376 + i ≤ j → get_or cs j 0 ≡ get_or bs j 0
+  pub flow-in : (h n k : ℕ) → k < 65536 → record_in (pair_set (set (set bs 456 h) 457 n) 458 k) ≡ with_flow (record_in bs) h n k
+  flow-in h n k q = flow-bytes h n (k % 256) (k / 256 % 256) ∙ ap (with_flow (record_in bs) h n) (pair_sum k q)
 
-pub freed-none : (u : ℕ) (bs : List ℕ) → length bs ≡ 573 → Freed u bs bs 0
-freed-none u bs l = record { size = l; done = λ k h. absurd (omega arith); others = λ j h. refl }
-
-pub freed-more : (u : ℕ) (bs cs : List ℕ) (i v : ℕ) → i < 80 → Freed u bs cs i → v ≡ cond (eqb (get_or cs (376 + i) 0) u) 0 (get_or cs (376 + i) 0)
-    → Freed u bs (set cs (376 + i) v) (i + 1)
-freed-more u bs cs i v l f e =
-    record {
-      size = length-set cs (376 + i) v ∙ f.size;
-      done = λ k h. at k h (ℕ_discrete k i);
-      others = λ j h. ⊎_elim (λ n. get_or-set_other cs (376 + i) j v 0 (λ z. omega arith) ∙ f.others j (inl n)) (λ n. get_or-set_other cs (376 + i) j v 0 (λ z. omega arith) ∙ f.others j (inr (omega arith))) h;
-    }
-  where
-    here : get_or (set cs (376 + i) v) (376 + i) 0 ≡ cond (eqb (get_or bs (376 + i) 0) u) 0 (get_or bs (376 + i) 0)
-    here =
-        get_or-set_same cs (376 + i) v 0 (omega (arith, f.size))
-        ∙ e
-        ∙ ap (λ (h : ℕ). cond (eqb h u) 0 h) (f.others (376 + i) (inr (omega arith)))
-
-    at : (k : ℕ) → k < i + 1 → Dec (k ≡ i) → get_or (set cs (376 + i) v) (376 + k) 0 ≡ cond (eqb (get_or bs (376 + k) 0) u) 0 (get_or bs (376 + k) 0)
-    at k h (yes n) = rw n here
-    at k h (no n) = get_or-set_other cs (376 + i) (376 + k) v 0 (λ z. n (omega arith)) ∙ f.done k (omega arith)
-
-map-from : (f g : ℕ → ℕ) (k n : ℕ) → map f (from g k n) ≡ from (λ i. f (g i)) k n
-unfolding from
-map-from f g k zero = refl
-map-from f g k (suc n) = ap {B = List ℕ} (λ r. f (g k) ∷ r) (map-from f g (suc k) n)
-
-holders-freed : (u : ℕ) (bs cs : List ℕ) (i : ℕ) → 80 ≤ i → Freed u bs cs i → bytes_in cs 376 80 ≡ released u (bytes_in bs 376 80)
-unfolding bytes_in released
-holders-freed u bs cs i h f =
-    from-ext (λ k. get_or cs (376 + k) 0) (λ k. cond (eqb (get_or bs (376 + k) 0) u) 0 (get_or bs (376 + k) 0)) 80 (λ k l. f.done k (omega arith))
-    ∙ sym (map-from (λ x. cond (eqb x u) 0 x) (λ k. get_or bs (376 + k) 0) 0 80)
-
-pub freed-all : (u : ℕ) (bs cs : List ℕ) (i : ℕ) → i ≤ 80 → 80 ≤ i → Freed u bs cs i → record_in cs ≡ releasing u (record_in bs)
+holder-bytes : (bs : List ℕ) → (record_in bs).held.holder ≡ bytes_in bs 376 80
 unfolding record_in
-freed-all u bs cs i n h f =
-    let high : (j : ℕ) → 456 ≤ j → get_or cs j 0 ≡ get_or bs j 0 = λ j m. f.others j (inr (omega arith)) in
-    parts cs (same-ring bs cs (λ j p q. f.others j (inl (omega arith))) (λ j p q. high j p))
-    (λ x. record { units = same_units bs cs (λ j p q. f.others j (inl (omega arith))) x; holder = holders-freed u bs cs i h f x })
-    (same-tally bs cs (λ j p q. high j (omega arith)))
+holder-bytes bs = refl
+
+-- What unit u holds, given up: other bytes in the holders' place.
+holder-put : (bs ys : List ℕ) → length bs ≡ 573 → length ys ≡ 80 → record_in (put_mid 376 80 bs ys) ≡ with_held (record_in bs) (record_in bs).held.units ys
+unfolding record_in
+holder-put bs ys l m =
+    let cs = put_mid 376 80 bs ys in
+    let other : (j : ℕ) → j < 376 ⊎ 456 ≤ j → get_or cs j 0 ≡ get_or bs j 0 = put-other bs ys 376 80 (omega arith) m in
+    parts cs (same-ring bs cs (λ j p q. other j (inl (omega arith))) (λ j p q. other j (inr p)))
+    (λ x. record { units = same_units bs cs (λ j p q. other j (inl q)) x; holder = put-bytes bs ys 376 80 (omega arith) m x })
+    (same-tally bs cs (λ j p q. other j (inr (omega arith))))
+
+pub released_in : (u : ℕ) (bs ys : List ℕ) (i : ℕ) → length bs ≡ 573 → length (take 80 (drop 376 bs)) ≤ i
+    → ys ≡ map (λ h. cond (eqb h u) 0 h) (take i (take 80 (drop 376 bs))) ++ drop i (take 80 (drop 376 bs)) → record_in (put_mid 376 80 bs ys) ≡ releasing u (record_in bs)
+unfolding released
+released_in u bs ys i l h e =
+    let hs = bytes_in bs 376 80 in
+    let n : length hs ≡ 80 = bytes-length bs 376 80 in
+    let mid = part-read bs 376 80 (omega arith) in
+    let m : length hs ≤ i = rw mid at h in
+    let q : ys ≡ released u hs =
+    e ∙ ap (λ (ms : List ℕ). released u (take i ms) ++ drop i ms) mid
+    ∙ rw (take_all i hs (omega arith), drop_all i hs (omega arith)) (append-nil (released u hs)) in
+    holder-put bs ys l (ap length q ∙ length-map hs (λ h. cond (eqb h u) 0 h) ∙ n)
+    ∙ ap (λ (zs : List ℕ). with_held (record_in bs) (record_in bs).held.units zs) (q ∙ ap (released u) (sym (holder-bytes bs)))
+
+pub ruleset writes = (listed_in_lem, order-in, holder_in, count-in, turn_in, append-in, journal-in, flow-in, unit-read)
 
 -- Every record that bytes mean has its shape.
 pub in-shaped : (bs : List ℕ) → shaped (record_in bs) ≡ true

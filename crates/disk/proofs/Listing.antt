@@ -1,28 +1,32 @@
 -- The order of the free numbers as a record holds it, the numbers listed and 0 in the places behind them: a number at its end, one taken out, the free
 -- numbers that tables show at its end; and what the loops that do so, or look a number up, have done when they stand at a place.
 use mathlib.Core.Path.{◌≡◌, refl, sym, ap, ◌∙◌, subst}
-use mathlib.Core.Logic.{◌≢◌, ◌⊎◌, inl, inr}
-use mathlib.Core.Bool.{Bool, true, false, not, cond}
+use mathlib.Core.Logic.{◌≢◌}
+use mathlib.Core.Bool.{Bool, true, false, not, cond, ◌&&◌, ◌||◌}
 use mathlib.Core.Option.{some}
 use mathlib.Core.List.{List, [], ◌∷◌, ◌++◌, append_assoc, append-nil}
 use Prim.Native.Nat.{ℕ, suc, ◌+◌, ◌-◌, ◌≤◌, ◌<◌}
 use native.Mathlib.Omega.{arith}
 use native.Mathlib.Decide.{dec_lt}
-use lib.Dec.{eqb}
+use lib.Dec.{eqb, leb, ltb, eqb-suc-zero}
 use lib.ListN.{length, take, get_or, set, replicate, length-take, length-append, length-replicate, replicate-append-replicate}
-use lib.Seq.{take-append_seam, set-append_seam, append_snoc, set_at, get_or_at, slice, slice_empty, slice-cons}
+use Rattle.std.proofs.Common.{Option, Some, None}
+use Rattle.std.specs.List.{list_any, find}
+use Rattle.std.specs.Option.{option_map}
+use lib.Seq.{take-append_seam, set-append_seam, append_snoc, set_at, get_or_at}
 use Rattle.lists.specs.Basic.{all, keep, times}
 use Rattle.lists.specs.InUse.{is_number}
 use Rattle.lists.specs.State.{Row}
 use Rattle.lists.specs.promises.Tables.{Tables, ShowsWith, OfShownAll, SaysFreeAfter, first_or0, last_or0}
-use Rattle.lists.proofs.Basic.{and-true, all_split, lt-true, le-true, gt-false, ge-false}
+use Rattle.lists.proofs.Basic.{and-true, all_split, lt-true, ge-false}
 use Rattle.lists.proofs.Times.{times-other, times-append, times-cons, none-away}
 use Rattle.lists.proofs.Listed.{number-range}
 use Rattle.lists.proofs.Chain.{last_snoc}
 use Rattle.lists.proofs.FreeRow.{shown-numbers, shown-fits, free-after-shown}
+use Rattle.disk.proofs.Bytes.{order-length}
 use Rattle.disk.specs.Record.{Record, Tally, listed_in, padded, with_tally, with_listed}
 use Rattle.disk.specs.Questions.{first_free}
-use Rattle.disk.specs.promises.Listing.{with_place, with_many, Padded, Reorders, unlisted, listed_last, pushed, pushed_all, Moves, ListsFree}
+use Rattle.disk.specs.promises.Listing.{as_option, with_place, with_many, Padded, Reorders, unlisted, listed_last, pushed, pushed_all, Moves, ListsFree}
 
 -- The places.
 padded-length : (fs : List ℕ) → length fs ≤ 80 → length (padded fs) ≡ 80
@@ -328,30 +332,43 @@ sifted-all n r k j r' m h s = go s.numbers s.gap s.left s.sifts
 pub sifted-within : (n : ℕ) (r : Record) (k j : ℕ) (r' : Record) → Sifted n r k j r' → j ≤ k
 sifted-within n r k j r' s = omega (arith, s.sifts.place)
 
--- Looking a number up: those from place k on are left.
-abbrev pub left_at : ℕ → Record → List ℕ
-left_at k r = slice k r.tally.listed r.tally.order
+pub ruleset sifting = (sifted-none, sifted-more, sifted-all, sifted-within, order-length)
 
-pub left-first : (r : Record) → left_at 0 r ≡ listed_in r
-unfolding listed_in
-left-first r = refl
+pub ruleset pushing = (pushed-put, pushed-full, order-length)
 
-pub left-more : (r : Record) → length r.tally.order ≡ 80 → r.tally.listed ≤ 80 → (k : ℕ) → k < r.tally.listed → left_at k r ≡ get_or r.tally.order k 0 ∷ left_at (k + 1) r
-left-more r l m k h =
-    let e : suc k ≡ k + 1 = omega arith in
-    slice-cons k r.tally.listed r.tally.order 0 h (omega arith) ∙ ap (λ (i : ℕ). get_or r.tally.order k 0 ∷ left_at i r) e
+-- Looking a number up.
+listed-any : (n : ℕ) (ns : List ℕ) → list_any (λ m. eqb m n) ns ≡ not (eqb (times n ns) 0)
+unfolding times
+listed-any n [] = refl
+listed-any n (m ∷ ns) = go (eqb m n) (listed-any n ns)
+  where
+    go : (b : Bool) → list_any (λ m. eqb m n) ns ≡ not (eqb (times n ns) 0) → b || list_any (λ m. eqb m n) ns ≡ not (eqb (cond b (suc (times n ns)) (times n ns)) 0)
+    go true h = sym (ap not (eqb-suc-zero (times n ns)))
+    go false h = h
 
-pub left-none : (r : Record) (k : ℕ) → k ≡ r.tally.listed → left_at k r ≡ []
-left-none r k e = ap (λ (i : ℕ). left_at i r) e ∙ slice_empty r.tally.listed r.tally.order
+pub listed_any : (n : ℕ) (ns ms : List ℕ) (b : Bool) → ms ≡ ns → b ≡ list_any (λ m. eqb m n) ms → b ≡ not (eqb (times n ns) 0)
+listed_any n ns ms b e h = h ∙ ap (list_any (λ m. eqb m n)) e ∙ listed-any n ns
 
-pub first-here : (m k n : ℕ) (ns : List ℕ) → m < n → n ≤ m + k → first_free m k (n ∷ ns) ≡ some (n - m)
+-- A number of a kind behind m, k of them: the first, as code finds it.
+first-of : (m k : ℕ) (ns : List ℕ) → as_option (option_map (λ n. n - m) (find (λ n. ltb m n && leb n (m + k)) ns)) ≡ first_free m k ns
 unfolding first_free
-first-here m k n ns h l = rw (lt-true m n h, le-true n (m + k) l, first_free)
+first-of m k [] = refl
+first-of m k (n ∷ ns) = go (ltb m n && leb n (m + k)) (first-of m k ns)
+  where
+    found : Option ℕ
+    found = find (λ n. ltb m n && leb n (m + k)) ns
 
-pub first-other : (m k n : ℕ) (ns : List ℕ) → n ≤ m ⊎ m + k < n → first_free m k (n ∷ ns) ≡ first_free m k ns
-unfolding first_free
-first-other m k n ns (inl h) = rw (ge-false m n h, first_free)
-first-other m k n ns (inr h) = rw (lt-true m n (omega arith), gt-false n (m + k) h, first_free)
+    go : (b : Bool) → as_option (option_map (λ n. n - m) found) ≡ first_free m k ns → as_option (option_map (λ n. n - m) (cond b (Some n) found)) ≡ elim b [ true ↦ some (n - m) | false ↦ first_free m k ns ]
+    go true h = refl
+    go false h = h
+
+pub first-found : {A : Type 0} (m k : ℕ) (ns : List ℕ) (v : A → ℕ) (o : Option A) → option_map v o ≡ find (λ n. ltb m n && leb n (m + k)) ns
+    → as_option (option_map (λ x. v x - m) o) ≡ first_free m k ns
+first-found {A} m k ns v o e = twice o ∙ ap (λ (p : Option ℕ). as_option (option_map (λ n. n - m) p)) e ∙ first-of m k ns
+  where
+    twice : (o : Option A) → as_option (option_map (λ x. v x - m) o) ≡ as_option (option_map (λ n. n - m) (option_map v o))
+    twice None = refl
+    twice (Some x) = refl
 
 -- The free numbers that tables show, from x on: those up to x are passed, at least i, and the ones ahead are what is left to join r'.
 pub record Joins (fs post : List ℕ) (r : Record) (x i : ℕ) (r' : Record) (passed ahead : List ℕ) : Type 0 where

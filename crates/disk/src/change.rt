@@ -1,9 +1,11 @@
 // One part of the record changed: the queue, a unit, the holders, the order of the free numbers, the conflict counts.
-ghost use Rattle.std.specs.Prelude.{◌≡◌, false, cond, ◌+◌, ◌-◌, ◌*◌, ◌<◌, ◌≤◌, min, eqb, length};
+#![tactic(auto, using(crate::proofs::Bytes::writes))]
+
+ghost use Rattle.std.specs.Prelude.{◌≡◌, false, ◌<◌, ◌≤◌};
 ghost use Rattle.card_log.specs.Entry.{as_entry};
 ghost use Rattle.card_log.specs.Cell.{cell_of};
 ghost use Rattle.disk.specs.Record.{record_in, unit_at, with_flow, appended, journal_grown, unit_turned, holding, releasing, conflict_counted, blank_record};
-ghost use Rattle.disk.specs.promises.Bytes.{cell_set};
+ghost use Rattle.disk.specs.promises.Bytes.{cell_set, pair_set};
 ghost use Rattle.disk.specs.promises.Listing.{with_many, with_place};
 
 use crate::record::{
@@ -13,12 +15,8 @@ use crate::record::{
 use card_log::encode::entry_byte;
 use card_log::entry::LogEntry;
 
-// Nothing is done, and the compiler drops the copy: how long an array is the proof learns of a value, not of a reference.
-fn sized(rec: [u8; RECORD])
-    ensures { length rec ≡ 573 }
-{}
-
 // The four bytes of an entry, from byte i on.
+#[tactic(auto, unfolding(card_log::specs::Cell::cell_of))]
 fn put_cell(rec: &mut [u8; RECORD], i: usize, member: bool, entry: LogEntry)
     requires { i ≤ 444 }
     ensures { rec.new ≡ cell_set rec.old i (cell_of (as_entry member entry)) }
@@ -29,12 +27,19 @@ fn put_cell(rec: &mut [u8; RECORD], i: usize, member: bool, entry: LogEntry)
     rec[i + 3] = entry_byte(entry, member, 0, 3);
 }
 
+// A number in two bytes, the low one first, from byte i on.
+fn put_pair(rec: &mut [u8; RECORD], i: usize, n: u16)
+    requires { i ≤ 571 }
+    ensures { rec.new ≡ pair_set rec.old i n }
+{
+    rec[i..i + 2].copy_from_slice(&n.to_le_bytes());
+}
+
 // An entry more at the end of the queue.
 pub fn append(rec: &mut [u8; RECORD], member: bool, entry: LogEntry)
     requires { ((record_in rec.old).ring.len < 32) × ((record_in rec.old).ring.head < 32) }
     ensures { record_in rec.new ≡ appended (cell_of (as_entry member entry)) (record_in rec.old) }
 {
-    sized(*rec);
     let n = len(rec);
     let at = (head(rec) + n) % Record::QUEUE;
     put_cell(rec, CELL * at, member, entry);
@@ -46,7 +51,6 @@ pub fn journal(rec: &mut [u8; RECORD], u: usize, entry: LogEntry)
     requires { (1 ≤ u) × (u ≤ 4) × ((unit_at (record_in rec.old) u).len < 15) }
     ensures { record_in rec.new ≡ journal_grown u (cell_of (as_entry false entry)) (record_in rec.old) }
 {
-    sized(*rec);
     let i = u - 1;
     let n = journal_len(rec, u);
     put_cell(rec, JOURNALS + CELL * (Unit::JOURNAL * i + n), false, entry);
@@ -58,7 +62,6 @@ pub fn hold(rec: &mut [u8; RECORD], n: usize, u: u8)
     requires { (1 ≤ n) × (n ≤ 80) }
     ensures { record_in rec.new ≡ holding n u (record_in rec.old) }
 {
-    sized(*rec);
     rec[HOLDERS + (n - 1)] = u;
 }
 
@@ -67,29 +70,18 @@ pub fn empty(rec: &mut [u8; RECORD], u: usize, window: u8)
     requires { (1 ≤ u) × (u ≤ 4) }
     ensures { record_in rec.new ≡ unit_turned window u (record_in rec.old) }
 {
-    sized(*rec);
     let i = u - 1;
     rec[UNIT_WINDOWS + i] = window;
     rec[LENGTHS + i] = 0;
 }
 
-// A count with one conflict more, up to the limit.
-fn raised(n: u16) -> u16
-    ensures { result ≡ min 65535 (n + 1) }
-{
-    if n < Record::CONFLICTS { n + 1 } else { n }
-}
-
-// One conflict more of window w.
+// One conflict more of window w, up to the largest count of two bytes.
 pub fn count_conflict(rec: &mut [u8; RECORD], w: usize)
     requires { (1 ≤ w) × (w ≤ 16) }
     ensures { record_in rec.new ≡ conflict_counted w (record_in rec.old) }
 {
-    sized(*rec);
-    let m = raised(conflicts(rec, w));
-    let i = COUNTS + 2 * (w - 1);
-    rec[i] = (m % 256) as u8;
-    rec[i + 1] = (m / 256) as u8;
+    let n = conflicts(rec, w).saturating_add(1);
+    put_pair(rec, COUNTS + 2 * (w - 1), n);
 }
 
 // So many free numbers listed; another number in a place of their order.
@@ -97,7 +89,6 @@ pub fn list_first(rec: &mut [u8; RECORD], n: usize)
     requires { n ≤ 80 }
     ensures { record_in rec.new ≡ with_many n (record_in rec.old) }
 {
-    sized(*rec);
     rec[LISTED] = n as u8;
 }
 
@@ -105,7 +96,6 @@ pub fn put_listed(rec: &mut [u8; RECORD], at: usize, number: u8)
     requires { at < 80 }
     ensures { record_in rec.new ≡ with_place at number (record_in rec.old) }
 {
-    sized(*rec);
     rec[ORDER + at] = number;
 }
 
@@ -114,29 +104,19 @@ pub fn flow(rec: &mut [u8; RECORD], head: usize, len: usize, done: usize)
     requires { (head < 256) × (len < 256) × (done < 65536) }
     ensures { record_in rec.new ≡ with_flow (record_in rec.old) head len done }
 {
-    sized(*rec);
     rec[HEAD] = head as u8;
     rec[LEN] = len as u8;
-    rec[DONE] = (done % 256) as u8;
-    rec[DONE + 1] = (done / 256) as u8;
-}
-
-// A holder when unit u gives up what it holds.
-fn freed(h: u8, u: u8) -> u8
-    ensures { result ≡ cond (eqb h u) 0 h }
-{
-    if h == u { 0 } else { h }
+    put_pair(rec, DONE, done as u16);
 }
 
 // Unit u gives up what it holds.
 pub fn release(rec: &mut [u8; RECORD], u: u8)
     ensures { record_in rec.new ≡ releasing u (record_in rec.old) }
 {
-    sized(*rec);
-    let mut i = 0;
-    while i < NUMBERS {
-        rec[HOLDERS + i] = freed(rec[HOLDERS + i], u);
-        i += 1;
+    for h in &mut rec[HOLDERS..HOLDERS + NUMBERS] {
+        if *h == u {
+            *h = 0;
+        }
     }
 }
 
@@ -144,7 +124,6 @@ pub fn release(rec: &mut [u8; RECORD], u: u8)
 pub fn renew(rec: &mut [u8; RECORD])
     ensures { record_in rec.new ≡ blank_record }
 {
-    let fresh = Record::fresh();
-    let bytes = fresh.bytes;
+    let bytes = Record::fresh().bytes;
     *rec = bytes;
 }

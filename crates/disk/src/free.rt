@@ -1,18 +1,19 @@
 // The order of the free numbers: the first that is listed, one taken out, others added at its end.
 ghost use Rattle.std.specs.Prelude.{◌≡◌, true, not, ◌≤◌, ◌<◌, eqb};
-ghost use Rattle.lists.specs.Basic.{or_else, times};
+ghost use Rattle.lists.specs.Basic.{times};
 ghost use Rattle.lists.specs.promises.Tables.{tables_in};
 ghost use Rattle.card_log.specs.Entry.{legal, raw, member, as_change};
 ghost use Rattle.disk.specs.Record.{record_in, listed_in};
 ghost use Rattle.disk.specs.Questions.{first_free};
-ghost use Rattle.disk.specs.promises.Listing.{Padded, Reorders, unlisted, pushed, Moves, ListsFree, Relists};
+ghost use Rattle.disk.specs.promises.Listing.{as_option, Padded, Reorders, unlisted, pushed, Moves, ListsFree, Relists};
 
 use crate::change::{list_first, put_listed};
-use crate::record::{NUMBERS, RECORD, list_number, listed, listed_at};
+use crate::record::{NUMBERS, RECORD, free_numbers, list_number, listed, listed_at};
 use card_log::entry::LogEntry;
 use lists::tables::free_after;
 
 // A number at the end, while a place is left.
+#[tactic(auto, using(crate::proofs::Listing::pushing))]
 pub fn push(rec: &mut [u8; RECORD], number: u8)
     requires { Padded (record_in rec.old) }
     ensures { record_in rec.new ≡ pushed number (record_in rec.old) }
@@ -39,53 +40,36 @@ fn move_up(rec: &mut [u8; RECORD], number: u8, k: usize, left: usize) -> usize
 }
 
 // A number out of the order, wherever it stands.
+#[tactic(auto, using(crate::proofs::Listing::sifting))]
 pub fn withdraw(rec: &mut [u8; RECORD], number: u8)
     requires { Padded (record_in rec.old) }
     ensures { record_in rec.new ≡ unlisted number (record_in rec.old) }
 {
-    let n = listed(rec);
     let mut left = 0;
-    let mut k = 0;
-    while k < n {
+    for k in 0..listed(rec) {
         left = move_up(rec, number, k, left);
-        k += 1;
     }
     list_first(rec, left);
 }
 
 // Is the number listed?
+#[tactic(auto, using(crate::proofs::Listing::listed_any))]
 pub fn is_listed(rec: &[u8; RECORD], number: u8) -> bool
     requires { (record_in rec.now).tally.listed ≤ 80 }
     ensures { result ≡ not (eqb (times number (listed_in (record_in rec.now))) 0) }
 {
-    let n = listed(rec);
-    let mut k = 0;
-    while k < n {
-        if listed_at(rec, k) == number {
-            return true;
-        }
-        k += 1;
-    }
-    false
+    free_numbers(rec).contains(&number)
 }
 
-// The first of `many` numbers behind number `base` that is listed, counted from there; 0 if none is.
-pub fn first_free(rec: &[u8; RECORD], base: u8, many: u8) -> u8
+// The first of `many` numbers behind number `base` that is listed, counted from there.
+pub fn first_free(rec: &[u8; RECORD], base: u8, many: u8) -> Option<u8>
     requires { ((record_in rec.now).tally.listed ≤ 80) × (base ≤ 64) × (many ≤ 64) }
-    ensures { result ≡ or_else 0 (first_free base many (listed_in (record_in rec.now))) }
+    ensures { as_option result ≡ first_free base many (listed_in (record_in rec.now)) }
 {
-    let n = listed(rec);
-    let mut k = 0;
-    while k < n {
-        let x = listed_at(rec, k);
-        if base < x {
-            if x <= base + many {
-                return x - base;
-            }
-        }
-        k += 1;
-    }
-    0
+    free_numbers(rec)
+        .iter()
+        .find(|x| base < **x && **x <= base + many)
+        .map(|x| *x - base)
 }
 
 // The free numbers that the tables show behind a number, behind 0 all of them, join the order at its end.
@@ -94,14 +78,12 @@ pub fn list_free(rec: &mut [u8; RECORD], nodes: &[u8; 1280], number: u8)
     ensures { ListsFree (tables_in nodes.now) number (record_in rec.old) (record_in rec.new) × Reorders (record_in rec.old) (record_in rec.new) }
 {
     let mut x = number;
-    let mut i = 0;
-    while i < NUMBERS {
+    for _i in 0..NUMBERS {
         x = free_after(nodes, x);
         if x == 0 {
             return;
         }
         push(rec, x);
-        i += 1;
     }
 }
 

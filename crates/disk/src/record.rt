@@ -11,15 +11,16 @@
 //     456   the queue's head, then its length; stores done of the head, two bytes; how many free numbers are listed
 //     461   conflicts counted for the window: two bytes for each
 //     493   the free numbers, blocks and lists, in the order of their freeing: a byte for each
+#![tactic(auto, using(crate::proofs::Bytes::reads), unfolding(crate::specs::Record::record_in, crate::specs::Record::unit_in, crate::specs::Record::listed_in))]
+
 ghost use Rattle.std.specs.Prelude.{◌≡◌, ◌<◌, ◌≤◌, get_or};
 ghost use Rattle.lists.specs.InUse.{list_number};
 ghost use Rattle.card_log.specs.Cell.{member_in, entry_in};
-ghost use Rattle.disk.specs.Record.{record_in, no_cell, unit_at, is_open, holder_of, count_of, blank_record};
+ghost use Rattle.disk.specs.Record.{record_in, no_cell, unit_at, is_open, holder_of, count_of, listed_in, blank_record};
 
 use card_log::cell::entry_in;
 use card_log::entry::LogEntry;
 use card_log::map;
-use lists::tables::of_bytes;
 
 // How many bytes a record has.
 pub const RECORD: usize = 573;
@@ -94,37 +95,31 @@ pub struct Queued {
     pub entry: LogEntry,
 }
 
-fn wide(byte: u8) -> usize
-    ensures { result ≡ byte }
-{
-    byte as usize
-}
-
 // The parts.
 
 pub fn head(rec: &[u8; RECORD]) -> usize
     ensures { result ≡ (record_in rec.now).ring.head }
 {
-    wide(rec[HEAD])
+    usize::from(rec[HEAD])
 }
 
 pub fn len(rec: &[u8; RECORD]) -> usize
     ensures { result ≡ (record_in rec.now).ring.len }
 {
-    wide(rec[LEN])
+    usize::from(rec[LEN])
 }
 
 pub fn done(rec: &[u8; RECORD]) -> usize
     ensures { result ≡ (record_in rec.now).ring.done }
 {
-    of_bytes(rec[DONE], rec[DONE + 1]) as usize
+    usize::from(u16::from_le_bytes([rec[DONE], rec[DONE + 1]]))
 }
 
 // How many free numbers are listed, and the one in a place of their order.
 pub fn listed(rec: &[u8; RECORD]) -> usize
     ensures { result ≡ (record_in rec.now).tally.listed }
 {
-    wide(rec[LISTED])
+    usize::from(rec[LISTED])
 }
 
 pub fn listed_at(rec: &[u8; RECORD], at: usize) -> u8
@@ -134,13 +129,27 @@ pub fn listed_at(rec: &[u8; RECORD], at: usize) -> u8
     rec[ORDER + at]
 }
 
+// The places of their order, and those that are listed.
+pub fn order(rec: &[u8; RECORD]) -> &[u8]
+    ensures { result.now ≡ (record_in rec.now).tally.order }
+{
+    &rec[ORDER..ORDER + NUMBERS]
+}
+
+pub fn free_numbers(rec: &[u8; RECORD]) -> &[u8]
+    requires { (record_in rec.now).tally.listed ≤ 80 }
+    ensures { result.now ≡ listed_in (record_in rec.now) }
+{
+    &order(rec)[..listed(rec)]
+}
+
 // The conflicts counted for window w.
 pub fn conflicts(rec: &[u8; RECORD], w: usize) -> u16
     requires { (1 ≤ w) × (w ≤ 16) }
     ensures { result ≡ count_of (record_in rec.now) w }
 {
     let i = COUNTS + 2 * (w - 1);
-    of_bytes(rec[i], rec[i + 1])
+    u16::from_le_bytes([rec[i], rec[i + 1]])
 }
 
 // The window that unit u's Begin named, 0 where the unit is closed.
@@ -164,7 +173,7 @@ pub fn journal_len(rec: &[u8; RECORD], u: usize) -> usize
     requires { (1 ≤ u) × (u ≤ 4) }
     ensures { result ≡ (unit_at (record_in rec.now) u).len }
 {
-    wide(rec[LENGTHS + (u - 1)])
+    usize::from(rec[LENGTHS + (u - 1)])
 }
 
 // The number of a list.
@@ -179,14 +188,14 @@ pub fn list_number(list: u8) -> u8
 pub fn holder_of(rec: &[u8; RECORD], number: u8) -> u8
     ensures { result ≡ holder_of (record_in rec.now) number }
 {
-    let i = if number == 0 { 0 } else { number as usize - 1 };
-    if i < NUMBERS {
-        return rec[HOLDERS + i];
-    }
-    NOBODY
+    rec[HOLDERS..HOLDERS + NUMBERS]
+        .get(usize::from(number.saturating_sub(1)))
+        .copied()
+        .unwrap_or(NOBODY)
 }
 
 // The entry in a place of the queue.
+#[tactic(auto, using(crate::proofs::Bytes::reads), unfolding(crate::specs::Record::record_in, card_log::specs::Cell::member_in))]
 pub fn queue_entry(rec: &[u8; RECORD], at: usize) -> Queued
     requires { at < 32 }
     ensures { (result.member ≡ member_in (get_or (record_in rec.now).ring.queue at no_cell)) × (result.entry ≡ entry_in (get_or (record_in rec.now).ring.queue at no_cell)) }

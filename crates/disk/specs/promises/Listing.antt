@@ -1,5 +1,6 @@
 -- The record's order of the free numbers, place by place.
-use Rattle.std.specs.Prelude.{◌≡◌, not, cond, List, [], ◌∷◌, ◌++◌, ℕ, ◌+◌, ◌≤◌, eqb, ltb, get_or, set}
+use Rattle.std.specs.Prelude.{◌≡◌, not, cond, Option, Some, None, List, [], ◌∷◌, ◌++◌, ℕ, ◌+◌, ◌≤◌, eqb, ltb, get_or, set}
+use Rattle.std.proofs.Math.Option as math
 use Rattle.lists.specs.Basic.{keep}
 use Rattle.lists.specs.Change.{Change, map_change}
 use Rattle.lists.specs.State.{Row, changed, frees, free_after}
@@ -9,6 +10,11 @@ use Rattle.card_log.specs.Raced.{Raced}
 use Rattle.card_log.specs.Entry.{as_change}
 use Rattle.card_log.specs.declared.entry.LogEntry.{LogEntry}
 use Rattle.disk.specs.Record.{Record, listed_in, padded, with_tally, with_listed}
+
+-- what a function returns, in the definitions' words
+abbrev pub as_option : Option ℕ → math.Option ℕ
+as_option None = math.none
+as_option (Some n) = math.some n
 
 -- another number in place k; so many listed
 abbrev pub with_place : ℕ → ℕ → Record → Record

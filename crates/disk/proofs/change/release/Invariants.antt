@@ -1,10 +1,6 @@
--- The invariant: the holders passed are given up, and nothing else has changed (Freed). The measure is what is left of them. Assumes nothing.
-use Prim.Native.Nat.{◌-◌, ◌≤◌}
-use Rattle.disk.proofs.Bytes.{Freed}
+-- The invariant: the holders passed are given up, the others are as they were. Assumes nothing.
+use Rattle.std.proofs.Common.{◌≡◌, ◌++◌, cond, eqb, map, take, drop}
 use Rattle.disk.proofs.change.release.Given as goal
 
-abbrev pub invariant-loop-i : goal.invariant-loop-i
-invariant-loop-i l = (l.i ≤ 80) × Freed l.u l.initial.rec l.rec l.i
-
-abbrev pub decreases-loop-i : goal.decreases-loop-i
-decreases-loop-i l = 80 - l.i
+abbrev pub invariant-loop-h : goal.invariant-loop-h
+invariant-loop-h l = l.h-items ≡ map (λ h. cond (eqb h l.u) 0 h) (take l.h-index (take 80 (drop 376 l.fn.rec))) ++ drop l.h-index (take 80 (drop 376 l.fn.rec))

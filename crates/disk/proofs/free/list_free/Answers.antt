@@ -1,4 +1,4 @@
--- The invariant: the numbers shown up to x have joined, at least i (JoinedUpTo), and nothing but the order is another (Reorders). The measure is what is left of 80, which no row of free numbers exceeds. Assumes nothing.
+-- The invariant: the numbers shown up to x have joined, at least i (JoinedUpTo), and nothing but the order is another (Reorders). No row of free numbers exceeds 80. Assumes nothing.
 use mathlib.Core.Path.{sym, subst}
 use Prim.Native.Nat.{◌+◌}
 use native.Mathlib.Omega.{arith}
@@ -9,18 +9,15 @@ use Rattle.disk.proofs.Listing.{reorders-same, reorders-pushed, JoinedUpTo, join
 use Rattle.disk.proofs.free.list_free.Goals as goal
 
 pub loop-i-init : goal.loop-i-init
-loop-i-init c = (omega arith, reorders-same _ c.requires, joined-none)
+loop-i-init c = (reorders-same _ c.requires, joined-none)
 
 pub returns-then-x-eq0 : goal.returns-then-x-eq0
 returns-then-x-eq0 c =
     let l = c.loop-i in
-    (joined_end c.free_after-x.ensures c.if-x-eq0.true l.invariant.2, l.invariant.1)
+    (joined_end c.free_after-x.ensures c.if-x-eq0.true l.invariant.1, l.invariant.0)
 
 pub push-requires : goal.push-requires
-push-requires c = c.loop-i.invariant.1.padded
-
-pub loop-i-smaller : goal.loop-i-smaller
-loop-i-smaller c = omega arith
+push-requires c = c.loop-i.invariant.0.padded
 
 pub loop-i-preserved : goal.loop-i-preserved
 loop-i-preserved c =
@@ -28,10 +25,9 @@ loop-i-preserved c =
     let l = c.loop-i in
     let w = c.free_after-x in
     let e = sym c.push.ensures in (
-      omega arith,
-      subst (Reorders (record_in a.rec.now)) e (reorders-pushed w.result (record_in a.rec.now) (record_in l.rec) l.invariant.1),
-      subst (JoinedUpTo (tables_in a.nodes.now) a.number (record_in a.rec.now) w.result (l.i + 1)) e (joined-more w.ensures c.if-x-eq0.false l.invariant.2),
+      subst (Reorders (record_in a.rec.now)) e (reorders-pushed w.result (record_in a.rec.now) (record_in l.rec) l.invariant.0),
+      subst (JoinedUpTo (tables_in a.nodes.now) a.number (record_in a.rec.now) w.result (l._i + 1)) e (joined-more w.ensures c.if-x-eq0.false l.invariant.1),
     )
 
 pub returns : goal.returns
-returns c = (joined-all (omega (arith, c.loop-i-test.false)) c.loop-i.invariant.2, c.loop-i.invariant.1)
+returns c = (joined-all (omega (arith, c.loop-i-test.false)) c.loop-i.invariant.1, c.loop-i.invariant.0)
