@@ -1,7 +1,7 @@
 // What the calls answer. The definition `Answers` gives the number and the values of each case.
 #![tactic(auto)]
 
-ghost use Rattle.std.specs.Prelude.{◌≡◌};
+ghost use Rattle.std.specs.Prelude.{◌≡◌, IsTrue, IsFalse, MatchResult};
 ghost use Rattle.answers.specs.Answers.{number};
 ghost use Rattle.answers.specs.declared.MountRefusal.TheVariants.{Refused};
 
@@ -93,3 +93,10 @@ pub type ReadReply = Result<u8, Refusal>;
 pub type MountReply = Result<(), MountRefusal>;
 
 pub type FlushReply = Result<Flushed, Refusal>;
+
+// A question: answered no, it refuses the call.
+pub fn ask(yes: bool, no: Refusal) -> Reply
+    ensures { MatchResult result (λ _. IsTrue yes) (λ x. (x ≡ no) × IsFalse yes) }
+{
+    if yes { Ok(()) } else { Err(no) }
+}

@@ -11,3 +11,4 @@ pub mod Settling
 pub mod Begun
 pub mod Looking
 pub mod Examining
+pub mod Asking

@@ -1,9 +1,12 @@
 -- Questions 1, 3 and 4 in their order, and the views: a sound disk's unit has a journal that may be laid over its committed state.
 use mathlib.Core.Path.{◌≡◌, refl, sym, ap, ◌∙◌, subst}
 use mathlib.Core.Logic.{◌≢◌}
-use mathlib.Core.Bool.{Bool, true, false, cond, or-true}
+use mathlib.Core.List.{[], ◌∷◌}
+use native.Mathlib.Omega.{arith}
+use Rattle.std.specs.Prelude.{Result, Ok, Err}
+use Rattle.std.specs.Result.{IsErrAnd}
+use mathlib.Core.Bool.{Bool, true, false}
 use Prim.Native.Nat.{ℕ, ◌≤◌}
-use lib.Dec.{eqb}
 use Rattle.lists.specs.Basic.{all, from}
 use Rattle.lists.specs.State.{overlay}
 use Rattle.lists.specs.promises.Tables.{Tables}
@@ -13,7 +16,7 @@ use Rattle.card_log.specs.declared.place.Place.{Place}
 use Rattle.card_log.proofs.Naturality.{raw-map}
 use Rattle.disk.specs.Record.{unit_at}
 use Rattle.answers.specs.declared.Refusal.{Refusal}
-use Rattle.answers.specs.declared.Refusal.TheVariants.{WrongLength, RecordUnsound, StreamClosed}
+use Rattle.answers.specs.declared.Refusal.TheVariants.{StreamClosed}
 use Rattle.disk.specs.Disk.{Disk, unit_of, journal_at, journal_of, committed, view}
 use Rattle.disk.specs.Sound.{lengths_right, record_sound, open_unit, journal_sound}
 use Rattle.disk.specs.Questions.{stream_open, view_open, ask, first_no}
@@ -22,8 +25,8 @@ use Rattle.disk.proofs.Clauses.{right}
 use Rattle.disk.proofs.Questions.{open-in-range}
 use Rattle.inspect.specs.promises.Located.{Located, journal_here}
 use Rattle.inspect.specs.promises.Clauses.{change_in, Overlays}
-use Rattle.inspect.specs.promises.Inspect.{Accepted, open_as, Sees, Looks}
-use Rattle.inspect.specs.declared.look.Looked.TheVariants.{Refused}
+use Rattle.inspect.specs.promises.Inspect.{checked, Accepted, open_as, Sees, Looks}
+use Rattle.inspect.proofs.Asking.{refused-more, exit_is}
 use Rattle.inspect.proofs.Locating.{overlay-here}
 
 -- the journal of a sound disk's unit
@@ -45,73 +48,50 @@ unit_lawful d u l s p q =
     }
 
 module _ (looked : Bool) (d : Disk) (v : ℕ) where
-  -- no to question x, whatever the tables are
-  abbrev pub No : Refusal → Type 0
-  No x = (t : Tables) → Looks looked d v (Refused x) t
-
   -- Questions 1 and 3.
-  pub look-length : lengths_right d ≡ false → No WrongLength
-  unfolding first_no ask number
-  look-length h t = rw h
+  pub look-unsound : (t : Tables) (r : Result (Unit {0}) Refusal) (x : Refusal) → IsErrAnd r (λ y. y ≡ x) → first_no (checked d) ≡ number x → Looks looked d v r t
+  look-unsound t r x e h = rw (exit_is r x e) (refused-more x (checked d) ((4, open_as looked d v) ∷ []) h)
 
-  pub look-unsound : lengths_right d ≡ true → record_sound d ≡ false → No RecordUnsound
-  unfolding first_no ask number
-  look-unsound h k t = rw (h, k)
-
-  -- Question 4.
-  stream-open : stream_open d v ≡ true → open_as looked d v ≡ true
-  unfolding view_open
-  stream-open h = go looked
-    where
-      go : (b : Bool) → open_as b d v ≡ true
-      go true = rw h (or-true (eqb v 5))
-      go false = h
-
-  stream-closed : v ≢ 5 → stream_open d v ≡ false → open_as looked d v ≡ false
-  unfolding view_open
-  stream-closed n h = go looked
-    where
-      go : (b : Bool) → open_as b d v ≡ false
-      go true = rw (eqb-false v 5 n, h)
-      go false = h
-
-  -- a sound disk, its tables showing the persistent state if that is wanted, and the committed one otherwise
-  module _ (p : Place) (t : Tables) (a : Accepted (cond (eqb v 5) 5 0) d p t) where
-    closed : open_as looked d v ≡ false → No StreamClosed
+  -- Question 4, of a sound disk.
+  module _ (w : ℕ) (p : Place) (t : Tables) (a : Accepted w d p t) where
+    pub look-closed : (t' : Tables) (r : Result (Unit {0}) Refusal) (x : Refusal) → IsErrAnd r (λ y. y ≡ x) → x ≡ StreamClosed → open_as looked d v ≡ false → Looks looked d v r t'
     unfolding first_no ask number
-    closed h t' = rw (a.lengths, a.sound, h)
+    look-closed t' r x e i h = rw (exit_is r x e, i, a.lengths, a.sound, h)
 
-    seen : cond (eqb v 5) 5 0 ≡ v → open_as looked d v ≡ true → Sees looked d v t
-    seen e o = record { lengths = a.lengths; sound = a.sound; opened = o; located = subst (λ (x : ℕ). Located d t (view d x)) e a.located }
+    pub look-seen : w ≡ v → open_as looked d v ≡ true → Sees looked d v t
+    look-seen e o = record { lengths = a.lengths; sound = a.sound; opened = o; located = subst (λ (x : ℕ). Located d t (view d x)) e a.located }
 
-    pub look-persistent : v ≡ 5 → looked ≡ true → Sees looked d v t
-    unfolding view_open
-    look-persistent e l = seen (rw e) (rw (l, e))
+pub open-persistent : (d : Disk) → open_as true d 5 ≡ true
+unfolding view_open
+open-persistent d = refl
 
-    pub look-no-stream : v ≡ 5 → looked ≡ false → No StreamClosed
-    unfolding stream_open open_unit
-    look-no-stream e l = closed (rw (l, e))
+pub open-zero : (d : Disk) → open_as false d 0 ≡ true
+unfolding stream_open
+open-zero d = refl
 
-    pub look-committed : v ≡ 0 → Sees looked d v t
-    unfolding stream_open
-    look-committed e = seen (rw e) (stream-open (rw e))
+pub open-unit : (d : Disk) (s : ℕ) → s ≢ 0 → open_as false d s ≡ open_unit d.rec s
+unfolding stream_open
+open-unit d s n = rw (eqb-false s 0 n)
 
-    module _ (m : v ≢ 5) (n : v ≢ 0) where
-      pub look-closed : open_unit d.rec v ≡ false → No StreamClosed
-      unfolding stream_open
-      look-closed h = closed (stream-closed m (rw (eqb-false v 0 n, h)))
+-- a view that is not the persistent state is a stream's
+pub as-stream : (d : Disk) (v : ℕ) (t : Tables) (r : Result (Unit {0}) Refusal) → v ≢ 5 → Looks false d v r t → Looks true d v r t
+unfolding view_open
+as-stream d v t (Ok done) n h = record { lengths = h.lengths; sound = h.sound; opened = rw (eqb-false v 5 n) h.opened; located = h.located }
+as-stream d v t (Err x) n h = rw (eqb-false v 5 n) h
 
-      pub look-unit : open_unit d.rec v ≡ true → (b : Bool) (t' : Tables) → Overlays t (unit_at d.rec v) v b t' → Sees looked d v t'
-      unfolding view unit_of stream_open
-      look-unit o b t' w =
-          let x : Located d t (committed d) = rw (eqb-false v 5 m) at a.located in
-          record {
-            lengths = a.lengths;
-            sound = a.sound;
-            opened = stream-open (rw o (or-true (eqb v 0)));
-            located = record {
-              here = overlay (journal_here (unit_at d.rec v) v) x.here;
-              shows = w.shows x.here x.shows;
-              means = rw (eqb-false v 5 m, eqb-false v 0 n, x.means) (overlay-here d v x.here (open-in-range d.rec v o).1 (unit_lawful d v a.lengths a.sound (open-in-range d.rec v o).0 (open-in-range d.rec v o).1).room);
-            };
-          }
+-- the tables with a unit's journal
+pub look-unit : (d : Disk) (s : ℕ) (p : Place) (t : Tables) (a : Accepted 0 d p t) → s ≢ 0 → open_unit d.rec s ≡ true
+    → (b : Bool) (t' : Tables) → Overlays t (unit_at d.rec s) s b t' → Sees false d s t'
+unfolding view unit_of
+look-unit d s p t a n o b t' w =
+    let x : Located d t (committed d) = a.located in
+    record {
+      lengths = a.lengths;
+      sound = a.sound;
+      opened = open-unit d s n ∙ o;
+      located = record {
+        here = overlay (journal_here (unit_at d.rec s) s) x.here;
+        shows = w.shows x.here x.shows;
+        means = rw (eqb-false s 5 (λ e. let m = (open-in-range d.rec s o).1 in omega arith), eqb-false s 0 n, x.means) (overlay-here d s x.here (open-in-range d.rec s o).1 (unit_lawful d s a.lengths a.sound (open-in-range d.rec s o).0 (open-in-range d.rec s o).1).room);
+      };
+    }

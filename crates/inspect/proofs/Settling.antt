@@ -42,17 +42,24 @@ module _ (c q : List ℕ) (r : Record) (x : Reader ℕ) where
   unfolding settled_right each is_some
   settled-entered h y e = rw (h, e) (ap (λ (b : Bool). holders_right r y.state.lists && (all_listed r y.state.lists && b)) (sym (and_yes heads)))
 
+-- the tests before the head's answer v
+abbrev pub Left : List ℕ → List ℕ → Memory → ℕ → Record → Tables → Bool → Type 0
+Left c q m run r t v = (v ≡ false → Settles c q m run r false t) × (v ≡ true → (k : Bool) → k ≡ head_standing c r.ring.done (queued (disk c q [] r)) → Settles c q m run r k t)
+
 -- the queue was fed, its answer b
 module _ (c q : List ℕ) (m : Memory) (run : ℕ) (r : Record) (b : Bool) (t : Tables) (fed : Replays m run r b t) where
-  pub settles-refused : b ≡ false → Settles c q m run r false t
+  settles-refused : b ≡ false → Settles c q m run r false t
   settles-refused h = record {
     answer = λ x k. settled-refused c q r x (rw h at (fed x k));
     shows = λ x y k e. absurd (false≢true e);
   }
 
+  pub left-refused : (v : Bool) → v ≡ b → b ≡ false → Left c q m run r t v
+  left-refused v e h = (λ z. settles-refused h, λ z. absurd (false≢true (sym h ∙ sym e ∙ z)))
+
   -- the holders have answer h
   module _ (entered : b ≡ true) (h : Bool) (held : OfShown t (λ rs. h ≡ holders_right r rs)) where
-    pub settles-held : h ≡ false → Settles c q m run r false t
+    settles-held : h ≡ false → Settles c q m run r false t
     settles-held z = record {
       answer = λ x k.
           let (l, y, e, s) = rw entered at (fed x k) in
@@ -60,6 +67,9 @@ module _ (c q : List ℕ) (m : Memory) (run : ℕ) (r : Record) (b : Bool) (t : 
           ∙ settled-entered c q r x l y e;
       shows = λ x y k e. absurd (false≢true e);
     }
+
+    pub left-held : (v : Bool) → v ≡ h → h ≡ false → Left c q m run r t v
+    left-held v e n = (λ z. settles-held n, λ z. absurd (false≢true (sym n ∙ sym e ∙ z)))
 
     -- they are right, the free numbers have answer f, and the head k
     module _ (right : h ≡ true) (f : Bool) (listed : OfShown t (λ rs. f ≡ all_listed r rs)) where
@@ -71,13 +81,13 @@ module _ (c q : List ℕ) (m : Memory) (run : ℕ) (r : Record) (b : Bool) (t : 
           ∙ ap (λ (b : Bool). b && (all_listed r y.state.lists && heads c q r x)) (sym right ∙ held y.state.lists o)
           ∙ settled-entered c q r x l y e
 
-      pub settles-listed : f ≡ false → Settles c q m run r false t
+      settles-listed : f ≡ false → Settles c q m run r false t
       settles-listed z = record {
         answer = λ x k. ap (λ (b : Bool). b && heads c q r x) (sym z) ∙ answer-is x k;
         shows = λ x y k e. absurd (false≢true e);
       }
 
-      pub settles-last : f ≡ true → (k : Bool) → k ≡ head_standing c r.ring.done (queued (disk c q [] r)) → Settles c q m run r k t
+      settles-last : f ≡ true → (k : Bool) → k ≡ head_standing c r.ring.done (queued (disk c q [] r)) → Settles c q m run r k t
       settles-last z k e = record {
         answer = λ x n. e ∙ ap (λ (b : Bool). b && heads c q r x) (sym z) ∙ answer-is x n;
         shows = λ x y n a p.
@@ -85,3 +95,6 @@ module _ (c q : List ℕ) (m : Memory) (run : ℕ) (r : Record) (b : Bool) (t : 
             let i : w ≡ y = some-injective _ _ (sym o ∙ p) in
             rw i at s;
       }
+
+      pub left-listed : (v : Bool) → v ≡ f → Left c q m run r t v
+      left-listed v e = (λ z. settles-listed (sym e ∙ z), λ z. settles-last (sym e ∙ z))

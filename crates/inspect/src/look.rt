@@ -4,23 +4,16 @@ ghost use Rattle.lists.specs.promises.Tables.{tables_in};
 ghost use Rattle.disk.specs.Disk.{disk_in};
 ghost use Rattle.inspect.specs.promises.Inspect.{Looks};
 
-use super::examine::{Examined, examine};
+use super::examine::{examine, examine_persistent};
 use super::journal::enter_journal;
 use super::units::is_open;
-use answers::Refusal;
+use answers::{Refusal, Reply, ask};
 use disk::record::RECORD;
 
 // The view that is the persistent state.
 const PERSISTENT: usize = 5;
 
-// Refused by question 1, 3 or 4; or the tables show the view.
-#[derive(Clone, Copy)]
-pub enum Looked {
-    Refused(Refusal),
-    Seen,
-}
-
-// The view that a look-up names. What the tables held does not matter.
+// Refused by question 1, 3 or 4; or the tables show the view that a look-up names. What they held does not matter.
 pub fn look_view(
     card: &[u8],
     queue_data: &[u8],
@@ -28,13 +21,18 @@ pub fn look_view(
     rec: &[u8; RECORD],
     view: usize,
     nodes: &mut [u8; 1280],
-) -> Looked
+) -> Reply
     ensures { Looks true (disk_in card.now queue_data.now journal_data.now rec.now) view result (tables_in nodes.new) }
 {
-    look(card, queue_data, journal_data, rec, true, view, nodes)
+    if view == PERSISTENT {
+        examine_persistent(card, queue_data, journal_data, rec, nodes)?;
+        Ok(())
+    } else {
+        look_stream(card, queue_data, journal_data, rec, view, nodes)
+    }
 }
 
-// The view of the stream that a change comes on.
+// The same of the stream that a change comes on, which the persistent state is not.
 pub fn look_stream(
     card: &[u8],
     queue_data: &[u8],
@@ -42,10 +40,15 @@ pub fn look_stream(
     rec: &[u8; RECORD],
     stream: usize,
     nodes: &mut [u8; 1280],
-) -> Looked
+) -> Reply
     ensures { Looks false (disk_in card.now queue_data.now journal_data.now rec.now) stream result (tables_in nodes.new) }
 {
-    look(card, queue_data, journal_data, rec, false, stream, nodes)
+    examine(card, queue_data, journal_data, rec, nodes)?;
+    if stream != 0 {
+        ask(is_open(rec, stream), Refusal::StreamClosed)?;
+        enter_journal(nodes, rec, stream);
+    }
+    Ok(())
 }
 
 // The committed state, which is the view of stream 0: never refused by question 4.
@@ -55,46 +58,8 @@ pub fn look_committed(
     journal_data: &[u8],
     rec: &[u8; RECORD],
     nodes: &mut [u8; 1280],
-) -> Looked
+) -> Reply
     ensures { Looks false (disk_in card.now queue_data.now journal_data.now rec.now) 0 result (tables_in nodes.new) }
 {
-    look(card, queue_data, journal_data, rec, false, 0, nodes)
-}
-
-// View v, as a look-up takes one, or as a stream, which the persistent state is not. What the tables held does not matter.
-fn look(
-    card: &[u8],
-    queue_data: &[u8],
-    journal_data: &[u8],
-    rec: &[u8; RECORD],
-    looked: bool,
-    v: usize,
-    nodes: &mut [u8; 1280],
-) -> Looked
-    ensures { Looks looked (disk_in card.now queue_data.now journal_data.now rec.now) v result (tables_in nodes.new) }
-{
-    let persistent = v == PERSISTENT;
-    match examine(card, queue_data, journal_data, rec, persistent, nodes) {
-        Examined::WrongLength => {
-            return Looked::Refused(Refusal::WrongLength);
-        }
-        Examined::Unsound => {
-            return Looked::Refused(Refusal::RecordUnsound);
-        }
-        Examined::Sound(_) => {}
-    }
-    if persistent {
-        if looked {
-            return Looked::Seen;
-        }
-        return Looked::Refused(Refusal::StreamClosed);
-    }
-    if v == 0 {
-        return Looked::Seen;
-    }
-    if !is_open(rec, v) {
-        return Looked::Refused(Refusal::StreamClosed);
-    }
-    enter_journal(nodes, rec, v);
-    Looked::Seen
+    look_stream(card, queue_data, journal_data, rec, 0, nodes)
 }

@@ -1,5 +1,5 @@
 -- What inspecting a disk answers: questions 1 and 3, and question 4 with the tables of a view.
-use Rattle.std.specs.Prelude.{◌≡◌, Bool, true, false, cond, [], ◌∷◌, ℕ}
+use Rattle.std.specs.Prelude.{◌≡◌, Bool, true, false, cond, List, [], ◌∷◌, ℕ, Result, MatchResult}
 use Rattle.lists.specs.Basic.{is_some, all, each}
 use Rattle.lists.specs.Numbers.{all_numbers}
 use Rattle.lists.specs.promises.Tables.{Tables}
@@ -10,11 +10,18 @@ use Rattle.disk.specs.Disk.{Disk, queued, committed_reader, committed, view}
 use Rattle.disk.specs.Sound.{lengths_right, holder_sound, listed_sound, head_standing, record_sound}
 use Rattle.disk.specs.Questions.{stream_open, view_open, first_no}
 use Rattle.answers.specs.Answers.{number}
+use Rattle.answers.specs.declared.Refusal.{Refusal}
+use Rattle.answers.specs.declared.Refusal.TheVariants.{RecordUnsound}
 use Rattle.inspect.specs.promises.Located.{Located}
-use Rattle.inspect.specs.declared.examine.Examined.{Examined}
-use Rattle.inspect.specs.declared.examine.Examined.TheVariants.{WrongLength, Unsound, Sound}
-use Rattle.inspect.specs.declared.look.Looked.{Looked}
-use Rattle.inspect.specs.declared.look.Looked.TheVariants.{Refused, Seen}
+use Rattle.inspect.specs.promises.Clauses.{numbers_right, units_right}
+
+-- refused by the first no of questions qs, or P of what is returned
+abbrev pub RefusedOr : {A : Type 0} → List (ℕ × Bool) → (A → Type 0) → Result A Refusal → Type 0
+RefusedOr qs P r = MatchResult r P (λ x. first_no qs ≡ number x)
+
+-- questions 1 and 3
+abbrev pub checked : Disk → List (ℕ × Bool)
+checked d = (1, lengths_right d) ∷ (3, record_sound d) ∷ []
 
 -- a disk that both questions accept, the tables showing state v of it
 pub record Accepted (v : ℕ) (d : Disk) (p : Place) (t : Tables) : Type 0 where
@@ -40,17 +47,22 @@ pub record Behind (v : ℕ) (d : Disk) (p : Place) (t : Tables) : Type 0 where
   pub place : p ≡ tail d.card
   pub located : Located d t (view d v)
 
--- where the lengths and the record's own clauses are right; view v is 0 or 5
-abbrev pub ExaminesLog : ℕ → Disk → Examined → Tables → Type 0
-ExaminesLog v d WrongLength t = ⊥
-ExaminesLog v d Unsound t = behind_log d ≡ false
-ExaminesLog v d (Sound p) t = Behind v d p t
+-- the lengths and the record's own clauses are right
+pub record LentRight (d : Disk) : Type 0 where
+  pub lengths : lengths_right d ≡ true
+  pub numbers : numbers_right d.rec ≡ true
+  pub units : units_right d.rec ≡ true
+
+abbrev pub AsksLent : Disk → Result (Unit {0}) Refusal → Type 0
+AsksLent d r = RefusedOr (checked d) (λ done. LentRight d) r
+
+-- where they are; view v is 0 or 5
+abbrev pub ExaminesLog : ℕ → Disk → Result Place Refusal → Tables → Type 0
+ExaminesLog v d r t = MatchResult r (λ p. Behind v d p t) (λ x. (x ≡ RecordUnsound) × (behind_log d ≡ false))
 
 -- questions 1 and 3 whole
-abbrev pub Examines : ℕ → Disk → Examined → Tables → Type 0
-Examines v d WrongLength t = lengths_right d ≡ false
-Examines v d Unsound t = (lengths_right d ≡ true) × (record_sound d ≡ false)
-Examines v d (Sound p) t = Accepted v d p t
+abbrev pub Examines : ℕ → Disk → Result Place Refusal → Tables → Type 0
+Examines v d r t = RefusedOr (checked d) (λ p. Accepted v d p t) r
 
 -- is it open: as a view, or as a stream, which the persistent state is not?
 abbrev pub open_as : Bool → Disk → ℕ → Bool
@@ -63,7 +75,9 @@ pub record Sees (looked : Bool) (d : Disk) (v : ℕ) (t : Tables) : Type 0 where
   pub opened : open_as looked d v ≡ true
   pub located : Located d t (view d v)
 
--- refused by the first no, or seen
-abbrev pub Looks : Bool → Disk → ℕ → Looked → Tables → Type 0
-Looks looked d v (Refused x) t = first_no ((1, lengths_right d) ∷ (3, record_sound d) ∷ (4, open_as looked d v) ∷ []) ≡ number x
-Looks looked d v Seen t = Sees looked d v t
+-- they are asked in this order
+abbrev pub opens : Bool → Disk → ℕ → List (ℕ × Bool)
+opens looked d v = (1, lengths_right d) ∷ (3, record_sound d) ∷ (4, open_as looked d v) ∷ []
+
+abbrev pub Looks : Bool → Disk → ℕ → Result (Unit {0}) Refusal → Tables → Type 0
+Looks looked d v r t = RefusedOr (opens looked d v) (λ done. Sees looked d v t) r

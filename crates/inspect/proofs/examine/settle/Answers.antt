@@ -1,43 +1,37 @@
 -- The queue, the holders, the free numbers and the head are asked in turn, each over the tables that the one before left. Assumes nothing.
+use mathlib.Core.Path.{sym, ◌∙◌}
+use mathlib.Core.Bool.{false≢true}
+use mathlib.Core.List.{[]}
 use Rattle.lists.specs.promises.Tables.{tables_in}
 use Rattle.card_log.specs.promises.Feed.{memory}
 use Rattle.disk.specs.Record.{record_in}
-use Rattle.inspect.proofs.Settling.{settles-refused, settles-held, settles-listed, settles-last}
-use borrow.Author.Tests.{not-true, not-false}
-use mathlib.Core.List.{[]}
+use Rattle.inspect.proofs.Settling.{Left, left-refused, left-held, left-listed}
 use Rattle.inspect.proofs.examine.settle.Goals as goal
+use Rattle.inspect.proofs.examine.settle.Goals.{Joined-holders_right, then-enter_queue, else-enter_queue, then-holders_right, else-holders_right}
 
-pub returns-then-not-enter_queue : goal.returns-then-not-enter_queue
-returns-then-not-enter_queue c =
-    let s = c.args in
-    let q = c.enter_queue in
-    let m = memory s.nodes.now s.members.now in
-    let t = tables_in q.new.nodes in
-    settles-refused s.card.now s.queue_data.now m s.run (record_in s.rec.now) q.result t q.ensures (not-true _ c.if-not-enter_queue.true-raw)
-
-pub returns-then-not-holders_right : goal.returns-then-not-holders_right
-returns-then-not-holders_right c =
-    let s = c.args in
-    let q = c.enter_queue in
-    let m = memory s.nodes.now s.members.now in
-    let t = tables_in q.new.nodes in
-    settles-held s.card.now s.queue_data.now m s.run (record_in s.rec.now) q.result t q.ensures (not-false _ c.if-not-enter_queue.false-raw) c.holders_right.result c.holders_right.ensures (not-true _ c.if-not-holders_right.true-raw)
-
-pub returns-then-not-listed_right : goal.returns-then-not-listed_right
-returns-then-not-listed_right c =
-    let h = c.holders_right in
-    let q = c.enter_queue in
+asked : (c : Joined-holders_right) → (let s = c.args in Left s.card.now s.queue_data.now (memory s.nodes.now s.members.now) s.run (record_in s.rec.now) (tables_in c.enter_queue.new.nodes) c.if-holders_right.value)
+asked c =
     let s = c.args in
     let m = memory s.nodes.now s.members.now in
-    let t = tables_in q.new.nodes in
-    settles-listed s.card.now s.queue_data.now m s.run (record_in s.rec.now) q.result t q.ensures (not-false _ c.if-not-enter_queue.false-raw) h.result h.ensures (not-false _ c.if-not-holders_right.false-raw) c.listed_right.result c.listed_right.ensures (not-true _ c.if-not-listed_right.true-raw)
-
-pub returns : goal.returns
-returns c =
-    let f = c.listed_right in
-    let h = c.holders_right in
+    let r = record_in s.rec.now in
     let q = c.enter_queue in
-    let s = c.args in
-    let m = memory s.nodes.now s.members.now in
     let t = tables_in q.new.nodes in
-    settles-last s.card.now s.queue_data.now m s.run (record_in s.rec.now) q.result t q.ensures (not-false _ c.if-not-enter_queue.false-raw) h.result h.ensures (not-false _ c.if-not-holders_right.false-raw) f.result f.ensures (not-false _ c.if-not-listed_right.false-raw) c.head_stands.result (c.head_stands.ensures [])
+    elim c.if-holders_right.branch [
+      | then-holders_right f ↦ elim c.if-enter_queue.branch [
+        | then-enter_queue h ↦ left-listed s.card.now s.queue_data.now m s.run r q.result t q.ensures h.if-enter_queue.true h.holders_right.result h.holders_right.ensures
+            (sym h.value-is ∙ f.if-holders_right.true) f.listed_right.result f.listed_right.ensures _ f.value-is
+        | else-enter_queue h ↦ absurd (false≢true (sym h.if-enter_queue.false ∙ sym h.value-is ∙ f.if-holders_right.true))
+      ]
+      | else-holders_right f ↦ elim c.if-enter_queue.branch [
+        | then-enter_queue h ↦ left-held s.card.now s.queue_data.now m s.run r q.result t q.ensures h.if-enter_queue.true h.holders_right.result h.holders_right.ensures
+            _ (f.value-is ∙ h.value-is) (sym h.value-is ∙ f.if-holders_right.false)
+        | else-enter_queue h ↦ left-refused s.card.now s.queue_data.now m s.run r q.result t q.ensures _ (f.value-is ∙ h.value-is) h.if-enter_queue.false
+      ]
+    ]
+
+pub returns-then-listed_right : goal.returns-then-listed_right
+returns-then-listed_right c = (asked (goal.at.returns-then-listed_right c).Joined-holders_right).1 c.if-listed_right.true _ (c.head_stands.ensures [])
+
+pub returns-else-listed_right : goal.returns-else-listed_right
+returns-else-listed_right c =
+    rw c.if-listed_right.false ((asked (goal.at.returns-else-listed_right c).Joined-holders_right).0 c.if-listed_right.false)
