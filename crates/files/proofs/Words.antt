@@ -8,12 +8,12 @@ use lib.Dec.{eqb}
 use lib.ListN.{length, get_or}
 use Rattle.files.specs.Arguments.{is_option}
 
-pub option-none : (word : List ℕ) → length word ≡ 0 → is_option word ≡ true
+pub option_none : (word : List ℕ) → length word < 1 → is_option word ≡ true
 unfolding is_option
-option-none [] h = refl
-option-none (b ∷ bs) h = absurd (omega arith)
+option_none [] h = refl
+option_none (b ∷ bs) h = absurd (omega arith)
 
-pub option-at : (word : List ℕ) → 0 < length word → is_option word ≡ eqb (get_or word 0 0) 45
+pub option_at : (word : List ℕ) → 0 < length word → is_option word ≡ eqb (get_or word 0 0) 45
 unfolding is_option
-option-at [] h = absurd (omega arith)
-option-at (b ∷ bs) h = refl
+option_at [] h = absurd (omega arith)
+option_at (b ∷ bs) h = refl

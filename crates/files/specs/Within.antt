@@ -1,9 +1,6 @@
 -- How much was read.
-use Rattle.std.specs.Prelude.{ℕ, ◌≤◌}
-use Rattle.files.specs.declared.transfer.Read.{Read}
-use Rattle.files.specs.declared.transfer.Read.TheVariants.{Bytes, Failed}
+use Rattle.std.specs.Prelude.{ℕ, ◌≤◌, Result, IfOk}
 
 -- no more bytes than there is room for
-abbrev pub InBuffer : Read → ℕ → Type 0
-InBuffer (Bytes k) n = k ≤ n
-InBuffer (Failed error) n = Unit {0}
+abbrev pub InBuffer : {E : Type 0} → Result ℕ E → ℕ → Type 0
+InBuffer read n = IfOk read (λ k. k ≤ n)

@@ -7,18 +7,16 @@ use text::line::is_same;
 pub fn is_help(word: &[u8]) -> bool
     ensures { result ≡ is_help word.now }
 {
-    if is_same(word, b"-h") {
-        return true;
-    }
-    is_same(word, b"--help")
+    is_same(word, b"-h") || is_same(word, b"--help")
 }
 
 // An empty word is none that could be a path.
+#[tactic(auto, using(crate::proofs::Words::option_none, crate::proofs::Words::option_at))]
 pub fn is_option(word: &[u8]) -> bool
     ensures { result ≡ is_option word.now }
 {
-    if word.len() == 0 {
-        return true;
+    match word {
+        [] => true,
+        [first, ..] => *first == b'-',
     }
-    word[0] == b'-'
 }

@@ -1,74 +1,54 @@
 // A file before it is read: what stands at its path, and its bytes.
-ghost use Rattle.std.specs.Prelude.{ℕ, length};
+ghost use Rattle.std.specs.Prelude.{length};
 ghost use Rattle.files.specs.Within.{InBuffer};
 
-use crate::message::{fail, refuse, told};
+use crate::message::{Context, Failure};
 use crate::path::{folder, path_text};
-use crate::status::{Looked, Status, is_regular, look, look_at};
-use crate::transfer::{Read, read_whole};
-use std::fs::File;
+use crate::status::{is_regular, look, look_at};
+use crate::transfer::read_whole;
+use std::fs::{File, Metadata};
 use std::io;
 use std::io::ErrorKind;
+use std::os::unix::fs::MetadataExt;
 use text::line::part;
 
-// A file, nothing yet, or what is neither, which was told.
-#[derive(Clone, Copy)]
-pub enum Found {
-    File(Status),
-    Nothing,
-    Refused,
-}
-
-// What stands at a path, which leads to the target (`status::resolve`).
-pub fn find(rt: &HostRuntime, who: &[u8], path: &[u8], target: &[u8]) -> Found {
-    let status = match look(rt, path) {
-        Looked::Found(status) => status,
-        Looked::Failed(error) => return find_nothing(rt, who, target, error),
-    };
-    if !is_regular(status.mode) {
-        refuse(rt, who, b"not read: not a regular file");
-        return Found::Refused;
+// What stands at a path, which leads to the target (`status::resolve`): a file, or nothing yet.
+pub fn find(rt: &HostRuntime, path: &[u8], target: &[u8]) -> Result<Option<Metadata>, Failure> {
+    match look(rt, path) {
+        Ok(status) if !is_regular(status.mode()) => {
+            Err(Failure::refusal("not read: not a regular file"))
+        }
+        Ok(status) if !is_at(rt, target, &status) => Err(unfollowed()),
+        Ok(status) => Ok(Some(status)),
+        Err(error) if error.kind() == ErrorKind::NotFound => find_nothing(rt, target),
+        Err(error) => Err(Failure::of("not read", error)),
     }
-    if !is_at(rt, target, status) {
-        refuse(rt, who, b"not read: its link cannot be followed");
-        return Found::Refused;
-    }
-    Found::File(status)
 }
 
 // A file can be made there only if its folder is there, and no link that was not followed.
-fn find_nothing(rt: &HostRuntime, who: &[u8], target: &[u8], error: io::Error) -> Found {
-    if error.kind() != ErrorKind::NotFound {
-        fail(rt, who, b"not read", error);
-        return Found::Refused;
+fn find_nothing(rt: &HostRuntime, target: &[u8]) -> Result<Option<Metadata>, Failure> {
+    if look_at(rt, target).is_ok() {
+        return Err(unfollowed());
     }
-    if let Looked::Found(_) = look_at(rt, target) {
-        refuse(rt, who, b"not read: its link cannot be followed");
-        return Found::Refused;
-    }
-    match told(rt, open_folder(rt, target), who, b"its folder") {
-        Some(_) => Found::Nothing,
-        None => Found::Refused,
-    }
+    open_folder(rt, target).context("its folder")?;
+    Ok(None)
+}
+
+fn unfollowed() -> Failure {
+    Failure::refusal("not read: its link cannot be followed")
 }
 
 // Is it the same file, and no link to it?
-fn is_at(rt: &HostRuntime, target: &[u8], status: Status) -> bool {
-    let Looked::Found(other) = look_at(rt, target) else {
-        return false;
-    };
-    if other.device != status.device {
-        return false;
-    }
-    other.inode == status.inode
+fn is_at(rt: &HostRuntime, target: &[u8], status: &Metadata) -> bool {
+    look_at(rt, target).is_ok_and(|other| (other.dev(), other.ino())
+        == (status.dev(), status.ino()))
 }
 
 pub fn open_folder(rt: &HostRuntime, target: &[u8]) -> io::Result<File> {
-    let n = folder(target);
-    if n == 0 {
-        return File::open(rt, ".");
+    match folder(target) {
+        0 => File::open(rt, "."),
+        n => open(rt, part(target, 0, n)),
     }
-    open(rt, part(target, 0, n))
 }
 
 fn open(rt: &HostRuntime, path: &[u8]) -> io::Result<File> {
@@ -76,26 +56,17 @@ fn open(rt: &HostRuntime, path: &[u8]) -> io::Result<File> {
 }
 
 // The file's bytes, none where there is no file yet.
-pub fn load(rt: &HostRuntime, who: &[u8], target: &[u8], found: Found, buffer: &mut [u8]) -> Read
+pub fn load(
+    rt: &HostRuntime,
+    target: &[u8],
+    found: Option<&Metadata>,
+    buffer: &mut [u8],
+) -> Result<usize, Failure>
     ensures { InBuffer result (length buffer.old) }
 {
-    let Found::File(_) = found else {
-        return Read::Bytes(0);
-    };
-    let mut file = match open(rt, target) {
-        Ok(file) => file,
-        Err(error) => return unread(rt, who, error),
-    };
-    match read_whole(&mut file, buffer) {
-        Read::Bytes(n) => Read::Bytes(n),
-        Read::Failed(error) => unread(rt, who, error),
+    if found.is_none() {
+        return Ok(0);
     }
-}
-
-// Why something is not read is told.
-pub fn unread(rt: &HostRuntime, who: &[u8], error: io::Error) -> Read
-    ensures { (n : ℕ) → InBuffer result n }
-{
-    fail(rt, who, b"not read", error);
-    Read::Failed(error)
+    let mut file = open(rt, target).context("not read")?;
+    read_whole(&mut file, buffer).context("not read")
 }

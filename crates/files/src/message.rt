@@ -1,73 +1,72 @@
-// Messages on standard error: `WHO: WHAT`, and the error's text where a call failed. WHO is the program and the file,
-// `PROGRAM: NAME`.
-ghost use Rattle.std.specs.Prelude.{◌↔◌, IsTrue, IsOk};
+// What was not done, and messages of it on standard error: `WHO: WHAT`, and the error's text where a call failed. WHO is the
+// program and the file, `PROGRAM: NAME`.
+ghost use Rattle.std.specs.Prelude.{◌≡◌, ◌↔◌, Some, IsSome, Ok, IsOk, IsErrAnd, MatchResult};
 ghost use Rattle.text.specs.Written.{Puts};
 ghost use Rattle.files.specs.Message.{message};
 
 use crate::transfer::{Stream, write_last, write_whole};
 use std::io;
-use std::io::Write;
+use std::io::{Cursor, Write};
 use text::line::part;
 use text::put::{put_byte, put_bytes};
 
-// A call failed.
-pub fn fail(rt: &HostRuntime, who: &[u8], what: &[u8], error: io::Error) {
-    let mut line = [0u8; 65536];
-    let mut at = put_message(&mut line, who, what);
-    at = put_bytes(&mut line, at, b": ");
-    at = put_reason(&mut line, at, error);
-    tell(rt, &mut line, at);
+// What was not done, and the error where a call failed.
+#[derive(Clone, Copy)]
+pub struct Failure {
+    what: &'static str,
+    error: Option<io::Error>,
 }
 
-// Something is refused for what it is.
-pub fn refuse(rt: &HostRuntime, who: &[u8], what: &[u8]) {
-    let mut line = [0u8; 65536];
-    let at = put_message(&mut line, who, what);
-    tell(rt, &mut line, at);
-}
-
-// A message that is lost cannot be told of.
-fn tell(rt: &HostRuntime, line: &mut [u8], at: usize) {
-    let end = put_byte(line, at, b'\n');
-    let _ = write_whole(&mut rt.stderr(), part(line, 0, end));
-}
-
-// The system's text for an error, as C has it: std puts the number behind it, in parentheses.
-fn put_reason(out: &mut [u8], at: usize, error: io::Error) -> usize {
-    let mut text = [0u8; 256];
-    let mut rest = text.as_mut_slice();
-    let _ = write!(rest, "{error}");
-    let left = rest.len();
-    let mut end = text.len().saturating_sub(left);
-    if error.raw_os_error().is_some() {
-        end = behind_text(part(&text, 0, end));
+impl Failure {
+    // A call failed.
+    pub fn of(what: &'static str, error: io::Error) -> Failure
+        ensures { result.error ≡ Some error }
+    {
+        Failure {
+            what,
+            error: Some(error),
+        }
     }
-    put_bytes(out, at, part(&text, 0, end))
-}
 
-// Where the blank before the last parenthesis stands.
-fn behind_text(text: &[u8]) -> usize {
-    match text.iter().rposition(|byte| *byte == b'(') {
-        Some(n) => n.saturating_sub(1),
-        None => text.len(),
+    // Something is refused for what it is.
+    pub fn refusal(what: &'static str) -> Failure {
+        Failure { what, error: None }
+    }
+
+    // A message that is lost cannot be told of.
+    pub fn tell(self, rt: &HostRuntime, who: &[u8]) {
+        let mut line = [0u8; 65536];
+        let mut at = put_message(&mut line, who, self.what.as_bytes());
+        if let Some(error) = self.error {
+            at = put_bytes(&mut line, at, b": ");
+            at = put_reason(&mut line, at, error);
+        }
+        at = put_byte(&mut line, at, b'\n');
+        let _ = write_whole(&mut rt.stderr(), part(&line, 0, at));
     }
 }
 
-// Was it done? Where a call failed, why is told.
-pub fn did(rt: &HostRuntime, done: io::Result<()>, who: &[u8], what: &[u8]) -> bool
-    ensures { IsTrue result ↔ IsOk done }
+pub trait Context<T> {
+    // What a call gave, or what was not done.
+    fn context(self, what: &'static str) -> Result<T, Failure>;
+}
+
+impl<T> Context<T> for io::Result<T> {
+    fn context(self, what: &'static str) -> Result<T, Failure>
+        ensures { MatchResult self (λ given. result ≡ Ok given) (λ error. IsErrAnd result (λ failure. failure.error ≡ Some error)) }
+    {
+        self.map_err(|error| Failure::of(what, error))
+    }
+}
+
+// What was given. Where something was not done, that is told.
+pub fn told<T: Drop>(rt: &HostRuntime, who: &[u8], done: Result<T, Failure>) -> Option<T>
+    ensures { IsSome result ↔ IsOk done }
 {
-    let is_done = done.is_ok();
-    told(rt, done, who, what);
-    is_done
-}
-
-// What a call gave. Where it failed, why is told.
-pub fn told<T: Drop>(rt: &HostRuntime, done: io::Result<T>, who: &[u8], what: &[u8]) -> Option<T> {
     match done {
         Ok(given) => Some(given),
-        Err(error) => {
-            fail(rt, who, what, error);
+        Err(failure) => {
+            failure.tell(rt, who);
             None
         }
     }
@@ -81,7 +80,27 @@ pub fn put_message(out: &mut [u8], who: &[u8], what: &[u8]) -> usize
     put_bytes(out, at, what)
 }
 
+// The system's text for an error, as C has it: std puts the number behind it, in parentheses.
+fn put_reason(out: &mut [u8], at: usize, error: io::Error) -> usize {
+    let mut text = Cursor::new([0u8; 256]);
+    let _ = write!(text, "{error}");
+    let end = text.position() as usize;
+    let text = part(text.get_ref(), 0, end);
+    match error.raw_os_error() {
+        Some(_) => put_bytes(out, at, before_number(text)),
+        None => put_bytes(out, at, text),
+    }
+}
+
+// What stands before the blank before the last parenthesis.
+fn before_number(text: &[u8]) -> &[u8] {
+    match text.iter().rposition(|byte| *byte == b'(') {
+        Some(n) => part(text, 0, n.saturating_sub(1)),
+        None => text,
+    }
+}
+
 // The last text that goes to standard output, or to standard error. Where it is lost, that is told.
 pub fn print(rt: &HostRuntime, who: &[u8], to: Stream, text: &[u8]) {
-    did(rt, write_last(rt, to, text), who, b"not written");
+    told(rt, who, write_last(rt, to, text).context("not written"));
 }

@@ -29,24 +29,59 @@ pub fn ended(path: &[u8]) -> [u8; PATH_MAX]
 
 // A path as std takes it.
 pub fn path_text(path: &[u8]) -> io::Result<&str> {
-    match from_utf8(path) {
-        Ok(text) => Ok(text),
-        Err(_) => Err(io::Error::from(ErrorKind::InvalidFilename)),
-    }
+    from_utf8(path).map_err(|_| io::Error::from(ErrorKind::InvalidFilename))
 }
 
 // How many bytes of a path name its folder, the slash among them; 0 where it names none.
+#[tactic(auto, using(crate::proofs::Paths::folder_none, crate::proofs::Paths::folder_at))]
 pub fn folder(path: &[u8]) -> usize
     ensures { result ≡ folder_of path.now }
 {
-    let mut n = path.len();
-    while n > 0 {
-        if path[n - 1] == SLASH {
-            return n;
-        }
-        n -= 1;
+    path.iter()
+        .rposition(|byte| *byte == SLASH)
+        .map_or(0, |n| n + 1)
+}
+
+// A path in an array of its own. Of one that is too long what has no room is lost, and the system refuses it.
+#[derive(Clone, Copy)]
+pub struct PathBytes {
+    array: [u8; PATH_MAX],
+    length: usize,
+}
+
+impl PathBytes {
+    pub fn of(path: &[u8]) -> PathBytes {
+        let mut array = [0u8; PATH_MAX];
+        let length = put_bytes(&mut array, 0, path);
+        PathBytes { array, length }
     }
-    n
+
+    // A name in the folder of a path.
+    pub fn beside(path: &[u8], name: &[u8]) -> PathBytes {
+        let mut array = [0u8; PATH_MAX];
+        let length = put_beside(&mut array, path, name);
+        PathBytes { array, length }
+    }
+
+    pub fn bytes(&self) -> &[u8]
+        ensures { result.now ≡ slice 0 self.now.length self.now.array }
+    {
+        part(&self.array, 0, self.length)
+    }
+
+    // A path gives way to the one that the link at it leads to: the link's text, from the root or from the link's folder.
+    pub fn follow(&mut self, link: &[u8])
+        ensures { Puts self.old.array (start_of (slice 0 self.old.length self.old.array) link.now) link.now self.new.array self.new.length }
+    {
+        let at = start(self.bytes(), link);
+        self.length = put_bytes(&mut self.array, at, link);
+    }
+
+    // The last bytes give way to others.
+    pub fn end_with(&mut self, bytes: &[u8]) {
+        let at = self.length.saturating_sub(bytes.len());
+        put_bytes(&mut self.array, at, bytes);
+    }
 }
 
 // A name in the folder of a path.
@@ -57,22 +92,12 @@ pub fn put_beside(out: &mut [u8], path: &[u8], name: &[u8]) -> usize
     put_bytes(out, at, name)
 }
 
-// A path gives way to the one that the link at it leads to: the link's text, from the root or from the link's folder.
-pub fn follow(path: &mut [u8], length: usize, link: &[u8]) -> usize
-    ensures { Puts path.old (start_of (slice 0 length path.old) link.now) link.now path.new result }
-{
-    let at = start(part(path, 0, length), link);
-    put_bytes(path, at, link)
-}
-
+#[tactic(auto, using(crate::proofs::Paths::rooted_none, crate::proofs::Paths::rooted_at), unfolding(crate::specs::Path::start_of))]
 fn start(path: &[u8], link: &[u8]) -> usize
     ensures { result ≡ start_of path.now link.now }
 {
-    if link.len() == 0 {
-        return folder(path);
+    match link {
+        [SLASH, ..] => 0,
+        _ => folder(path),
     }
-    if link[0] == SLASH {
-        return 0;
-    }
-    folder(path)
 }

@@ -1,17 +1,15 @@
 // A file replaced whole: the bytes go to a new file beside it, which takes its place once all of it is on the disk. What was there
 // before is never written, so that the path names the old bytes or the new ones whatever happens.
-use crate::found::{Found, open_folder};
-use crate::message::{did, told};
-use crate::path::{PATH_MAX, path_text, put_beside};
-use crate::status::{Status, may_be_written, permissions};
+use crate::found::open_folder;
+use crate::message::{Context, Failure, told};
+use crate::path::{PathBytes, path_text};
+use crate::status::{may_be_written, permissions};
 use crate::transfer::write_whole;
-use std::fs::{File, Permissions};
+use std::fs::{File, Metadata, Permissions};
 use std::io::ErrorKind;
-use std::os::unix::fs::{OpenOptionsExt, PermissionsExt, fchown};
+use std::os::unix::fs::{MetadataExt, OpenOptionsExt, PermissionsExt, fchown};
 use std::random::RandomSource;
 use std::{fs, io};
-use text::line::part;
-use text::put::put_bytes;
 
 // As many names as C's mkstemp tries.
 const NAMES: usize = 238328;
@@ -19,52 +17,53 @@ const NAMES: usize = 238328;
 // What a name is drawn from.
 const LETTERS: [u8; 62] = *b"ABCDEFGHIJKLMNOPQRSTUVWXYZabcdefghijklmnopqrstuvwxyz0123456789";
 
-pub fn save(rt: &HostRuntime, who: &[u8], target: &[u8], found: Found, bytes: &[u8]) {
-    if !may_replace(rt, who, target, found) {
-        return;
-    }
-    let opened = open_folder(rt, target);
-    let Some(folder) = told(rt, opened, who, b"not saved: its folder") else {
+// Where a step fails, that is told, and no further one is made.
+pub fn save(rt: &HostRuntime, who: &[u8], target: &[u8], found: Option<&Metadata>, bytes: &[u8]) {
+    let mut name = PathBytes::beside(target, b"card-XXXXXX");
+    let Some((folder, file)) = told(rt, who, begin(rt, target, found, &mut name)) else {
         return;
     };
-    if replace(rt, who, target, found, bytes) {
-        did(
-            rt,
-            folder.sync_all(),
-            who,
-            b"saved, but its folder is not synced",
-        );
-    }
-}
-
-// A file that may not be written is not replaced either.
-fn may_replace(rt: &HostRuntime, who: &[u8], target: &[u8], found: Found) -> bool {
-    let Found::File(_) = found else {
-        return true;
-    };
-    did(rt, may_be_written(rt, target), who, b"not saved")
-}
-
-fn replace(rt: &HostRuntime, who: &[u8], target: &[u8], found: Found, bytes: &[u8]) -> bool {
-    let mut space = [0u8; PATH_MAX];
-    let length = put_beside(&mut space, target, b"card-XXXXXX");
-    let made = make(rt, &mut space, length, found);
-    let Some(file) = told(rt, made, who, b"not saved: a new file beside it") else {
-        return false;
-    };
-    let name = part(&space, 0, length);
-    if fill(rt, who, file, found, bytes) {
-        if did(
-            rt,
-            rename(rt, name, target),
-            who,
-            b"not saved: renaming the new file",
-        ) {
-            return true;
+    let name = name.bytes();
+    match told(rt, who, replace(rt, target, found, bytes, file, name)) {
+        Some(()) => {
+            let synced = folder.sync_all();
+            told(
+                rt,
+                who,
+                synced.context("saved, but its folder is not synced"),
+            );
+        }
+        None => {
+            told(rt, name, remove(rt, name).context("not removed"));
         }
     }
-    did(rt, remove(rt, name), name, b"not removed");
-    false
+}
+
+// The folder, and a new file in it. A file that may not be written is not replaced either.
+fn begin(
+    rt: &HostRuntime,
+    target: &[u8],
+    found: Option<&Metadata>,
+    name: &mut PathBytes,
+) -> Result<(File, File), Failure> {
+    if found.is_some() {
+        may_be_written(rt, target).context("not saved")?;
+    }
+    let folder = open_folder(rt, target).context("not saved: its folder")?;
+    let file = make(rt, name, found).context("not saved: a new file beside it")?;
+    Ok((folder, file))
+}
+
+fn replace(
+    rt: &HostRuntime,
+    target: &[u8],
+    found: Option<&Metadata>,
+    bytes: &[u8],
+    file: File,
+    name: &[u8],
+) -> Result<(), Failure> {
+    fill(file, found, bytes)?;
+    rename(rt, name, target).context("not saved: renaming the new file")
 }
 
 fn rename(rt: &HostRuntime, from: &[u8], to: &[u8]) -> io::Result<()> {
@@ -76,10 +75,10 @@ fn remove(rt: &HostRuntime, path: &[u8]) -> io::Result<()> {
 }
 
 // A new file under the name, whose X's are replaced until no file has it.
-fn make(rt: &HostRuntime, name: &mut [u8], length: usize, found: Found) -> io::Result<File> {
+fn make(rt: &HostRuntime, name: &mut PathBytes, found: Option<&Metadata>) -> io::Result<File> {
     for _ in 0..NAMES {
-        draw(rt, name, length)?;
-        match make_new(rt, part(name, 0, length), found) {
+        name.end_with(&draw(rt)?);
+        match make_new(rt, name.bytes(), found) {
             Err(error) if error.kind() == ErrorKind::AlreadyExists => {}
             made => return made,
         }
@@ -88,63 +87,36 @@ fn make(rt: &HostRuntime, name: &mut [u8], length: usize, found: Found) -> io::R
 }
 
 // The last six bytes of a name.
-fn draw(rt: &HostRuntime, name: &mut [u8], length: usize) -> io::Result<()> {
+fn draw(rt: &HostRuntime) -> io::Result<[u8; 6]> {
     let mut drawn = [0u8; 6];
     rt.fill_bytes(&mut drawn)?;
-    for byte in drawn.iter_mut() {
-        *byte = LETTERS[(*byte % 62) as usize];
-    }
-    put_bytes(name, length.saturating_sub(6), &drawn);
-    Ok(())
+    Ok(drawn.map(|byte| LETTERS[usize::from(byte % 62)]))
 }
 
 // Nobody else may open it, until it is given the old file's permissions. Where there was no file, it has those that the system
 // gives to new files.
-fn make_new(rt: &HostRuntime, name: &[u8], found: Found) -> io::Result<File> {
-    let mode = match found {
-        Found::Nothing => 0o666,
-        _ => 0o600,
-    };
+fn make_new(rt: &HostRuntime, name: &[u8], found: Option<&Metadata>) -> io::Result<File> {
     File::options()
         .write(true)
         .create_new(true)
-        .mode(mode)
+        .mode(found.map_or(0o666, |_| 0o600))
         .open(rt, path_text(name)?)
 }
 
-fn fill(rt: &HostRuntime, who: &[u8], file: File, found: Found, bytes: &[u8]) -> bool {
-    let mut new = file;
-    if !did(
-        rt,
-        write_whole(&mut new, bytes),
-        who,
-        b"not saved: writing the new file",
-    ) {
-        return false;
-    }
+fn fill(mut file: File, found: Option<&Metadata>, bytes: &[u8]) -> Result<(), Failure> {
+    write_whole(&mut file, bytes).context("not saved: writing the new file")?;
     // A write takes permissions away, so they come after it.
-    if let Found::File(status) = found {
-        if !keep_status(rt, who, &new, status) {
-            return false;
-        }
+    if let Some(status) = found {
+        keep_status(&file, status)?;
     }
-    did(rt, new.sync_all(), who, b"not saved: syncing the new file")
+    file.sync_all().context("not saved: syncing the new file")
 }
 
 // So does a change of owner.
-fn keep_status(rt: &HostRuntime, who: &[u8], file: &File, status: Status) -> bool {
-    if !did(
-        rt,
-        fchown(file, Some(status.owner), Some(status.group)),
-        who,
-        b"not saved: keeping its owner and group",
-    ) {
-        return false;
-    }
-    did(
-        rt,
-        file.set_permissions(Permissions::from_mode(permissions(status.mode))),
-        who,
-        b"not saved: keeping its permissions",
-    )
+fn keep_status(file: &File, status: &Metadata) -> Result<(), Failure> {
+    fchown(file, Some(status.uid()), Some(status.gid())).context(
+        "not saved: keeping its owner and group",
+    )?;
+    file.set_permissions(Permissions::from_mode(permissions(status.mode())))
+        .context("not saved: keeping its permissions")
 }

@@ -3,12 +3,10 @@ ghost use Rattle.std.specs.Prelude.{◌≡◌};
 ghost use Rattle.files.specs.Status.{permissions_of};
 ghost use Rattle.files.specs.Status.{is_regular as Status·is_regular};
 
-use crate::path::{follow, path_text};
+use crate::path::{PathBytes, path_text};
 use std::fs::{File, Metadata};
-use std::os::unix::fs::MetadataExt;
 use std::path::PathBuf;
 use std::{fs, io};
-use text::line::part;
 
 // As many as the system follows.
 const LINKS: usize = 40;
@@ -18,50 +16,14 @@ const PERMISSIONS: u32 = 0o10000;
 
 const REGULAR: u32 = 0o100000 / PERMISSIONS;
 
-#[derive(Clone, Copy)]
-pub struct Status {
-    pub mode: u32,
-    pub owner: u32,
-    pub group: u32,
-    pub device: u64,
-    pub inode: u64,
-}
-
-#[derive(Clone, Copy)]
-pub enum Looked {
-    Found(Status),
-    Failed(io::Error),
-}
-
 // The status of the file that a path names, links followed.
-pub fn look(rt: &HostRuntime, path: &[u8]) -> Looked {
-    status_of(look_behind(rt, path))
-}
-
-// The status of what a path names, which may be a link.
-pub fn look_at(rt: &HostRuntime, path: &[u8]) -> Looked {
-    status_of(look_before(rt, path))
-}
-
-fn look_behind(rt: &HostRuntime, path: &[u8]) -> io::Result<Metadata> {
+pub fn look(rt: &HostRuntime, path: &[u8]) -> io::Result<Metadata> {
     fs::metadata(rt, path_text(path)?)
 }
 
-fn look_before(rt: &HostRuntime, path: &[u8]) -> io::Result<Metadata> {
+// The status of what a path names, which may be a link.
+pub fn look_at(rt: &HostRuntime, path: &[u8]) -> io::Result<Metadata> {
     fs::symlink_metadata(rt, path_text(path)?)
-}
-
-fn status_of(found: io::Result<Metadata>) -> Looked {
-    match found {
-        Ok(found) => Looked::Found(Status {
-            mode: found.mode(),
-            owner: found.uid(),
-            group: found.gid(),
-            device: found.dev(),
-            inode: found.ino(),
-        }),
-        Err(error) => Looked::Failed(error),
-    }
 }
 
 pub fn is_regular(mode: u32) -> bool
@@ -82,31 +44,16 @@ pub fn may_be_written(rt: &HostRuntime, path: &[u8]) -> io::Result<()> {
     Ok(())
 }
 
-// The path behind the links that a path names, in its place. Whether something is there is not asked.
-pub fn resolve(rt: &HostRuntime, path: &mut [u8], length: usize) -> usize {
-    let mut n = length;
-    let mut links = 0;
-    while links < LINKS {
-        let Link::To(next) = link_at(rt, path, n) else {
-            return n;
+// The path behind the links that a path names. Whether something is there is not asked.
+pub fn resolve(rt: &HostRuntime, path: &[u8]) -> PathBytes {
+    let mut target = PathBytes::of(path);
+    for _ in 0..LINKS {
+        let Ok(link) = read_link(rt, target.bytes()) else {
+            break;
         };
-        n = next;
-        links += 1;
+        target.follow(link.as_str().as_bytes());
     }
-    n
-}
-
-#[derive(Clone, Copy)]
-enum Link {
-    To(usize),
-    Nowhere,
-}
-
-fn link_at(rt: &HostRuntime, path: &mut [u8], length: usize) -> Link {
-    let Ok(link) = read_link(rt, part(path, 0, length)) else {
-        return Link::Nowhere;
-    };
-    Link::To(follow(path, length, link.as_str().as_bytes()))
+    target
 }
 
 fn read_link(rt: &HostRuntime, path: &[u8]) -> io::Result<PathBuf> {

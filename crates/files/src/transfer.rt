@@ -1,5 +1,5 @@
 // Bytes read and written whole: every call is asked, and made again where a signal came before the first byte.
-ghost use Rattle.std.specs.Prelude.{◌≤◌, length, IfOk};
+ghost use Rattle.std.specs.Prelude.{length};
 ghost use Rattle.files.specs.Within.{InBuffer};
 
 use std::fs::File;
@@ -7,65 +7,44 @@ use std::io::ErrorKind;
 use std::os::fd::AsFd;
 use std::{fs, io};
 
-#[derive(Clone, Copy)]
-pub enum Read {
-    Bytes(usize),
-    Failed(io::Error),
-}
-
 // Up to the end of the input, or of the buffer.
-pub fn read_whole<R: io::Read>(from: &mut R, buffer: &mut [u8]) -> Read
+pub fn read_whole<R: io::Read>(from: &mut R, buffer: &mut [u8]) -> io::Result<usize>
     ensures { InBuffer result (length buffer.old) }
 {
     let mut done = 0;
     while done < buffer.len() {
-        match read_some(from, &mut buffer[done..]) {
-            Read::Bytes(0) => return Read::Bytes(done),
-            Read::Bytes(n) => done += n,
-            Read::Failed(error) => return Read::Failed(error),
+        match read_some(from, &mut buffer[done..])? {
+            0 => break,
+            n => done += n,
         }
     }
-    Read::Bytes(done)
+    Ok(done)
 }
 
 // What there is, 0 bytes at the end of the input. No proof knows that signals end, so the turns are counted, up to a number that
 // is never reached.
-pub fn read_some<R: io::Read>(from: &mut R, buffer: &mut [u8]) -> Read
+pub fn read_some<R: io::Read>(from: &mut R, buffer: &mut [u8]) -> io::Result<usize>
     ensures { InBuffer result (length buffer.old) }
 {
     for _ in 0..u64::MAX {
         match from.read(buffer) {
-            Ok(n) => return Read::Bytes(n),
             Err(error) if error.kind() == ErrorKind::Interrupted => {}
-            Err(error) => return Read::Failed(error),
+            read => return read,
         }
     }
-    Read::Failed(io::Error::from(ErrorKind::Interrupted))
+    Err(io::Error::from(ErrorKind::Interrupted))
 }
 
 pub fn write_whole<W: io::Write>(to: &mut W, bytes: &[u8]) -> io::Result<()> {
-    let mut sent = 0;
-    while sent < bytes.len() {
-        let n = write_some(to, &bytes[sent..])?;
-        if n == 0 {
-            return Err(io::Error::from(ErrorKind::WriteZero));
-        }
-        sent += n;
-    }
-    Ok(())
+    to.write_all(bytes).map_err(without_text)
 }
 
-// How many bytes were taken, 0 where none can be.
-fn write_some<W: io::Write>(to: &mut W, bytes: &[u8]) -> io::Result<usize>
-    ensures { IfOk result (λ n. n ≤ length bytes.now) }
-{
-    for _ in 0..u64::MAX {
-        match to.write(bytes) {
-            Err(error) if error.kind() == ErrorKind::Interrupted => {}
-            put => return put,
-        }
+// Where a write takes nothing, std's own text is left out: the message has the kind's.
+fn without_text(error: io::Error) -> io::Error {
+    match error.kind() {
+        ErrorKind::WriteZero => io::Error::from(ErrorKind::WriteZero),
+        _ => error,
     }
-    Ok(0)
 }
 
 // The streams that a program writes.
@@ -96,10 +75,7 @@ pub fn settle(rt: &HostRuntime, to: Stream) -> io::Result<()> {
 // opened so, as one that may not be read, a loss at the end stays untold.
 fn sync<F: AsFd>(rt: &HostRuntime, stream: &F, path: &str) -> io::Result<()> {
     let _open = stream.as_fd().try_clone_to_owned()?;
-    let Ok(status) = fs::metadata(rt, path) else {
-        return Ok(());
-    };
-    if !status.is_file() {
+    if !fs::metadata(rt, path).is_ok_and(|status| status.is_file()) {
         return Ok(());
     }
     let Ok(file) = File::open(rt, path) else {
