@@ -31,22 +31,14 @@ pub fn show(v: View<'_>, out: &mut [u8], at: usize) -> usize
 fn show_view(v: View<'_>, lists: &[u8], out: &mut [u8], at: usize) -> usize
     ensures { Puts out.old at (view_shown (disk_of v.entry) v.entry.number lists.now) out.new result }
 {
-    let position = put_each(
-        out,
-        at,
-        lists,
-        |out: &mut [u8], at: usize, list: u8| -> usize
-            ensures { Puts out.old at (list_shown (disk_of v.entry) v.entry.number list) out.new result }
-        { show_list(v, list, out, at) },
-    );
-    put_each(
-        out,
-        position,
-        lists,
-        |out: &mut [u8], at: usize, list: u8| -> usize
-            ensures { Puts out.old at (contents_on (disk_of v.entry) v.entry.number list) out.new result }
-        { show_contents(v, list, out, at) },
-    )
+    let list_text = |out: &mut [u8], at: usize, list: u8| -> usize
+        ensures { Puts out.old at (list_shown (disk_of v.entry) v.entry.number list) out.new result }
+    { show_list(v, list, out, at) };
+    let contents = |out: &mut [u8], at: usize, list: u8| -> usize
+        ensures { Puts out.old at (contents_on (disk_of v.entry) v.entry.number list) out.new result }
+    { show_contents(v, list, out, at) };
+    let position = put_each(out, at, lists, list_text);
+    put_each(out, position, lists, contents)
 }
 
 fn show_list(v: View<'_>, list: u8, out: &mut [u8], at: usize) -> usize
@@ -63,14 +55,10 @@ fn show_contents(v: View<'_>, list: u8, out: &mut [u8], at: usize) -> usize
 {
     let mut blocks = [0u8; BLOCKS];
     let n = gather(v, list, &mut blocks);
-    put_each(
-        out,
-        at,
-        part(&blocks, 0, n),
-        |out: &mut [u8], at: usize, block: u8| -> usize
-            ensures { Puts out.old at (block_shown (disk_of v.entry) v.entry.number block) out.new result }
-        { show_block(v, block, out, at) },
-    )
+    let content = |out: &mut [u8], at: usize, block: u8| -> usize
+        ensures { Puts out.old at (block_shown (disk_of v.entry) v.entry.number block) out.new result }
+    { show_block(v, block, out, at) };
+    put_each(out, at, part(&blocks, 0, n), content)
 }
 
 // So many blocks of the list are put into the table, which has a place for each.
