@@ -5,9 +5,8 @@ use mathlib.Core.List.{List, [], ◌∷◌, ◌++◌, append_assoc, append-nil}
 use Prim.Native.Nat.{ℕ, zero, suc, ◌+◌, ◌-◌, ◌≤◌, ◌<◌}
 use native.Mathlib.Omega.{arith}
 use native.Mathlib.Numerals.{add-one}
-use lib.ListN.{length, take, get_or, set, replicate, length-set}
+use lib.ListN.{length, take, set, replicate, length-set}
 use lib.Seq.{slice, take-suc, take-set-le, get_or-set_same}
-use Rattle.lists.specs.Basic.{joined}
 use Rattle.lists.proofs.Basic.{eqb-false}
 use Rattle.answers.specs.declared.Refusal.{Refusal}
 use Rattle.answers.specs.declared.ReadReply as R
@@ -20,17 +19,7 @@ use Rattle.answers.specs.Answers.{number, read_answer, number_answer}
 use Rattle.calls.specs.Performs.{Performs}
 use Rattle.calls.proofs.Refusing.{number-nonzero}
 use Rattle.script.specs.Lines.{number_line, block_line, unwritten_line}
-use Rattle.commands.specs.Shown.{each_of, block_behind, blocks_from, blocks_on, block_shown, view_shown, shown}
-
--- one number more
-pub each_more : (f : ℕ → List ℕ) (ns : List ℕ) (i : ℕ) → i < length ns → each_of f (take (i + 1) ns) ≡ each_of f (take i ns) ++ f (get_or ns i 0)
-unfolding joined
-each_more f ns i h = rw (add-one i) (go ns i h)
-  where
-    go : (ns : List ℕ) (i : ℕ) → i < length ns → each_of f (take (suc i) ns) ≡ each_of f (take i ns) ++ f (get_or ns i 0)
-    go [] i h = absurd (omega arith)
-    go (n ∷ ns) zero h = append-nil (f n)
-    go (n ∷ ns) (suc i) h = rw (go ns i (omega arith)) (sym (append_assoc (f n) (each_of f (take i ns)) (f (get_or ns i 0))))
+use Rattle.commands.specs.Shown.{block_behind, blocks_from, blocks_on, block_shown, view_shown, shown}
 
 stored_more : (bs : List ℕ) (n b : ℕ) → n < length bs → take (suc n) (set bs n b) ≡ take n bs ++ b ∷ []
 stored_more bs n b h =

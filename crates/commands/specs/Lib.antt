@@ -4,3 +4,4 @@ pub mod Called
 pub mod Cut
 pub mod Shown
 pub mod Ran
+pub mod Viewed

@@ -1,17 +1,13 @@
 -- What `show` prints of a view, by the look-ups: "for each list in inventory order `list L:` and its blocks as the lister has them, then for each of these
 -- blocks, list by list, `block B: HEX`", with its race, and "`block B: unwritten`"; "refused: `A`".
-use Rattle.std.specs.Prelude.{true, false, cond, List, [], ◌∷◌, ◌++◌, map, ℕ, zero, suc, eqb, replicate}
+use Rattle.std.specs.Prelude.{true, false, cond, List, [], ◌∷◌, ◌++◌, ℕ, zero, suc, eqb, replicate}
 use Rattle.std.proofs.Math.Seq.{slice}
-use Rattle.lists.specs.Basic.{joined}
+use Rattle.text.specs.Each.{each_of}
 use Rattle.disk.specs.Disk.{Disk}
 use Rattle.disk.specs.Call.{read_block, block_after, inventory, in_view}
 use Rattle.disk.specs.Perform.{perform}
 use Rattle.listing.specs.Listing.{list_line}
 use Rattle.script.specs.Lines.{number_line, block_line, unwritten_line}
-
--- a text for each of these numbers
-abbrev pub each_of : (ℕ → List ℕ) → List ℕ → List ℕ
-each_of f ns = joined (map f ns)
 
 module _ (d : Disk) (v : ℕ) where
   -- the block behind another on a list, 0 if there is none

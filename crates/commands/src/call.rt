@@ -4,6 +4,7 @@ ghost use Rattle.disk.specs.Call.{on_stream};
 ghost use Rattle.commands.specs.Called.{edit_of, call_of, Calls};
 
 use crate::look::look;
+use crate::view::View;
 use disk::record::RECORD;
 use script::command::{Edit, Request};
 use script::replies::{put_answer, put_flushed, put_mounted, put_numbered};
@@ -59,7 +60,14 @@ pub fn call(
             edit(stream as usize, e, line, card, queue, journal, rec, out, at)
         }
         Request::Look { view, look: l } => {
-            look(view as usize, l, card, queue, journal, rec, out, at)
+            let v = View {
+                card,
+                queue,
+                journal,
+                rec,
+                number: view as usize,
+            };
+            look(v, l, out, at)
         }
     }
 }

@@ -5,7 +5,7 @@ ghost use Rattle.disk.specs.Disk.{disk, disk_in};
 ghost use Rattle.commands.specs.Cut.{cut_allowance, broken_flush, broken_format, Breaks, Loses};
 
 use crate::power::cut;
-use crate::state::{Ran, State, least, with_record};
+use crate::state::{Ran, State};
 use answers::{FlushReply, NumberReply, Refusal, number_of};
 use calls::flush::ALLOWANCE;
 use card_log::layout::SEGMENT;
@@ -38,7 +38,7 @@ fn cut_allowance(allowance: usize, stores: usize) -> usize
     ensures { result ≡ cut_allowance allowance stores }
 {
     if allowance <= ALLOWANCE {
-        least(allowance, stores)
+        allowance.min(stores)
     } else {
         allowance
     }
@@ -51,7 +51,7 @@ pub fn broken_format(card: &mut [u8], queue: &[u8], journal: &[u8], stores: usiz
     if !lengths_right(card, queue, journal) {
         return NumberReply::Refused(Refusal::WrongLength);
     }
-    let made = least(stores, card.len() / SEGMENT);
+    let made = stores.min(card.len() / SEGMENT);
     format_stores(card, stores);
     NumberReply::Number(made)
 }
@@ -72,7 +72,7 @@ pub fn cut_short(
             let rec = cut(queue, journal);
             let next = put_cut(out, at, k as u64);
             Ran {
-                state: with_record(state, rec),
+                state: State { rec, ..state },
                 at: next,
             }
         }

@@ -8,3 +8,4 @@ pub mod power;
 pub mod run;
 mod show;
 pub mod state;
+mod view;

@@ -13,17 +13,7 @@ pub fn cut(queue: &mut [u8], journal: &mut [u8]) -> [u8; RECORD]
         × (queue.new ≡ replicate (length queue.old) 165)
         × (journal.new ≡ replicate (length journal.old) 165) }
 {
-    fill(queue, LEFT);
-    fill(journal, LEFT);
+    queue.fill(LEFT);
+    journal.fill(LEFT);
     [LEFT; RECORD]
-}
-
-pub fn fill(bytes: &mut [u8], b: u8)
-    ensures { bytes.new ≡ replicate (length bytes.old) b }
-{
-    let mut i = 0;
-    while i < bytes.len() {
-        bytes[i] = b;
-        i += 1;
-    }
 }

@@ -7,11 +7,10 @@ ghost use Rattle.commands.specs.Ran.{poked, lending, cutting, printing, worked, 
 
 use crate::call::call;
 use crate::cutting::{broken_flush, broken_format, cut_short};
-use crate::power::{cut, fill};
+use crate::power::cut;
 use crate::show::show;
-use crate::state::{
-    JOURNAL_DATA, LONGEST_CARD, QUEUE_DATA, Ran, State, least, with_card, with_record, within,
-};
+use crate::state::{JOURNAL_DATA, LONGEST_CARD, QUEUE_DATA, Ran, State, with_card};
+use crate::view::View;
 use script::command::{Command, Cut, Lend, Print, Tool};
 use script::lines::put_number;
 use script::parse::command;
@@ -36,9 +35,9 @@ pub fn run(
         Command::Unknown => said(state, out, at, b"?\n"),
         Command::Call(q) => {
             // A call sees only what is lent.
-            let n = least(state.card, state.size);
-            let m = within(state.queue, queue);
-            let k = within(state.journal, journal);
+            let n = state.card.min(state.size);
+            let m = state.queue.min(queue.len());
+            let k = state.journal.min(journal.len());
             let mut rec = state.rec;
             let next = call(
                 q,
@@ -51,7 +50,7 @@ pub fn run(
                 at,
             );
             Ran {
-                state: with_record(state, rec),
+                state: State { rec, ..state },
                 at: next,
             }
         }
@@ -103,10 +102,10 @@ fn cut_power(
     match x {
         Cut::Between => {
             let rec = cut(queue, journal);
-            said(with_record(state, rec), out, at, b"cut\n")
+            said(State { rec, ..state }, out, at, b"cut\n")
         }
         Cut::Flush { allowance, stores } => {
-            let n = least(state.card, state.size);
+            let n = state.card.min(state.size);
             let mut rec = state.rec;
             let broken = broken_flush(
                 &mut card[..n],
@@ -119,7 +118,7 @@ fn cut_power(
             cut_short(broken, queue, journal, state, out, at)
         }
         Cut::Format { stores } => {
-            let n = least(state.card, state.size);
+            let n = state.card.min(state.size);
             let broken = broken_format(
                 &mut card[..n],
                 part(queue, 0, state.queue),
@@ -136,25 +135,19 @@ fn lend(l: Lend, state: State) -> State
     ensures { (result.size ≡ state.size) × ((card queue journal : List ℕ) → Fits card state → shell_of card queue journal result ≡ lending l (shell_of card queue journal state)) }
 {
     match l {
-        Lend::Card { most } => {
-            let mut next = state;
-            next.card = least(most as usize, state.size);
-            next
-        }
-        Lend::Queue { most } => {
-            let mut next = state;
-            next.queue = least(most as usize, QUEUE_DATA);
-            next
-        }
-        Lend::Journal { most } => {
-            let mut next = state;
-            next.journal = least(most as usize, JOURNAL_DATA);
-            next
-        }
-        Lend::All => {
-            let rec = state.rec;
-            with_card(rec, state.size)
-        }
+        Lend::Card { most } => State {
+            card: (most as usize).min(state.size),
+            ..state
+        },
+        Lend::Queue { most } => State {
+            queue: (most as usize).min(QUEUE_DATA),
+            ..state
+        },
+        Lend::Journal { most } => State {
+            journal: (most as usize).min(JOURNAL_DATA),
+            ..state
+        },
+        Lend::All => with_card(state.rec, state.size),
     }
 }
 
@@ -177,15 +170,14 @@ fn print(
         Print::Listing => listing::listing(part(card, 0, state.size), out, at),
         Print::Show { view } => {
             let rec = state.rec;
-            show(
-                part(card, 0, least(state.card, state.size)),
-                part(queue, 0, state.queue),
-                part(journal, 0, state.journal),
-                &rec,
-                view as usize,
-                out,
-                at,
-            )
+            let v = View {
+                card: part(card, 0, state.card.min(state.size)),
+                queue: part(queue, 0, state.queue),
+                journal: part(journal, 0, state.journal),
+                rec: &rec,
+                number: view as usize,
+            };
+            show(v, out, at)
         }
     }
 }
@@ -195,8 +187,8 @@ fn refill(card: &mut [u8], length: usize, byte: u8) -> usize
     requires { longest_card ≤ Len card.old }
     ensures { (result ≡ min length longest_card) × (card.new ≡ replicate result byte ++ drop result card.old) }
 {
-    let n = least(length, LONGEST_CARD);
-    fill(&mut card[..n], byte);
+    let n = length.min(LONGEST_CARD);
+    card[..n].fill(byte);
     n
 }
 

@@ -1,5 +1,5 @@
 // What the shell keeps from command to command, beside the card and both data buffers.
-ghost use Rattle.std.specs.Prelude.{◌≡◌, min, length};
+ghost use Rattle.std.specs.Prelude.{◌≡◌};
 
 use disk::record::RECORD;
 
@@ -38,25 +38,4 @@ pub fn with_card(rec: [u8; RECORD], size: usize) -> State
         queue: QUEUE_DATA,
         journal: JOURNAL_DATA,
     }
-}
-
-pub fn with_record(s: State, rec: [u8; RECORD]) -> State
-    ensures { result ≡ record { rec = rec; size = s.size; card = s.card; queue = s.queue; journal = s.journal } }
-{
-    let mut next = s;
-    next.rec = rec;
-    next
-}
-
-pub fn least(a: usize, b: usize) -> usize
-    ensures { result ≡ min a b }
-{
-    if a < b { a } else { b }
-}
-
-// So many bytes, or as many as there are.
-pub fn within(n: usize, bytes: &[u8]) -> usize
-    ensures { result ≡ min n (length bytes.now) }
-{
-    least(n, bytes.len())
 }

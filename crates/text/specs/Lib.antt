@@ -4,3 +4,4 @@ pub mod Decimal
 pub mod Hex
 pub mod Line
 pub mod Written
+pub mod Each

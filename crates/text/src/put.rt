@@ -1,6 +1,7 @@
 // Bytes put into a lent buffer. Every writer stores what of its text lies within the buffer and returns the position after
 // the text, so that writers follow each other unasked; a position past the buffer's end says that the text did not fit.
-ghost use Rattle.std.specs.Prelude.{[], ◌∷◌};
+ghost use Rattle.std.specs.Prelude.{[], ◌∷◌, List, ℕ};
+ghost use Rattle.text.specs.Each.{each_of};
 ghost use Rattle.text.specs.Columns.{blanks};
 ghost use Rattle.text.specs.Written.{Puts};
 
@@ -31,6 +32,23 @@ pub fn put_blanks(out: &mut [u8], at: usize, n: usize) -> usize
     let mut position = at;
     for _ in 0..n {
         position = put_byte(out, position, b' ');
+    }
+    position
+}
+
+// The text of each item, one behind the other.
+pub fn put_each<F: Fn(&mut [u8], usize, u8) -> usize>(
+    out: &mut [u8],
+    at: usize,
+    items: &[u8],
+    put: F,
+) -> usize
+    requires { F.IsAlwaysCallable put }
+    ensures { (text : ℕ → List ℕ) → ((o o' : _) (p x r : ℕ) → F.post put o p x r o' → Puts o.now p (text x) o'.now r) → Puts out.old at (each_of text items.now) out.new result }
+{
+    let mut position = at;
+    for x in items {
+        position = put(out, position, *x);
     }
     position
 }

@@ -13,4 +13,4 @@ pub returns : goal.returns
 unfolding formatted
 returns c =
     λ rec. format-broken _ _ (sym (c.lengths_right.ensures rec) ∙ not-false c.lengths_right.result c.if-not-lengths_right.false-raw)
-    _ c.least-made.ensures _ c.format_stores.ensures
+    _ c.min-made.ensures _ c.format_stores.ensures

@@ -5,7 +5,7 @@ use Rattle.commands.proofs.cutting.cut_allowance.Goals as goal
 
 pub returns-then-allowance-le-ALLOWANCE : goal.returns-then-allowance-le-ALLOWANCE
 unfolding cut_allowance
-returns-then-allowance-le-ALLOWANCE c = rw (le-true _ 65535 c.if-allowance-le-ALLOWANCE.true) c.least.ensures
+returns-then-allowance-le-ALLOWANCE c = rw (le-true _ 65535 c.if-allowance-le-ALLOWANCE.true) c.min.ensures
 
 pub returns-else-allowance-le-ALLOWANCE : goal.returns-else-allowance-le-ALLOWANCE
 unfolding cut_allowance

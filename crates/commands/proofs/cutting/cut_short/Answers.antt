@@ -7,7 +7,7 @@ pub returns-in-Number : goal.returns-in-Number
 unfolding Loses
 returns-in-Number c =
     let lost = c.cut-rec.ensures in
-    rw c.in-Number.is (rw lost.0 at c.with_record.ensures, lost.1, lost.2, c.put_cut-next.ensures)
+    rw c.in-Number.is (rw lost.0, lost.1, lost.2, c.put_cut-next.ensures)
 
 pub returns-in-Refused : goal.returns-in-Refused
 unfolding Loses

@@ -6,15 +6,15 @@ use Rattle.commands.proofs.run.lend.Goals as goal
 
 pub returns-in-Card : goal.returns-in-Card
 unfolding lending
-returns-in-Card c = (refl, λ u v w f. rw (c.in-Card.is, c.least.ensures, length-take-le c.args.state.size u f.whole))
+returns-in-Card c = (refl, λ u v w f. rw (c.in-Card.is, c.min.ensures, length-take-le c.args.state.size u f.whole))
 
 pub returns-in-Queue : goal.returns-in-Queue
 unfolding lending
-returns-in-Queue c = (refl, λ u v w f. rw (c.in-Queue.is, c.least-in-Queue.ensures))
+returns-in-Queue c = (refl, λ u v w f. rw (c.in-Queue.is, c.min-in-Queue.ensures))
 
 pub returns-in-Journal : goal.returns-in-Journal
 unfolding lending
-returns-in-Journal c = (refl, λ u v w f. rw (c.in-Journal.is, c.least-in-Journal.ensures))
+returns-in-Journal c = (refl, λ u v w f. rw (c.in-Journal.is, c.min-in-Journal.ensures))
 
 pub returns-in-All : goal.returns-in-All
 unfolding lending

@@ -16,4 +16,4 @@ unfolding printing
 returns-in-Show c =
     let a = c.args in
     rw (c.in-Show.is, lent-disk a.card.now a.queue.now a.journal.now a.state)
-    (rw (c.part-in-Show.ensures, c.part-in-Show-2.ensures, c.part-in-Show-3.ensures, c.least.ensures) at c.show.ensures)
+    (rw (c.part-in-Show.ensures, c.part-in-Show-2.ensures, c.part-in-Show-3.ensures, c.min.ensures) at c.show.ensures)

@@ -13,13 +13,13 @@ use Rattle.commands.proofs.Running.{runs, lent_runs}
 use Rattle.commands.proofs.run.run.Goals as goal
 
 pub slice_bounds-call-end-in-Call : goal.slice_bounds-call-end-in-Call
-slice_bounds-call-end-in-Call c = sym (length-take-le c.least-n.result c.args.card.now (omega (arith, c.least-n.ensures, c.requires.whole)))
+slice_bounds-call-end-in-Call c = sym (length-take-le c.min-n.result c.args.card.now (omega (arith, c.min-n.ensures, c.requires.whole)))
 
 pub slice_bounds-call-end-in-Call-3 : goal.slice_bounds-call-end-in-Call-3
-slice_bounds-call-end-in-Call-3 c = rw c.within-m.ensures (lent-count _ c.args.queue.now)
+slice_bounds-call-end-in-Call-3 c = rw c.min-m.ensures (lent-count _ c.args.queue.now)
 
 pub slice_bounds-call-end-in-Call-5 : goal.slice_bounds-call-end-in-Call-5
-slice_bounds-call-end-in-Call-5 c = rw c.within-k.ensures (lent-count _ c.args.journal.now)
+slice_bounds-call-end-in-Call-5 c = rw c.min-k.ensures (lent-count _ c.args.journal.now)
 
 pub returns-in-Nothing : goal.returns-in-Nothing
 unfolding ran
@@ -39,11 +39,11 @@ returns-in-Call c =
     let a = c.args in
     let f = c.requires in
     let s = a.state in
-    let n : c.least-n.result ≡ min (min s.card s.size) (length a.card.now) = omega (arith, c.least-n.ensures, f.whole) in
-    let q = c.within-m.ensures in
-    let j = c.within-k.ensures in
+    let n : c.min-n.result ≡ min (min s.card s.size) (length a.card.now) = omega (arith, c.min-n.ensures, f.whole) in
+    let q = c.min-m.ensures in
+    let j = c.min-k.ensures in
     rw (← c.command.ensures, c.in-Call.is, n, q, j)
-    (lent_runs a.card.now a.queue.now a.journal.now s f _ _ _ _ (call_of a.line.now _) _ (rw n at c.card-1.given.0) c.with_record.ensures (rw (n, q, j) at c.call-next.ensures))
+    (lent_runs a.card.now a.queue.now a.journal.now s f _ _ _ _ (call_of a.line.now _) _ (rw n at c.card-1.given.0) refl (rw (n, q, j) at c.call-next.ensures))
 
 pub returns-in-Tool : goal.returns-in-Tool
 unfolding ran

@@ -1,42 +1,11 @@
--- Each turn shows one list's contents more. Assumes nothing.
-use native.Mathlib.Omega.{arith}
-use lib.Seq.{take_all}
-use Rattle.lists.specs.Basic.{joined}
-use Rattle.text.proofs.Writing.{puts_none, puts-more, puts-length}
-use Rattle.disk.specs.Disk.{disk_in}
-use Rattle.commands.specs.Shown.{contents_on}
-use Rattle.commands.proofs.Showing.{each_more}
+-- The blocks gathered are the list's. Assumes nothing.
+use mathlib.Core.Path.{◌∙◌}
+use Rattle.commands.specs.Viewed.{disk_of}
+use Rattle.commands.specs.Shown.{block_shown, contents_on}
 use Rattle.commands.proofs.show.show_contents.Goals as goal
 
-pub loop-i-init : goal.loop-i-init
-unfolding joined
-loop-i-init c = let a = c.args in (omega arith, puts_none a.out.now a.at)
-
-pub bounds-lists-i : goal.bounds-lists-i
-bounds-lists-i c = omega arith
-
-pub show_contents_on-position-requires : goal.show_contents_on-position-requires
-show_contents_on-position-requires c = tt
-
-pub overflow_add-i : goal.overflow_add-i
-overflow_add-i c = omega arith
-
-pub loop-i-smaller : goal.loop-i-smaller
-loop-i-smaller c = omega arith
-
-pub loop-i-preserved : goal.loop-i-preserved
-loop-i-preserved c =
-    let a = c.args in (
-      omega arith,
-      rw (each_more (contents_on (disk_in a.card.now a.queue.now a.journal.now a.rec.now) a.view) a.lists.now c.loop-i.i (omega arith))
-          (puts-more c.loop-i.invariant.1 c.show_contents_on-position.ensures),
-    )
-
-pub shape_of-out : goal.shape_of-out
-shape_of-out c = puts-length c.loop-i.invariant.1
-
 pub returns : goal.returns
+unfolding contents_on
 returns c =
-    let a = c.args in
-    let all = take_all c.loop-i.i a.lists.now (omega arith) in
-    rw all at c.loop-i.invariant.1
+    let v = c.args.v in
+    rw (c.part.ensures ∙ c.gather-n.ensures) at (c.put_each.ensures (block_shown (disk_of v) v.number) (λ o o' p x r h. h))
