@@ -1,5 +1,5 @@
 -- What a line of a script asks for: the rows of the language's table, in order.
-use Rattle.std.specs.Prelude.{Bool, true, false, ◌&&◌, ◌||◌, cond, Option, None, Some, List, [], ◌∷◌, ℕ, leb, ltb, eqb, length, get_or}
+use Rattle.std.specs.Prelude.{Bool, ◌&&◌, ◌||◌, cond, Option, None, Some, List, [], ◌∷◌, ℕ, leb, ltb, eqb, length, get_or}
 use Prim.Native.String.{String}
 use Rattle.std.proofs.Math.Seq.{slice}
 use Rattle.std.specs.Option.{option_map, option_and_then}

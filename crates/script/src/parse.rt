@@ -1,7 +1,8 @@
 // A line of a script as a command: the rows of the language's table, in order.
 ghost use Rattle.std.specs.Prelude.{◌≡◌};
+ghost use Rattle.std.proofs.Math.Seq.{slice};
 ghost use Rattle.script.specs.Arguments.{two_from};
-ghost use Rattle.script.specs.Commands.{command_of, is_quiet, named, middle_named, last_named, card_of, poke_of, write_from, read_from, begin_from, cut_from, lend_from};
+ghost use Rattle.script.specs.Commands.{command_of, is_quiet, last_named, pick, first_rows, middle_rows, card_of, poke_of, write_from, read_from, begin_from, cut_from, lend_from};
 ghost use Rattle.script.specs.Commands.{alone as Commands·alone};
 ghost use Rattle.script.specs.Commands.{on_stream as Commands·on_stream};
 ghost use Rattle.script.specs.Commands.{in_view as Commands·in_view};
@@ -14,7 +15,7 @@ use crate::command::{Command, Cut, Edit, Lend, Look, Print, Request, Tool};
 use lists::limits;
 use text::decimal::number;
 use text::hex::is_hex;
-use text::line::{is_same, word};
+use text::line::word;
 use text::word::Word;
 
 // The most bytes of a line.
@@ -33,7 +34,8 @@ const PAGE_LENT: u64 = 820;
 // The most that a line can say of a page.
 const MOST_PAGE: u64 = 1000;
 
-#[tactic(auto, unfolding(crate::specs::Commands::command_of))]
+// `None` where the line is no command of the language.
+#[tactic(auto, unfolding(crate::specs::Commands::command_of, crate::specs::Commands::named, crate::specs::Commands::middle_named))]
 pub fn command(line: &[u8]) -> Option<Command>
     ensures { result ≡ command_of line.now }
 {
@@ -43,7 +45,8 @@ pub fn command(line: &[u8]) -> Option<Command>
     if is_quiet(line) {
         return Some(Command::Nothing);
     }
-    first_rows(line, word(line, 0))
+    let w = word(line, 0);
+    first_rows(line, w, middle_rows(line, w, last_rows(line, w)))
 }
 
 // Is the line blank, or does it begin with `#`?
@@ -54,110 +57,73 @@ fn is_quiet(line: &[u8]) -> bool
     line.starts_with(b"#") || is_end(line, 0)
 }
 
-// The command that the name and the words behind it make. A `match` of byte strings has a goal for each byte of each name.
-#[tactic(auto, unfolding(crate::specs::Commands::named, crate::specs::Commands::first_rows, crate::specs::Commands::pick, crate::specs::Spelling::bytes))]
-fn first_rows(line: &[u8], w: Word) -> Option<Command>
-    ensures { result ≡ named line.now w.start w.end }
+// The command that the name and the words behind it make, and `other` where no row has the name.
+#[tactic(auto, using(crate::proofs::Words::words), unfolding(crate::specs::Commands::first_rows, crate::specs::Commands::pick, crate::specs::Spelling::bytes))]
+fn first_rows(line: &[u8], w: Word, other: Option<Command>) -> Option<Command>
+    ensures { result ≡ pick (slice w.start w.end line.now) (first_rows line.now w.end) other }
 {
     let at = w.end;
-    let name = w.text(line);
-    if is_same(name, b"card") {
-        return card(line, at);
-    }
-    if is_same(name, b"format") {
-        return alone(line, at, Command::Call(Request::Format));
-    }
-    if is_same(name, b"mount") {
-        return alone(line, at, Command::Call(Request::Mount));
-    }
-    if is_same(name, b"begin") {
-        return begin(line, at);
-    }
-    if is_same(name, b"end") {
-        return one_number(line, at).map(|unit| Command::Call(Request::End { unit }));
-    }
-    if is_same(name, b"newlist") {
-        return one_number(line, at).map(|stream| on_stream(stream, Edit::NewList));
-    }
-    if is_same(name, b"newblock") {
-        return three_numbers(line, at).map(|(stream, list, predecessor)| {
+    match w.text(line) {
+        b"card" => card(line, at),
+        b"format" => alone(line, at, Command::Call(Request::Format)),
+        b"mount" => alone(line, at, Command::Call(Request::Mount)),
+        b"begin" => begin(line, at),
+        b"end" => one_number(line, at).map(|unit| Command::Call(Request::End { unit })),
+        b"newlist" => one_number(line, at).map(|stream| on_stream(stream, Edit::NewList)),
+        b"newblock" => three_numbers(line, at).map(|(stream, list, predecessor)| {
             on_stream(stream, Edit::NewBlock { list, predecessor })
-        });
+        }),
+        _ => other,
     }
-    middle_rows(line, w)
 }
 
-#[tactic(auto, unfolding(crate::specs::Commands::middle_named, crate::specs::Commands::middle_rows, crate::specs::Commands::pick, crate::specs::Spelling::bytes))]
-fn middle_rows(line: &[u8], w: Word) -> Option<Command>
-    ensures { result ≡ middle_named line.now w.start w.end }
+#[tactic(auto, using(crate::proofs::Words::words), unfolding(crate::specs::Commands::middle_rows, crate::specs::Commands::pick, crate::specs::Spelling::bytes))]
+fn middle_rows(line: &[u8], w: Word, other: Option<Command>) -> Option<Command>
+    ensures { result ≡ pick (slice w.start w.end line.now) (middle_rows line.now w.end) other }
 {
     let at = w.end;
-    let name = w.text(line);
-    if is_same(name, b"write") {
-        return write(line, at);
-    }
-    if is_same(name, b"read") {
-        return read(line, at);
-    }
-    if is_same(name, b"delblock") {
-        return two_numbers(line, at).map(|(stream, block)| {
+    match w.text(line) {
+        b"write" => write(line, at),
+        b"read" => read(line, at),
+        b"delblock" => two_numbers(line, at).map(|(stream, block)| {
             on_stream(stream, Edit::DeleteBlock { block })
-        });
-    }
-    if is_same(name, b"dellist") {
-        return two_numbers(line, at).map(|(stream, list)| {
+        }),
+        b"dellist" => two_numbers(line, at).map(|(stream, list)| {
             on_stream(stream, Edit::DeleteList { list })
-        });
-    }
-    if is_same(name, b"flush") {
-        return one_number(line, at).map(|allowance| Command::Call(Request::Flush { allowance }));
-    }
-    if is_same(name, b"next") {
-        return three_numbers(line, at).map(|(view, list, predecessor)| {
+        }),
+        b"flush" => one_number(line, at).map(|allowance| {
+            Command::Call(Request::Flush { allowance })
+        }),
+        b"next" => three_numbers(line, at).map(|(view, list, predecessor)| {
             in_view(view, Look::Next { list, predecessor })
-        });
+        }),
+        b"conflicts" => window(line, at).map(|window| Command::Call(Request::Conflicts { window })),
+        _ => other,
     }
-    if is_same(name, b"conflicts") {
-        return window(line, at).map(|window| Command::Call(Request::Conflicts { window }));
-    }
-    last_rows(line, w)
 }
 
-#[tactic(auto, unfolding(crate::specs::Commands::last_named, crate::specs::Commands::last_rows, crate::specs::Commands::pick, crate::specs::Spelling::bytes))]
+#[tactic(auto, using(crate::proofs::Words::words), unfolding(crate::specs::Commands::last_named, crate::specs::Commands::last_rows, crate::specs::Commands::pick, crate::specs::Spelling::bytes))]
 fn last_rows(line: &[u8], w: Word) -> Option<Command>
     ensures { result ≡ last_named line.now w.start w.end }
 {
     let at = w.end;
-    let name = w.text(line);
-    if is_same(name, b"inventory") {
-        return number_lent(line, at, LISTS, MOST).map(|(view, lent)| {
+    match w.text(line) {
+        b"inventory" => number_lent(line, at, LISTS, MOST).map(|(view, lent)| {
             in_view(view, Look::Inventory { lent })
-        });
-    }
-    if is_same(name, b"page") {
-        return number_lent(line, at, PAGE_LENT, MOST_PAGE).map(|(view, lent)| {
+        }),
+        b"page" => number_lent(line, at, PAGE_LENT, MOST_PAGE).map(|(view, lent)| {
             in_view(view, Look::Page { lent })
-        });
+        }),
+        b"cut" => cut(line, at),
+        b"poke" => poke(line, at),
+        b"lend" => lend(line, at),
+        b"sum" => alone(line, at, Command::Tool(Tool::Print(Print::Sum))),
+        b"list" => alone(line, at, Command::Tool(Tool::Print(Print::Listing))),
+        b"show" => one_number(line, at).map(|view| {
+            Command::Tool(Tool::Print(Print::Show { view }))
+        }),
+        _ => None,
     }
-    if is_same(name, b"cut") {
-        return cut(line, at);
-    }
-    if is_same(name, b"poke") {
-        return poke(line, at);
-    }
-    if is_same(name, b"lend") {
-        return lend(line, at);
-    }
-    if is_same(name, b"sum") {
-        return alone(line, at, Command::Tool(Tool::Print(Print::Sum)));
-    }
-    if is_same(name, b"list") {
-        return alone(line, at, Command::Tool(Tool::Print(Print::Listing)));
-    }
-    if is_same(name, b"show") {
-        return one_number(line, at).map(|view| Command::Tool(Tool::Print(Print::Show { view })));
-    }
-    None
 }
 
 // A command without further words.
@@ -244,45 +210,40 @@ fn begin(line: &[u8], from: usize) -> Option<Command>
     Some(Command::Call(Request::Begin { unit, window }))
 }
 
-#[tactic(auto, unfolding(crate::specs::Commands::cut_from, crate::specs::Commands::cut_named, crate::specs::Commands::cut_rows, crate::specs::Commands::pick, crate::specs::Spelling::bytes))]
+#[tactic(auto, using(crate::proofs::Words::words), unfolding(crate::specs::Commands::cut_from, crate::specs::Commands::cut_named, crate::specs::Commands::cut_rows, crate::specs::Commands::pick, crate::specs::Spelling::bytes))]
 fn cut(line: &[u8], from: usize) -> Option<Command>
     ensures { result ≡ cut_from line.now from }
 {
     if is_end(line, from) {
         return Some(Command::Tool(Tool::Cut(Cut::Between)));
     }
-    let w = word(line, from);
-    let at = w.end;
-    let call = w.text(line);
-    if is_same(call, b"flush") {
-        return two_numbers(line, at).map(|(allowance, stores)| {
+    let call = word(line, from);
+    match call.text(line) {
+        b"flush" => two_numbers(line, call.end).map(|(allowance, stores)| {
             Command::Tool(Tool::Cut(Cut::Flush { allowance, stores }))
-        });
+        }),
+        b"format" => one_number(line, call.end).map(|stores| {
+            Command::Tool(Tool::Cut(Cut::Format { stores }))
+        }),
+        _ => None,
     }
-    if is_same(call, b"format") {
-        return one_number(line, at).map(|stores| Command::Tool(Tool::Cut(Cut::Format { stores })));
-    }
-    None
 }
 
-#[tactic(auto, unfolding(crate::specs::Commands::lend_from, crate::specs::Commands::lend_named, crate::specs::Commands::lend_rows, crate::specs::Commands::pick, crate::specs::Spelling::bytes))]
+#[tactic(auto, using(crate::proofs::Words::words), unfolding(crate::specs::Commands::lend_from, crate::specs::Commands::lend_named, crate::specs::Commands::lend_rows, crate::specs::Commands::pick, crate::specs::Spelling::bytes))]
 fn lend(line: &[u8], from: usize) -> Option<Command>
     ensures { result ≡ lend_from line.now from }
 {
-    let w = word(line, from);
-    let at = w.end;
-    let what = w.text(line);
-    if is_same(what, b"card") {
-        return one_number(line, at).map(|most| Command::Tool(Tool::Lend(Lend::Card { most })));
+    let what = word(line, from);
+    let at = what.end;
+    match what.text(line) {
+        b"card" => one_number(line, at).map(|most| Command::Tool(Tool::Lend(Lend::Card { most }))),
+        b"queue" => one_number(line, at).map(|most| {
+            Command::Tool(Tool::Lend(Lend::Queue { most }))
+        }),
+        b"journal" => one_number(line, at).map(|most| {
+            Command::Tool(Tool::Lend(Lend::Journal { most }))
+        }),
+        b"all" => alone(line, at, Command::Tool(Tool::Lend(Lend::All))),
+        _ => None,
     }
-    if is_same(what, b"queue") {
-        return one_number(line, at).map(|most| Command::Tool(Tool::Lend(Lend::Queue { most })));
-    }
-    if is_same(what, b"journal") {
-        return one_number(line, at).map(|most| Command::Tool(Tool::Lend(Lend::Journal { most })));
-    }
-    if is_same(what, b"all") {
-        return alone(line, at, Command::Tool(Tool::Lend(Lend::All)));
-    }
-    None
 }
