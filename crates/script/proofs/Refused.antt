@@ -6,20 +6,20 @@ use Rattle.answers.specs.declared.Refusal.{Refusal}
 use Rattle.answers.specs.declared.Refusal.TheVariants.{WrongLength, LogFault, RecordUnsound, StreamClosed, OutOfRange, UnitOpen, ListNotTaken, BlockNotPlaced, PredecessorElsewhere, NoNumberFree, JournalFull, Conflict, QueueFull, BufferTooShort, Unwritten}
 use Rattle.answers.specs.Answers.{number}
 
-pub refused-code : (x : Refusal) → eqb (number x) 0 ≡ false
+pub refused_code : (x : Refusal) → eqb (number x) 0 ≡ false
 unfolding number
-refused-code WrongLength = refl
-refused-code LogFault = refl
-refused-code RecordUnsound = refl
-refused-code StreamClosed = refl
-refused-code OutOfRange = refl
-refused-code UnitOpen = refl
-refused-code ListNotTaken = refl
-refused-code BlockNotPlaced = refl
-refused-code PredecessorElsewhere = refl
-refused-code NoNumberFree = refl
-refused-code JournalFull = refl
-refused-code Conflict = refl
-refused-code QueueFull = refl
-refused-code BufferTooShort = refl
-refused-code Unwritten = refl
+refused_code WrongLength = refl
+refused_code LogFault = refl
+refused_code RecordUnsound = refl
+refused_code StreamClosed = refl
+refused_code OutOfRange = refl
+refused_code UnitOpen = refl
+refused_code ListNotTaken = refl
+refused_code BlockNotPlaced = refl
+refused_code PredecessorElsewhere = refl
+refused_code NoNumberFree = refl
+refused_code JournalFull = refl
+refused_code Conflict = refl
+refused_code QueueFull = refl
+refused_code BufferTooShort = refl
+refused_code Unwritten = refl

@@ -6,8 +6,6 @@ use text::word::Word;
 pub enum Command {
     // A blank line, or one that begins with `#`.
     Nothing,
-    // No command of the language.
-    Unknown,
     Call(Request),
     Tool(Tool),
 }

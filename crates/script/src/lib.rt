@@ -4,6 +4,5 @@
 pub mod arguments;
 pub mod command;
 pub mod lines;
-pub mod numbered;
 pub mod parse;
 pub mod replies;

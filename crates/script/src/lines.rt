@@ -1,5 +1,4 @@
 // The parts that lines are put together from, and the lines that say no reply.
-ghost use Rattle.std.specs.Prelude.{◌≡◌};
 ghost use Rattle.text.specs.Written.{Puts};
 ghost use Rattle.listing.specs.Listing.{numbers, list_line};
 ghost use Rattle.script.specs.Lines.{number_line, pair_line, triple_line, cut_line, raced_text, block_line, unwritten_line, spaced};
@@ -8,6 +7,7 @@ use text::decimal::put_decimal;
 use text::hex::put_hex;
 use text::put::{put_byte, put_bytes};
 
+// One number, two or three: a loop over a slice of them would be `put_numbers` once more.
 // `A`
 pub fn put_number(out: &mut [u8], at: usize, a: u64) -> usize
     ensures { Puts out.old at (number_line a) out.new result }
@@ -48,10 +48,8 @@ pub fn put_numbers(out: &mut [u8], at: usize, ns: &[u8]) -> usize
     ensures { Puts out.old at (numbers ns.now) out.new result }
 {
     let mut position = at;
-    let mut i = 0;
-    while i < ns.len() {
-        position = put_spaced(out, position, wide(ns[i]));
-        i += 1;
+    for n in ns {
+        position = put_spaced(out, position, u64::from(*n));
     }
     position
 }
@@ -70,7 +68,7 @@ pub fn put_list(out: &mut [u8], at: usize, list: u8, blocks: &[u8]) -> usize
     ensures { Puts out.old at (list_line list blocks.now) out.new result }
 {
     let mut position = put_bytes(out, at, b"list ");
-    position = put_decimal(out, position, list as u64);
+    position = put_decimal(out, position, u64::from(list));
     position = put_byte(out, position, b':');
     position = put_numbers(out, position, blocks);
     put_byte(out, position, b'\n')
@@ -85,7 +83,7 @@ pub fn put_raced(out: &mut [u8], at: usize, content: &[u8], race: u8) -> usize
         return position;
     }
     position = put_bytes(out, position, b" race ");
-    put_decimal(out, position, race as u64)
+    put_decimal(out, position, u64::from(race))
 }
 
 // `block B: HEX race R`
@@ -93,7 +91,7 @@ pub fn put_block(out: &mut [u8], at: usize, block: u8, content: &[u8], race: u8)
     ensures { Puts out.old at (block_line block content.now race) out.new result }
 {
     let mut position = put_bytes(out, at, b"block ");
-    position = put_decimal(out, position, block as u64);
+    position = put_decimal(out, position, u64::from(block));
     position = put_bytes(out, position, b": ");
     position = put_raced(out, position, content, race);
     put_byte(out, position, b'\n')
@@ -104,13 +102,7 @@ pub fn put_unwritten(out: &mut [u8], at: usize, block: u8) -> usize
     ensures { Puts out.old at (unwritten_line block) out.new result }
 {
     let mut position = put_bytes(out, at, b"block ");
-    position = put_decimal(out, position, block as u64);
+    position = put_decimal(out, position, u64::from(block));
     position = put_bytes(out, position, b": unwritten");
     put_byte(out, position, b'\n')
-}
-
-fn wide(x: u8) -> u64
-    ensures { result ≡ x }
-{
-    x as u64
 }

@@ -6,4 +6,4 @@ use Rattle.script.proofs.lines.put_block.Goals as goal
 
 pub returns : goal.returns
 unfolding block_line bytes
-returns c = puts-more (puts-more (puts-more (puts-more c.put_bytes-position.ensures c.put_decimal-position.ensures) c.put_bytes-position-2.ensures) c.put_raced-position.ensures) c.put_byte.ensures
+returns c = rw (← c.from.ensures) (puts-more (puts-more (puts-more (puts-more c.put_bytes-position.ensures c.put_decimal-position.ensures) c.put_bytes-position-2.ensures) c.put_raced-position.ensures) c.put_byte.ensures)

@@ -5,4 +5,4 @@ use Rattle.script.proofs.lines.put_list.Goals as goal
 
 pub returns : goal.returns
 unfolding list_line
-returns c = puts-more (puts-more (puts-more (puts-more c.put_bytes-position.ensures c.put_decimal-position.ensures) c.put_byte-position.ensures) c.put_numbers-position.ensures) c.put_byte.ensures
+returns c = rw (← c.from.ensures) (puts-more (puts-more (puts-more (puts-more c.put_bytes-position.ensures c.put_decimal-position.ensures) c.put_byte-position.ensures) c.put_numbers-position.ensures) c.put_byte.ensures)

@@ -17,5 +17,5 @@ pub returns : goal.returns
 unfolding raced_text bytes
 returns c =
     let a = c.args in
-    rw (eqb-false a.race 0 c.if-race-eq0.false)
+    rw (eqb-false a.race 0 c.if-race-eq0.false, ← c.from.ensures)
     (puts-more c.put_hex-position.ensures (puts-more c.put_bytes-position.ensures c.put_decimal.ensures))

@@ -1,5 +1,0 @@
--- By the cases of the numbers. Assumes nothing.
-use Rattle.script.proofs.numbered.cut_format.Goals as goal
-
-pub returns-in-Value : goal.returns-in-Value
-returns-in-Value c = rw c.in-Value.is

@@ -1,9 +1,0 @@
--- By the cases of the numbers, and by the bound. Assumes nothing.
-use borrow.Author.Tests.{le-leb, lt-leb}
-use Rattle.script.proofs.numbered.poke.Goals as goal
-
-pub returns-then-byte-gt-LARGEST_BYTE : goal.returns-then-byte-gt-LARGEST_BYTE
-returns-then-byte-gt-LARGEST_BYTE c = rw (c.in-Values.is, lt-leb _ _ c.if-byte-gt-LARGEST_BYTE.true)
-
-pub returns : goal.returns
-returns c = rw (c.in-Values.is, le-leb _ _ c.if-byte-gt-LARGEST_BYTE.false)
