@@ -9,8 +9,7 @@ use Rattle.lists.proofs.Basic.{eqb-false}
 use Rattle.card_log.specs.Card.{segments_in}
 use Rattle.answers.specs.declared.Refusal.{Refusal}
 use Rattle.answers.specs.declared.Refusal.TheVariants.{WrongLength}
-use Rattle.answers.specs.declared.NumberReply.{NumberReply}
-use Rattle.answers.specs.declared.NumberReply.TheVariants.{Number, Refused}
+use Rattle.std.specs.Prelude.{Result, Ok, Err}
 use Rattle.disk.specs.Disk.{Disk, disk_in}
 use Rattle.disk.specs.Sound.{lengths_right}
 use Rattle.disk.specs.Call.{flush, ends}
@@ -40,21 +39,21 @@ flush-unstored a d d' x y h = go (refusal (flush a) d) refl
     go (suc m) e = ap (λ (r : Result). r.disk.card) (sym (perform-refused (flush a) d m e) ∙ h)
 
 module _ (n k : ℕ) (d d' : Disk) (y : List ℕ) where
-  pub flush-broken : (i j : ℕ) → Performs (flush (cut_allowance n k)) d d' (accepted_answer i j) y → Breaks (broken_flush n k d) d.card d'.card (Number i)
+  pub flush-broken : (i j : ℕ) → Performs (flush (cut_allowance n k)) d d' (accepted_answer i j) y → Breaks (broken_flush n k d) d.card d'.card (Ok i)
   unfolding Breaks broken_flush
   flush-broken i j h = (ap (λ (r : Result). r.answer.code) h, ap (λ (r : Result). r.answer.value) h, ap (λ (r : Result). r.disk.card) h)
 
-  pub flush-not-broken : (x : Refusal) → Performs (flush (cut_allowance n k)) d d' (refused_answer x) y → Breaks (broken_flush n k d) d.card d'.card (Refused x)
+  pub flush-not-broken : (x : Refusal) → Performs (flush (cut_allowance n k)) d d' (refused_answer x) y → Breaks (broken_flush n k d) d.card d'.card (Err x)
   unfolding Breaks broken_flush
   flush-not-broken x h = (ap (λ (r : Result). r.answer.code) h, flush-unstored (cut_allowance n k) d d' x y h)
 
 module _ (k : ℕ) (d : Disk) where
   pub format-broken : lengths_right d ≡ true → (i : ℕ) → i ≡ min k (segments_in d.card) → (c : List ℕ) → c ≡ formatted k d.card
-      → Breaks (broken_format k d) d.card c (Number i)
+      → Breaks (broken_format k d) d.card c (Ok i)
   unfolding Breaks broken_format refusal questions first_no ask
   format-broken h i e c f = (rw h, sym e, sym f)
 
-  pub format-not-broken : lengths_right d ≡ false → Breaks (broken_format k d) d.card d.card (Refused WrongLength)
+  pub format-not-broken : lengths_right d ≡ false → Breaks (broken_format k d) d.card d.card (Err WrongLength)
   unfolding Breaks broken_format refusal questions first_no ask number
   format-not-broken h = (rw h, refl)
 
@@ -69,7 +68,7 @@ module _ (c : List ℕ) (s : State) (f : Fits c s) (n : ℕ) (many : n ≡ min (
       abbrev Cuts : Type 0
       Cuts = Runs (cut_short b (shell_of c q j s)) c out at (x ++ drop n c) q' j' out' r
 
-      cut-made : (k : ℕ) → Breaks b (take n c) x (Number k) → Loses (Number k) q j s out at q' j' out' r → Cuts
+      cut-made : (k : ℕ) → Breaks b (take n c) x (Ok k) → Loses (Ok k) q j s out at q' j' out' r → Cuts
       unfolding Breaks Loses cut_short cut_off leaves lost
       cut-made k (h, m, z) (t, u, v, p) =
           rw (h, m, z, t, u, v) (record {
@@ -79,7 +78,7 @@ module _ (c : List ℕ) (s : State) (f : Fits c s) (n : ℕ) (many : n ≡ min (
             fits = let g = fits-back c s f n many x e in record { longest = g.longest; whole = g.whole };
           })
 
-      cut-refused : (y : Refusal) → Breaks b (take n c) x (Refused y) → Loses (Refused y) q j s out at q' j' out' r → Cuts
+      cut-refused : (y : Refusal) → Breaks b (take n c) x (Err y) → Loses (Err y) q j s out at q' j' out' r → Cuts
       unfolding Breaks Loses cut_short
       cut-refused y (h, w) (t, u, v, p) =
           let same : x ++ drop n c ≡ c = ap (λ (l : List ℕ). l ++ drop n c) (sym w) ∙ take-append-drop n c in
@@ -90,6 +89,6 @@ module _ (c : List ℕ) (s : State) (f : Fits c s) (n : ℕ) (many : n ≡ min (
             fits = rw t f;
           })
 
-      pub broken-runs : (y : NumberReply) → Breaks b (take n c) x y → Loses y q j s out at q' j' out' r → Cuts
-      broken-runs (Number k) h l = cut-made k h l
-      broken-runs (Refused y) h l = cut-refused y h l
+      pub broken-runs : (y : Result ℕ Refusal) → Breaks b (take n c) x y → Loses y q j s out at q' j' out' r → Cuts
+      broken-runs (Ok k) h l = cut-made k h l
+      broken-runs (Err y) h l = cut-refused y h l

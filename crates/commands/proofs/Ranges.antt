@@ -17,7 +17,7 @@ use Rattle.disk.specs.Disk.{Disk, view}
 use Rattle.disk.specs.Call.{block_after, in_view}
 use Rattle.disk.specs.Questions.{view_open, questions, refusal}
 use Rattle.disk.specs.Perform.{Result, found, perform, accepted}
-use Rattle.answers.specs.declared.NumberReply as N
+use Rattle.std.specs.Prelude.{Ok}
 use Rattle.answers.specs.Answers.{number_answer}
 use Rattle.calls.specs.Performs.{Performs}
 use Rattle.disk.proofs.Questions.{yes-all}
@@ -77,6 +77,6 @@ module _ (d : Disk) (v l p : ℕ) where
       go n f = elim (dec_le n 64) [ yes q ↦ q | no q ↦ absurd (f n (omega arith) refl) ]
 
   -- an answer that is a number is one of an accepted call
-  pub behind-most : (n : ℕ) → Performs (in_view v (block_after l p)) d d (number_answer (N.TheVariants.Number n)) [] → n ≤ 64
+  pub behind-most : (n : ℕ) → Performs (in_view v (block_after l p)) d d (number_answer (Ok n)) [] → n ≤ 64
   unfolding number_answer
   behind-most n h = rw (← (ap (λ (x : Result). x.answer.value) h)) (next-most (code-accepted (in_view v (block_after l p)) d (ap (λ (x : Result). x.answer.code) h)))

@@ -9,8 +9,7 @@ use lib.ListN.{length, take, set, replicate, length-set}
 use lib.Seq.{slice, take-suc, take-set-le, get_or-set_same}
 use Rattle.lists.proofs.Basic.{eqb-false}
 use Rattle.answers.specs.declared.Refusal.{Refusal}
-use Rattle.answers.specs.declared.ReadReply as R
-use Rattle.answers.specs.declared.NumberReply as N
+use Rattle.std.specs.Prelude.{Ok, Err}
 use Rattle.disk.specs.Disk.{Disk}
 use Rattle.disk.specs.Call.{read_block, block_after, inventory, in_view}
 use Rattle.disk.specs.Perform.{Result}
@@ -70,18 +69,18 @@ module _ (d : Disk) (v : ℕ) where
           let z : 64 - n ≡ 0 = omega arith in
           sym (append-nil (take n bs)) ∙ (rw z at g.2)
 
-  pub block_read : (b n : ℕ) (x : List ℕ) → Performs (in_view v (read_block b (replicate 256 0))) d d (read_answer (R.TheVariants.Race n)) x → block_shown d v b ≡ block_line b x n
+  pub block_read : (b n : ℕ) (x : List ℕ) → Performs (in_view v (read_block b (replicate 256 0))) d d (read_answer (Ok n)) x → block_shown d v b ≡ block_line b x n
   unfolding block_shown read_answer
   block_read b n x h = rw h
 
-  pub block-unread : (b : ℕ) (r : Refusal) (x : List ℕ) → Performs (in_view v (read_block b (replicate 256 0))) d d (read_answer (R.TheVariants.Refused r)) x → block_shown d v b ≡ unwritten_line b
+  pub block-unread : (b : ℕ) (r : Refusal) (x : List ℕ) → Performs (in_view v (read_block b (replicate 256 0))) d d (read_answer (Err r)) x → block_shown d v b ≡ unwritten_line b
   unfolding block_shown read_answer
   block-unread b r x h = rw (h, eqb-false (number r) 0 (number-nonzero r))
 
-  pub view-seen : (n : ℕ) (x : List ℕ) → Performs (in_view v (inventory (replicate 16 0))) d d (number_answer (N.TheVariants.Number n)) x → shown v d ≡ view_shown d v (slice 0 n x)
+  pub view-seen : (n : ℕ) (x : List ℕ) → Performs (in_view v (inventory (replicate 16 0))) d d (number_answer (Ok n)) x → shown v d ≡ view_shown d v (slice 0 n x)
   unfolding shown number_answer
   view-seen n x h = rw h
 
-  pub view-unseen : (r : Refusal) (x : List ℕ) → Performs (in_view v (inventory (replicate 16 0))) d d (number_answer (N.TheVariants.Refused r)) x → shown v d ≡ number_line (number r)
+  pub view-unseen : (r : Refusal) (x : List ℕ) → Performs (in_view v (inventory (replicate 16 0))) d d (number_answer (Err r)) x → shown v d ≡ number_line (number r)
   unfolding shown number_answer
   view-unseen r x h = rw (h, eqb-false (number r) 0 (number-nonzero r))

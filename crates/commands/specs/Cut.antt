@@ -1,13 +1,12 @@
 -- Power cuts, between calls and inside a flush or a formatting.
-use Rattle.std.specs.Prelude.{◌≡◌, cond, List, [], ◌∷◌, ◌++◌, ℕ, min, eqb, leb, length, replicate}
+use Rattle.std.specs.Prelude.{◌≡◌, cond, Result, Ok, Err, List, [], ◌∷◌, ◌++◌, ℕ, min, eqb, leb, length, replicate}
 use Rattle.card_log.specs.Card.{segments_in}
 use Rattle.disk.specs.Record.{Record, record_in}
 use Rattle.disk.specs.Disk.{Disk}
 use Rattle.disk.specs.Call.{format, flush}
 use Rattle.disk.specs.Questions.{refusal}
 use Rattle.disk.specs.Perform.{perform, formatted}
-use Rattle.answers.specs.declared.NumberReply.{NumberReply}
-use Rattle.answers.specs.declared.NumberReply.TheVariants.{Number, Refused}
+use Rattle.answers.specs.declared.Refusal.{Refusal}
 use Rattle.answers.specs.Answers.{number}
 use Rattle.crash.specs.Event.{Rest, leaves, put_back}
 use Rattle.text.specs.Written.{Puts}
@@ -70,13 +69,13 @@ unfoldable pub cut_format : ℕ → Shell → Printed
 cut_format k s = cut_short (broken_format k (lent_disk s)) s
 
 -- In code: the lent card c becomes c', and the reply tells the stores made, or the refusal.
-unfoldable pub Breaks : Broken → List ℕ → List ℕ → NumberReply → Type 0
-Breaks b c c' (Number k) = (b.code ≡ 0) × (b.stores ≡ k) × (b.card ≡ c')
-Breaks b c c' (Refused x) = (b.code ≡ number x) × (c ≡ c')
+unfoldable pub Breaks : Broken → List ℕ → List ℕ → Result ℕ Refusal → Type 0
+Breaks b c c' (Ok k) = (b.code ≡ 0) × (b.stores ≡ k) × (b.card ≡ c')
+Breaks b c c' (Err x) = (b.code ≡ number x) × (c ≡ c')
 
 -- the reply is printed, and the rest is lost unless it is a refusal
-unfoldable pub Loses : NumberReply → List ℕ → List ℕ → State → List ℕ → ℕ → List ℕ → List ℕ → List ℕ → Ran → Type 0
-Loses (Number k) q j s out at q' j' out' r =
+unfoldable pub Loses : Result ℕ Refusal → List ℕ → List ℕ → State → List ℕ → ℕ → List ℕ → List ℕ → List ℕ → Ran → Type 0
+Loses (Ok k) q j s out at q' j' out' r =
     (r.state ≡ record { rec = unsound_bytes; size = s.size; card = s.card; queue = s.queue; journal = s.journal })
     × (q' ≡ replicate (length q) 165) × (j' ≡ replicate (length j) 165) × Puts out at (cut_line k) out' r.at
-Loses (Refused x) q j s out at q' j' out' r = (r.state ≡ s) × (q ≡ q') × (j ≡ j') × Puts out at (number_line (number x)) out' r.at
+Loses (Err x) q j s out at q' j' out' r = (r.state ≡ s) × (q ≡ q') × (j ≡ j') × Puts out at (number_line (number x)) out' r.at

@@ -1,5 +1,5 @@
 -- What each command of a script leaves and prints: the rows of the language's table.
-use Rattle.std.specs.Prelude.{◌≡◌, true, false, List, [], ◌∷◌, ◌++◌, ℕ, ◌%◌, ◌≤◌, min, ltb, length, drop, replicate, set}
+use Rattle.std.specs.Prelude.{◌≡◌, true, false, List, [], ◌∷◌, ◌++◌, ℕ, Option, None, Some, ◌%◌, ◌≤◌, min, ltb, length, drop, replicate, set}
 use Rattle.disk.specs.Disk.{Disk, disk}
 use Rattle.crash.specs.Event.{leaves}
 use Rattle.text.specs.Adler.{adler}
@@ -79,11 +79,11 @@ worked (T.Cut x) s = cutting x s
 worked (T.Lend l) s = ok (lending l s)
 worked (T.Print p) s = printed s (printing p s)
 
-unfoldable pub ran : List ℕ → Command → Shell → Printed
-ran line C.Nothing s = printed s []
-ran line C.Unknown s = unknown s
-ran line (C.Call q) s = called (call_of line q) s
-ran line (C.Tool t) s = worked t s
+unfoldable pub ran : List ℕ → Option Command → Shell → Printed
+ran line (Some C.Nothing) s = printed s []
+ran line None s = unknown s
+ran line (Some (C.Call q)) s = called (call_of line q) s
+ran line (Some (C.Tool t)) s = worked t s
 
 -- the card's buffer holds the longest card, and the card itself
 pub record Fits (c : List ℕ) (s : State) : Type 0 where

@@ -6,7 +6,7 @@ ghost use Rattle.commands.specs.Cut.{cut_allowance, broken_flush, broken_format,
 
 use crate::power::cut;
 use crate::state::{Ran, State};
-use answers::{FlushReply, NumberReply, Refusal, number_of};
+use answers::Refusal;
 use calls::flush::ALLOWANCE;
 use card_log::layout::SEGMENT;
 use card_log::store::format_stores;
@@ -22,15 +22,12 @@ pub fn broken_flush(
     rec: &mut [u8; RECORD],
     allowance: usize,
     stores: usize,
-) -> NumberReply
+) -> Result<usize, Refusal>
     ensures { Breaks (broken_flush allowance stores (disk_in card.old queue.now journal.now rec.old)) card.old card.new result }
 {
-    match calls::flush::flush(card, queue, journal, rec, cut_allowance(allowance, stores)) {
-        FlushReply::Drained(k) => NumberReply::Number(k),
-        FlushReply::Full(k) => NumberReply::Number(k),
-        FlushReply::Spent(k) => NumberReply::Number(k),
-        FlushReply::Refused(x) => NumberReply::Refused(x),
-    }
+    let allowance = cut_allowance(allowance, stores);
+    let flushed = calls::flush::flush(card, queue, journal, rec, allowance)?;
+    Ok(flushed.stores)
 }
 
 // A cut after so many stores leaves what a smaller allowance leaves; an allowance out of range stays so.
@@ -45,20 +42,20 @@ fn cut_allowance(allowance: usize, stores: usize) -> usize
 }
 
 // Formatting asks the lengths only.
-pub fn broken_format(card: &mut [u8], queue: &[u8], journal: &[u8], stores: usize) -> NumberReply
+pub fn broken_format(card: &mut [u8], queue: &[u8], journal: &[u8], stores: usize) -> Result<usize, Refusal>
     ensures { (rec : Record) → Breaks (broken_format stores (disk card.old queue.now journal.now rec)) card.old card.new result }
 {
     if !lengths_right(card, queue, journal) {
-        return NumberReply::Refused(Refusal::WrongLength);
+        return Err(Refusal::WrongLength);
     }
     let made = stores.min(card.len() / SEGMENT);
     format_stores(card, stores);
-    NumberReply::Number(made)
+    Ok(made)
 }
 
 // Refused, there is no cut.
 pub fn cut_short(
-    broken: NumberReply,
+    broken: Result<usize, Refusal>,
     queue: &mut [u8],
     journal: &mut [u8],
     state: State,
@@ -68,7 +65,7 @@ pub fn cut_short(
     ensures { Loses broken queue.old journal.old state out.old at queue.new journal.new out.new result }
 {
     match broken {
-        NumberReply::Number(k) => {
+        Ok(k) => {
             let rec = cut(queue, journal);
             let next = put_cut(out, at, k as u64);
             Ran {
@@ -76,8 +73,8 @@ pub fn cut_short(
                 at: next,
             }
         }
-        NumberReply::Refused(x) => {
-            let next = put_number(out, at, number_of(x));
+        Err(x) => {
+            let next = put_number(out, at, x.into());
             Ran { state, at: next }
         }
     }

@@ -31,9 +31,9 @@ pub fn run(
     ensures { Runs (ran line.now (command_of line.now) (shell_of card.old queue.old journal.old state)) card.old out.old at card.new queue.new journal.new out.new result }
 {
     match command(line) {
-        Command::Nothing => Ran { state, at },
-        Command::Unknown => said(state, out, at, b"?\n"),
-        Command::Call(q) => {
+        None => said(state, out, at, b"?\n"),
+        Some(Command::Nothing) => Ran { state, at },
+        Some(Command::Call(q)) => {
             // A call sees only what is lent.
             let n = state.card.min(state.size);
             let m = state.queue.min(queue.len());
@@ -54,7 +54,7 @@ pub fn run(
                 at: next,
             }
         }
-        Command::Tool(t) => work(t, card, queue, journal, state, out, at),
+        Some(Command::Tool(t)) => work(t, card, queue, journal, state, out, at),
     }
 }
 

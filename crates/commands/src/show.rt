@@ -6,7 +6,6 @@ ghost use Rattle.commands.specs.Shown.{block_behind, blocks_on, list_shown, bloc
 ghost use Rattle.commands.specs.Viewed.{disk_of};
 
 use crate::view::View;
-use answers::{NumberReply, ReadReply, number_of};
 use card_log::entry::LogEntry;
 use script::lines::{put_block, put_list, put_number, put_unwritten};
 use text::line::part;
@@ -23,8 +22,8 @@ pub fn show(v: View<'_>, out: &mut [u8], at: usize) -> usize
 {
     let mut lists = [0u8; LISTS];
     match calls::inventory::inventory(v.card, v.queue, v.journal, v.rec, v.number, &mut lists) {
-        NumberReply::Number(n) => show_view(v, part(&lists, 0, n), out, at),
-        NumberReply::Refused(x) => put_number(out, at, number_of(x)),
+        Ok(n) => show_view(v, part(&lists, 0, n), out, at),
+        Err(x) => put_number(out, at, x.into()),
     }
 }
 
@@ -89,8 +88,8 @@ fn block_after(v: View<'_>, list: u8, block: u8) -> u8
         list as usize,
         block as usize,
     ) {
-        NumberReply::Number(n) => n as u8,
-        NumberReply::Refused(_) => 0,
+        Ok(n) => n as u8,
+        Err(_) => 0,
     }
 }
 
@@ -107,7 +106,7 @@ fn show_block(v: View<'_>, block: u8, out: &mut [u8], at: usize) -> usize
         block as usize,
         &mut content,
     ) {
-        ReadReply::Race(race) => put_block(out, at, block, &content, race),
-        ReadReply::Refused(_) => put_unwritten(out, at, block),
+        Ok(race) => put_block(out, at, block, &content, race),
+        Err(_) => put_unwritten(out, at, block),
     }
 }

@@ -7,12 +7,12 @@ use Rattle.commands.proofs.Showing.{behind-is}
 use Rattle.commands.proofs.show.block_after.Goals as goal
 
 pub overflow_cast-result : goal.overflow_cast-result
-overflow_cast-result c = omega (arith, behind-most _ _ _ _ _ (rw c.in-Number.is at c.next.ensures))
+overflow_cast-result c = omega (arith, behind-most _ _ _ _ _ (rw c.in-Ok.is at c.next.ensures))
 
-pub returns-in-Number : goal.returns-in-Number
+pub returns-in-Ok : goal.returns-in-Ok
 unfolding number_answer
-returns-in-Number c = sym (behind-is _ _ _ _ _ (rw c.in-Number.is at c.next.ensures))
+returns-in-Ok c = sym (behind-is _ _ _ _ _ (rw c.in-Ok.is at c.next.ensures))
 
-pub returns-in-Refused : goal.returns-in-Refused
+pub returns-in-Err : goal.returns-in-Err
 unfolding number_answer
-returns-in-Refused c = sym (behind-is _ _ _ _ _ (rw c.in-Refused.is at c.next.ensures))
+returns-in-Err c = sym (behind-is _ _ _ _ _ (rw c.in-Err.is at c.next.ensures))
