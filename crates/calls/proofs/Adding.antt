@@ -6,14 +6,14 @@ use mathlib.Core.Bool.{Bool, true, false, cond}
 use mathlib.Core.Option.{none}
 use mathlib.Core.List.{List, [], ◌∷◌, ◌++◌, map}
 use Prim.Native.Nat.{ℕ, zero, suc, ◌+◌, ◌≤◌, ◌<◌}
-use native.Mathlib.Omega.{arith}
-use lib.Dec.{leb, eqb, eqb-suc-zero}
+use lib.Dec.{leb, ltb, eqb, eqb-suc-zero}
 use lib.ListN.{length}
 use Rattle.lists.specs.Change.{Change, del_block, del_list, map_change, carried_by}
 use Rattle.lists.specs.State.{Row, taken, placed, frees, map_row}
 use Rattle.lists.specs.InUse.{list_number, brings}
 use Rattle.lists.specs.promises.Tables.{Tables, OfShown}
-use Rattle.lists.proofs.Basic.{eqb-false, le-true, lt-true, gt-false, ge-false}
+use native.Mathlib.Numerals.{add-one}
+use Rattle.lists.proofs.Basic.{eqb-false}
 use Rattle.lists.proofs.Naturality.{blocks_of-map}
 use Rattle.lists.proofs.Lookup.{lists-shown}
 use Rattle.card_log.specs.declared.entry.LogEntry.{LogEntry}
@@ -23,9 +23,8 @@ use Rattle.card_log.specs.Entry.{plain, map_entry, raw, carried, is_block, is_li
 use Rattle.card_log.specs.Cell.{cell_of}
 use Rattle.disk.specs.Record.{Record, unit_at, listed_in, with_listed, appended, journal_grown}
 use Rattle.disk.specs.promises.Listing.{Padded, listed_last, pushed_all, relisted_by}
+use Rattle.std.specs.Prelude.{Result, Ok, Err}
 use Rattle.answers.specs.declared.Refusal.{Refusal}
-use Rattle.answers.specs.declared.Reply.{Reply}
-use Rattle.answers.specs.declared.Reply.TheVariants.{Accepted, Refused}
 use Rattle.disk.specs.Disk.{Disk, with_record, unit_of, committed, view}
 use Rattle.disk.specs.Sound.{lengths_right, record_sound}
 use Rattle.disk.specs.Questions.{journal_room, queue_room, stream_room, edit_questions, questions, ask, first_no, refusal}
@@ -40,7 +39,9 @@ use Rattle.calls.specs.Performs.{Performs}
 use Rattle.inspect.specs.promises.Located.{contents}
 use Rattle.inspect.specs.promises.Inspect.{Sees}
 use Rattle.calls.specs.promises.Adds.{added, rooms, Leaves, LeavesAfter, relisted_on, DeletesAfter}
-use Rattle.calls.proofs.Refusing.{ask-yes, ask-no, opens, seen, seen-ranges, Usual, usual-performs-refused, performs-accepted}
+use Rattle.inspect.specs.promises.Inspect.{opens}
+use Rattle.inspect.proofs.Asking.{ask-yes, ask-no}
+use Rattle.calls.proofs.Refusing.{seen, seen-ranges, Usual, usual-performs-refused, performs-accepted}
 use Rattle.inspect.proofs.Locating.{lists-here, taken_here, placed-here}
 
 pub rooms-yes : (d : Disk) (s : ℕ) → (journal_room d s ≡ true) × (stream_room d s ≡ true) → first_no (rooms d s) ≡ 0
@@ -48,24 +49,24 @@ unfolding first_no ask
 rooms-yes d s h = rw (h.0, h.1)
 
 module _ (d : Disk) (r : Record) (s : ℕ) (e : d.rec ≡ r) where
-  pub queue-full : s ≡ 0 → 32 ≤ r.ring.len → first_no (rooms d s) ≡ 13
-  unfolding journal_room stream_room queue_room
-  queue-full z l =
-      rw z
-      (ask-yes 11 true _ refl
-      ∙ ask-no 13 (leb (d.rec.ring.len + 1) 32) [] (gt-false (d.rec.ring.len + 1) 32 (let n : d.rec.ring.len ≡ r.ring.len = ap (λ (x : Record). x.ring.len) e in omega arith)))
+  room-here : leb (d.rec.ring.len + 1) 32 ≡ ltb r.ring.len 32
+  room-here = rw (e, add-one)
 
-  pub queue-takes : s ≡ 0 → r.ring.len < 32 → (journal_room d s ≡ true) × (stream_room d s ≡ true)
+  pub queue-full : s ≡ 0 → ltb r.ring.len 32 ≡ false → first_no (rooms d s) ≡ 13
   unfolding journal_room stream_room queue_room
-  queue-takes z l = rw z (refl, le-true (d.rec.ring.len + 1) 32 (let n : d.rec.ring.len ≡ r.ring.len = ap (λ (x : Record). x.ring.len) e in omega arith))
+  queue-full z l = rw z (ask-yes 11 true _ refl ∙ ask-no 13 (leb (d.rec.ring.len + 1) 32) [] (room-here ∙ l))
 
-  pub journal-full : s ≢ 0 → 15 ≤ (unit_at r s).len → first_no (rooms d s) ≡ 11
+  pub queue-takes : s ≡ 0 → ltb r.ring.len 32 ≡ true → (journal_room d s ≡ true) × (stream_room d s ≡ true)
+  unfolding journal_room stream_room queue_room
+  queue-takes z l = rw z (refl, room-here ∙ l)
+
+  pub journal-full : s ≢ 0 → ltb (unit_at r s).len 15 ≡ false → first_no (rooms d s) ≡ 11
   unfolding journal_room unit_of
-  journal-full z l = ask-no 11 _ _ (rw (eqb-false s 0 z, e) (ge-false (unit_at r s).len 15 l))
+  journal-full z l = ask-no 11 _ _ (rw (eqb-false s 0 z, e) l)
 
-  pub journal-takes : s ≢ 0 → (unit_at r s).len < 15 → (journal_room d s ≡ true) × (stream_room d s ≡ true)
+  pub journal-takes : s ≢ 0 → ltb (unit_at r s).len 15 ≡ true → (journal_room d s ≡ true) × (stream_room d s ≡ true)
   unfolding journal_room stream_room unit_of
-  journal-takes z l = rw (eqb-false s 0 z, e) (lt-true (unit_at r s).len 15 l, refl)
+  journal-takes z l = rw (eqb-false s 0 z, e) (l, refl)
 
 -- entry e says change c
 abbrev pub Says : LogEntry → Change Written → Type 0
@@ -82,25 +83,25 @@ module _ (n m : ℕ) (p q : Bool) (s : ℕ) (r : Record) where
   abbrev two : List (ℕ × Bool)
   two = (n, p) ∷ (m, q) ∷ []
 
-  pub first-no : (x : Refusal) → number x ≡ n → p ≡ false → LeavesAfter two s r r (Refused x) r
+  pub first-no : (x : Refusal) → number x ≡ n → p ≡ false → LeavesAfter two s r r (Err x) r
   first-no x i a = (refl, λ d k. ask-no n p ((m, q) ∷ rooms d s) a ∙ sym i)
 
-  pub second-no : (x : Refusal) → number x ≡ m → p ≡ true → q ≡ false → LeavesAfter two s r r (Refused x) r
+  pub second-no : (x : Refusal) → number x ≡ m → p ≡ true → q ≡ false → LeavesAfter two s r r (Err x) r
   second-no x i a b = (refl, λ d k. ask-yes n p ((m, q) ∷ rooms d s) a ∙ ask-no m q (rooms d s) b ∙ sym i)
 
-  pub both_yes : (y : Record) (a : Reply) (r' : Record) → p ≡ true → q ≡ true → Leaves s r y a r' → LeavesAfter two s r y a r'
-  both_yes y (Refused x) r' a b h = (h.0, λ d k. ask-yes n p ((m, q) ∷ rooms d s) a ∙ ask-yes m q (rooms d s) b ∙ h.1 d k)
-  both_yes y Accepted r' a b h = (h.0, λ d k. ask-yes n p ((m, q) ∷ rooms d s) a ∙ ask-yes m q (rooms d s) b ∙ rooms-yes d s (h.1 d k))
+  pub both_yes : (y : Record) (a : Result (Unit {0}) Refusal) (r' : Record) → p ≡ true → q ≡ true → Leaves s r y a r' → LeavesAfter two s r y a r'
+  both_yes y (Err x) r' a b h = (h.0, λ d k. ask-yes n p ((m, q) ∷ rooms d s) a ∙ ask-yes m q (rooms d s) b ∙ h.1 d k)
+  both_yes y (Ok done) r' a b h = (h.0, λ d k. ask-yes n p ((m, q) ∷ rooms d s) a ∙ ask-yes m q (rooms d s) b ∙ rooms-yes d s (h.1 d k))
 
 -- Calls that ask question 5 and one over the stream's view behind the questions of `look`, and add a change.
 
 -- what the last part of call k decides: the refusal, or that record y is left
-abbrev pub Decides : Call → Disk → Record → Reply → Record → Type 0
-Decides k d y (Refused x) r = (r ≡ d.rec) × (refusal k d ≡ number x)
-Decides k d y Accepted r = (r ≡ y) × (refusal k d ≡ 0)
+abbrev pub Decides : Call → Disk → Record → Result (Unit {0}) Refusal → Record → Type 0
+Decides k d y (Err x) r = (r ≡ d.rec) × (refusal k d ≡ number x)
+Decides k d y (Ok done) r = (r ≡ y) × (refusal k d ≡ 0)
 
 module _ (k : Call) (d : Disk) (s n : ℕ) (p q : Bool) (here : List (Row ℕ) → Bool) (y : List (Row ℕ) → Record) (t : Tables) where
-  pub seen-decides : (a : Reply) (r : Record) → refusal k d ≡ first_no (opens false d s ++ (5, p) ∷ (n, q) ∷ rooms d s)
+  pub seen-decides : (a : Result (Unit {0}) Refusal) (r : Record) → refusal k d ≡ first_no (opens false d s ++ (5, p) ∷ (n, q) ∷ rooms d s)
       → (z : Sees false d s t) → q ≡ here z.located.here.lists → OfShown t (λ rs. LeavesAfter ((5, p) ∷ (n, here rs) ∷ []) s d.rec (y rs) a r)
       → Decides k d (y z.located.here.lists) a r
   seen-decides a r h z w f = go a (f rs (lists-shown t z.located.here z.located.shows))
@@ -111,9 +112,9 @@ module _ (k : Call) (d : Disk) (s n : ℕ) (p q : Bool) (here : List (Row ℕ) �
       asked : refusal k d ≡ first_no ((5, p) ∷ (n, here rs) ∷ rooms d s)
       asked = h ∙ seen ((5, p) ∷ (n, q) ∷ rooms d s) z ∙ ap (λ (b : Bool). first_no ((5, p) ∷ (n, b) ∷ rooms d s)) w
 
-      go : (a : Reply) → LeavesAfter ((5, p) ∷ (n, here rs) ∷ []) s d.rec (y rs) a r → Decides k d (y rs) a r
-      go (Refused x) v = (v.0, asked ∙ v.1 d refl)
-      go Accepted v = (v.0, asked ∙ v.1 d refl)
+      go : (a : Result (Unit {0}) Refusal) → LeavesAfter ((5, p) ∷ (n, here rs) ∷ []) s d.rec (y rs) a r → Decides k d (y rs) a r
+      go (Err x) v = (v.0, asked ∙ v.1 d refl)
+      go (Ok done) v = (v.0, asked ∙ v.1 d refl)
 
 -- Deletions.
 
@@ -173,13 +174,13 @@ module _ (c : Change ℕ) (c' : Change Written) (e : LogEntry) (d : Disk) (t : T
   deletion-made (suc u) z b n w f q m = rw (eqb-suc-zero u) (journaled-listed c' e d (frees c' (committed d).lists) n w z.lengths z.sound u q)
 
 -- an edit whose only answer is that it is done
-pub decides-performs : (k : Call) (d : Disk) (y : Record) (a : Reply) (r : Record) → Usual k → destination k ≡ [] → (refusal k d ≡ 0 → accepted k d ≡ reply (with_record d y) 0 0 [])
+pub decides-performs : (k : Call) (d : Disk) (y : Record) (a : Result (Unit {0}) Refusal) (r : Record) → Usual k → destination k ≡ [] → (refusal k d ≡ 0 → accepted k d ≡ reply (with_record d y) 0 0 [])
     → Decides k d y a r → Performs k d (with_record d r) (reply_answer a) []
 unfolding reply_answer
-decides-performs k d y (Refused x) r u t w h = rw (h.0, ← t) (usual-performs-refused k d x u h.1)
-decides-performs k d y Accepted r u t w h = performs-accepted k d _ h.1 (w h.1 ∙ rw h.0)
+decides-performs k d y (Err x) r u t w h = rw (h.0, ← t) (usual-performs-refused k d x u h.1)
+decides-performs k d y (Ok done) r u t w h = performs-accepted k d _ h.1 (w h.1 ∙ rw h.0)
 
-pub deletes-block : (d : Disk) (s b : ℕ) (t : Tables) (a : Reply) (r : Record) → Sees false d s t
+pub deletes-block : (d : Disk) (s b : ℕ) (t : Tables) (a : Result (Unit {0}) Refusal) (r : Record) → Sees false d s t
     → OfShown t (λ rs. DeletesAfter ((5, is_block b) ∷ (8, placed b rs) ∷ []) s (DeleteBlock b) (del_block b) rs d.rec a r)
     → Performs (on_stream s (delete_block b)) d (with_record d r) (reply_answer a) []
 unfolding refusal questions edit_questions destination accepted made noted number_given change_for carried_by cell_of raw map_entry map_change as_entry frees
@@ -189,7 +190,7 @@ deletes-block d s b t a r z f =
     (λ h. ap (λ (x : Disk). reply x 0 0 []) (deletion-made (del_block b) (del_block b) (DeleteBlock b) d t s z refl refl refl (λ rs. refl) refl (edit-makes s (delete_block b) d h)))
     (seen-decides k d s 8 (is_block b) (placed b (view d s).lists) (placed b) (λ rs. relisted_on s (del_block b) rs (added s (DeleteBlock b) d.rec)) t a r refl z (placed-here d t (view d s) z.located b) f)
 
-pub deletes-list : (d : Disk) (s l : ℕ) (t : Tables) (a : Reply) (r : Record) → Sees false d s t
+pub deletes-list : (d : Disk) (s l : ℕ) (t : Tables) (a : Result (Unit {0}) Refusal) (r : Record) → Sees false d s t
     → OfShown t (λ rs. DeletesAfter ((5, is_list l) ∷ (7, taken l rs) ∷ []) s (DeleteList l) (del_list l) rs d.rec a r)
     → Performs (on_stream s (delete_list l)) d (with_record d r) (reply_answer a) []
 unfolding refusal questions edit_questions destination accepted made noted number_given change_for carried_by cell_of raw map_entry map_change as_entry frees

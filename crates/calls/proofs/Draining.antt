@@ -25,13 +25,12 @@ use Rattle.card_log.proofs.Segment.{carries-walk, carries-segments}
 use Rattle.card_log.proofs.Sequence.{ReadyHead}
 use Rattle.card_log.proofs.LogStores.{going}
 use Rattle.disk.specs.Record.{Record, no_cell, ring_place, with_flow}
-use Rattle.answers.specs.declared.FlushReply as reply
+use Rattle.answers.specs.declared.Ending.TheVariants as reply
 use Rattle.disk.specs.Disk.{Disk, disk, queued_at, queued}
 use Rattle.disk.specs.Sound.{lengths_right, record_sound}
 use Rattle.disk.specs.Call.{flush}
 use Rattle.disk.specs.Perform.{flow_of, flushed, after_flush, accepted}
-use Rattle.answers.specs.Answers.{ending_number}
-use Rattle.answers.specs.Answers.{flush_answer}
+use Rattle.answers.specs.Answers.{ending_number, ending_of, flush_answer}
 use Rattle.disk.proofs.Queue.{queued-same}
 use Rattle.disk.proofs.Clauses.{right}
 use Rattle.disk.proofs.Draining.{open-log}
@@ -188,8 +187,8 @@ module _ (c q : List ℕ) (r : Record) where
         rw (flushed-whole j t ∙ h, rest-length i) (rw u)
 
     module _ (f : Flushable c q r p) (c' : List ℕ) (p' : Place) (k left gone : ℕ) (g : Going c' p' k left gone) where
-      pub flushes-drained : r.ring.len ≤ gone → Flushes a c q r c' (with_flow r ((r.ring.head + gone) % 32) (r.ring.len - gone) k) (reply.TheVariants.Drained (a - left))
-      unfolding flush_answer next_store
+      pub flushes-drained : r.ring.len ≤ gone → Flushes a c q r c' (with_flow r ((r.ring.head + gone) % 32) (r.ring.len - gone) k) (record { stores = a - left; ending = reply.Drained })
+      unfolding flush_answer ending_of next_store
       flushes-drained l j =
           ends j c' p' gone k (a - left) drained f.place g.among
           (sym g.onward ∙ stopped-flush (segments_in c) left (a - left) (flow c' p' (rest gone) k) drained (rw (rest-none gone l)))
@@ -204,13 +203,13 @@ module _ (c q : List ℕ) (r : Record) where
             ∙ rw (rest-step gone l) (rw (segments-same c' p' k left gone g) at h)
 
         pub flushes-full : (c'' : List ℕ) → Heads c' p' (entry_here q r gone) k left headed.Full c''
-            → Flushes a c q r c'' (with_flow r ((r.ring.head + gone) % 32) (r.ring.len - gone) k) (reply.TheVariants.Full (a - left))
-        unfolding flush_answer
+            → Flushes a c q r c'' (with_flow r ((r.ring.head + gone) % 32) (r.ring.len - gone) k) (record { stores = a - left; ending = reply.Full })
+        unfolding flush_answer ending_of
         flushes-full c'' h j = ends j c'' p' gone k (a - left) full f.place g.among (whole-ends c'' k (a - left) full (h (rest (gone + 1)) (a - left)))
 
         pub flushes-spent : (c'' : List ℕ) (k'' : ℕ) → Heads c' p' (entry_here q r gone) k left (headed.Spent k'') c''
-            → Flushes a c q r c'' (with_flow r ((r.ring.head + gone) % 32) (r.ring.len - gone) k'') (reply.TheVariants.Spent a)
-        unfolding flush_answer
+            → Flushes a c q r c'' (with_flow r ((r.ring.head + gone) % 32) (r.ring.len - gone) k'') (record { stores = a; ending = reply.Spent })
+        unfolding flush_answer ending_of
         flushes-spent c'' k'' h j =
             let i : a - left + left ≡ a = omega (arith, g.few) in
             ends j c'' p' gone k'' a spent f.place g.among (whole-ends c'' k'' a spent (rw i at (h.1 (rest (gone + 1)) (a - left))))

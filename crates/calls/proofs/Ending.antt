@@ -6,7 +6,8 @@ use mathlib.Core.Option.{some}
 use mathlib.Core.List.{List, [], ◌∷◌, ◌++◌, map}
 use Prim.Native.Nat.{ℕ, ◌+◌, ◌-◌, ◌*◌, ◌≤◌, ◌<◌}
 use native.Mathlib.Omega.{arith}
-use lib.Dec.{leb, eqb}
+use lib.Dec.{leb, ltb, eqb}
+use borrow.Author.Tests.{ltb-true, ltb-false}
 use lib.ListN.{length, take, drop, get_or}
 use Rattle.lists.specs.Basic.{is_some, all, from}
 use Rattle.lists.specs.Change.{Change, map_change, carried_by}
@@ -19,17 +20,17 @@ use Rattle.card_log.specs.declared.entry.LogEntry.TheVariants.{Take, PutFirst, P
 use Rattle.card_log.specs.Card.{Written, slot, slot_bytes, splice}
 use Rattle.card_log.specs.Entry.{member, commit, map_entry, carried, raw, legal, legal_change, as_change, as_entry}
 use Rattle.card_log.specs.Cell.{cell_of, entry_in}
-use Rattle.disk.specs.Record.{Unit, Record, no_cell, no_unit, ring_place, unit_at, appended, conflict_counted}
+use Rattle.disk.specs.Record.{Unit as UnitOf, Record, no_cell, no_unit, ring_place, unit_at, appended, conflict_counted}
+use Rattle.std.specs.Prelude.{Result, Ok, Err}
+use Rattle.std.specs.Result.{IsErrAnd}
 use Rattle.answers.specs.declared.Refusal.{Refusal}
 use Rattle.answers.specs.declared.Refusal.TheVariants.{Conflict, QueueFull}
-use Rattle.answers.specs.declared.Reply.{Reply}
-use Rattle.answers.specs.declared.Reply.TheVariants.{Accepted, Refused}
 use Rattle.disk.specs.Disk.{Disk, disk, unit_of, journal_place, journal_at, journal_of, listing}
 use Rattle.disk.specs.Call.{end, ends}
 use Rattle.disk.specs.Sound.{lengths_right, record_sound, is_open_unit}
 use Rattle.disk.specs.Questions.{end_applies, queue_room, questions, ask, first_no, refusal}
 use Rattle.disk.specs.Perform.{splice_some, enqueue, enqueue_all, unit_entries, relisted, closing, conflicted, reply, accepted, refused}
-use Rattle.answers.specs.Answers.{number, refused_answer, reply_answer}
+use Rattle.answers.specs.Answers.{number, reply_answer}
 use Rattle.disk.specs.promises.Listing.{Padded, relisted_all}
 use Rattle.disk.proofs.Queue.{Beside, beside-all}
 use Rattle.disk.proofs.Journal.{journal-size}
@@ -41,13 +42,14 @@ use Rattle.disk.proofs.Soundness.{refused-same}
 use Rattle.calls.specs.Performs.{Performs}
 use Rattle.inspect.specs.promises.Located.{contents, journal_here}
 use Rattle.inspect.specs.promises.Relisting.{RelistsJournal}
-use Rattle.calls.specs.promises.Entering.{Admitted}
+use Rattle.calls.specs.promises.Entering.{Admitted, entering}
 use Rattle.inspect.specs.promises.Clauses.{change_in}
 use Rattle.calls.specs.promises.Ending.{closed_over, QueuesMember, Ready, QueuesUnit, end_questions, EndsAs, Ends}
-use Rattle.calls.proofs.Refusing.{ask-yes, ask-no, last-yes, refused-more, end-performs-refused, performs-accepted}
+use Rattle.inspect.proofs.Asking.{exit_is, ask-yes, ask-no, last-yes, refused-more}
+use Rattle.calls.proofs.Refusing.{reply-refused, end-performs-refused, performs-accepted}
 use Rattle.inspect.proofs.Locating.{journal-here, applies-here}
 use Rattle.inspect.proofs.Looking.{unit_lawful}
-use Rattle.calls.proofs.Entering.{entering, entered}
+use Rattle.calls.proofs.Entering.{entered}
 use Rattle.calls.proofs.Adding.{sound-padded}
 use Rattle.calls.proofs.Closing.{dropped-closed, ended-closed}
 
@@ -112,7 +114,7 @@ module _ (q₀ j : List ℕ) (u : ℕ) (r₀ : Record) (q : List ℕ) (r : Recor
   next x = entry_in (get_or (unit_at x u).journal k no_cell)
 
   along-same : next r ≡ next r₀
-  along-same = ap (λ (us : List Unit). entry_in (get_or (get_or us (u - 1) no_unit).journal k no_cell)) a.units
+  along-same = ap (λ (us : List UnitOf). entry_in (get_or (get_or us (u - 1) no_unit).journal k no_cell)) a.units
 
   pub along-lawful : (e : LogEntry) → e ≡ next r → Ready q₀ j r₀ u → k < (unit_at r₀ u).len → legal (raw 0 (member (as_change e))) ≡ true
   along-lawful e i h l =
@@ -168,7 +170,7 @@ module _ (q j : List ℕ) (r : Record) (u : ℕ) (q' : List ℕ) (r₁ : Record)
   pub queued-ready : Ready q j r u → Padded r₁ × ((unit_at r₁ u).len ≤ 15) × (1 ≤ u) × (u ≤ 4)
       × (all (λ c. legal (raw 0 (member c))) (from (change_in (unit_at r₁ u)) 0 (unit_at r₁ u).len) ≡ true)
   queued-ready w =
-      let e : unit_at r₁ u ≡ unit_at r u = ap (λ (us : List Unit). get_or us (u - 1) no_unit) queued-units in
+      let e : unit_at r₁ u ≡ unit_at r u = ap (λ (us : List UnitOf). get_or us (u - 1) no_unit) queued-units in
       (padded-same r r₁ queued-tally w.order, rw e w.room, w.first, w.last, rw e w.lawful)
 
 -- The answers of End.
@@ -176,26 +178,26 @@ module _ (st : State ℕ) (q j : List ℕ) (r : Record) (u : ℕ) where
   abbrev all-apply : Bool
   all-apply = is_some (apply_all (journal_here (unit_at r u) u) st)
 
-  pub ends-conflict : (r' : Record) → all-apply ≡ false → r' ≡ conflict_counted (unit_at r u).window (closed_over u st.lists r) → EndsAs st q j r u (Refused Conflict) q r'
+  pub ends-conflict : (r' : Record) → all-apply ≡ false → r' ≡ conflict_counted (unit_at r u).window (closed_over u st.lists r) → EndsAs st q j r u (Err Conflict) q r'
   unfolding number
   ends-conflict r' h e = (ask-no 12 all-apply _ h, refl, e)
 
   module _ (h : all-apply ≡ true) where
-    pub ends-full : 32 ≤ r.ring.len + (unit_at r u).len → EndsAs st q j r u (Refused QueueFull) q r
+    pub ends-full : ltb (r.ring.len + (unit_at r u).len) 32 ≡ false → EndsAs st q j r u (Err QueueFull) q r
     unfolding number
-    ends-full l = (ask-yes 12 all-apply _ h ∙ ask-no 13 _ [] (gt-false (r.ring.len + ((unit_at r u).len + 1)) 32 (omega arith)), refl, refl)
+    ends-full l = (ask-yes 12 all-apply _ h ∙ ask-no 13 _ [] (gt-false (r.ring.len + ((unit_at r u).len + 1)) 32 (omega (arith, ltb-false _ _ l))), refl, refl)
 
-    pub ends-accepted : (t t' : Tables) (q' : List ℕ) (r₁ r₂ r' : Record) → ShowsAll t st → r.ring.len + (unit_at r u).len < 32 → QueuesUnit q j r u q' r₁
-        → RelistsJournal t (unit_at r₁ u) u r₁ r₂ t' → OfShown t' (λ rs. r' ≡ closed_over u rs r₂) → EndsAs st q j r u Accepted q' r'
+    pub ends-accepted : (t t' : Tables) (q' : List ℕ) (r₁ r₂ r' : Record) → ShowsAll t st → ltb (r.ring.len + (unit_at r u).len) 32 ≡ true → QueuesUnit q j r u q' r₁
+        → RelistsJournal t (unit_at r₁ u) u r₁ r₂ t' → OfShown t' (λ rs. r' ≡ closed_over u rs r₂) → EndsAs st q j r u (Ok tt) q' r'
     ends-accepted t t' q' r₁ r₂ r' sh l g f c =
-        let e : unit_at r₁ u ≡ unit_at r u = ap (λ (us : List Unit). get_or us (u - 1) no_unit) (queued-units q j r u q' r₁ g) in (
-          ask-yes 12 all-apply _ h ∙ last-yes 13 _ (le-true (r.ring.len + ((unit_at r u).len + 1)) 32 (omega arith)),
+        let e : unit_at r₁ u ≡ unit_at r u = ap (λ (us : List UnitOf). get_or us (u - 1) no_unit) (queued-units q j r u q' r₁ g) in (
+          ask-yes 12 all-apply _ h ∙ last-yes 13 _ (le-true (r.ring.len + ((unit_at r u).len + 1)) 32 (omega (arith, ltb-true _ _ l))),
           r₁,
           g,
           λ v a.
               let b : apply_all (journal_here (unit_at r₁ u) u) st ≡ some v = rw e a in
               c v.lists (lists-shown t' v (f.shows st v sh b))
-              ∙ ap (closed_over u v.lists) (f.order st v sh b ∙ ap (λ (y : Unit). relisted_all (journal_here y u) st.lists r₁) e),
+              ∙ ap (closed_over u v.lists) (f.order st v sh b ∙ ap (λ (y : UnitOf). relisted_all (journal_here y u) st.lists r₁) e),
         )
 
 asks-twelve : (a : Bool) (u : ℕ) (r : Record) → first_no (end_questions a r u) ≡ 0 → a ≡ true
@@ -270,14 +272,14 @@ module _ (u : ℕ) (d : Disk) (t : Tables) (k : Admitted false d u t) where
       ∙ ended-closed u d (right d k.lengths k.sound) state-order (contents d) here k.located.means w.first w.last (journal_here (unit_at d.rec u) u) (journal-here d u w.last w.room) v b x
       (queued-holder d.queue_data d.journal_data d.rec u q' r₁ g) (queued-tally d.queue_data d.journal_data d.rec u q' r₁ g)))
 
-  pub ends-performs : (x : Reply) (q' : List ℕ) (r' : Record) → Ends t d.queue_data d.journal_data d.rec u x q' r'
+  pub ends-performs : (x : Result (Unit {0}) Refusal) (q' : List ℕ) (r' : Record) → Ends t d.queue_data d.journal_data d.rec u x q' r'
       → Performs (end u) d (disk d.card q' d.journal_data r') (reply_answer x) []
   unfolding reply_answer accepted here applied
   ends-performs x q' r' f = go x (f here k.located.shows)
     where
-      go : (x : Reply) → EndsAs here d.queue_data d.journal_data d.rec u x q' r' → Performs (end u) d (disk d.card q' d.journal_data r') (reply_answer x) []
-      go (Refused x) (n, e, h) = end-performs-refused u d (disk d.card q' d.journal_data r') x (refused_as (number x) r' h ∙ ap (λ (y : List ℕ). disk d.card y d.journal_data r') (sym e)) (asked ∙ n)
-      go Accepted (n, r₁, g, h) =
+      go : (x : Result (Unit {0}) Refusal) → EndsAs here d.queue_data d.journal_data d.rec u x q' r' → Performs (end u) d (disk d.card q' d.journal_data r') (reply_answer x) []
+      go (Err x) (n, e, h) = end-performs-refused u d (disk d.card q' d.journal_data r') x (refused_as (number x) r' h ∙ ap (λ (y : List ℕ). disk d.card y d.journal_data r') (sym e)) (asked ∙ n)
+      go (Ok done) (n, r₁, g, h) =
           performs-accepted (end u) d _ (asked ∙ n) (ap (λ (y : Disk). reply y 0 0 []) (accepted-as q' r₁ r' g (asks-twelve applied u d.rec n) h))
 
 -- refused by question 1, 3 or 4
@@ -288,8 +290,9 @@ no-twelve true false c e = omega arith
 no-twelve true true false e = omega arith
 no-twelve true true true e = omega arith
 
-pub end-not-entered : (u : ℕ) (d : Disk) (x : Refusal) → first_no (entering false d u) ≡ number x → Performs (end u) d d (refused_answer x) []
+pub end-not-entered : (u : ℕ) (d : Disk) (r : Result (Unit {0}) Refusal) (x : Refusal) → IsErrAnd r (λ y. y ≡ x) → first_no (entering false d u) ≡ number x → Performs (end u) d d (reply_answer r) []
 unfolding refusal questions
-end-not-entered u d x h =
-    end-performs-refused u d d x (refused-same (end u) (number x) d (λ e. no-twelve (lengths_right d) (record_sound d) (is_open_unit d u) (h ∙ e)))
-    (refused-more x (entering false d u) ((12, end_applies d u) ∷ (13, queue_room d ((unit_of d u).len + 1)) ∷ []) h)
+end-not-entered u d r x e h =
+    rw (exit_is r x e, reply-refused x)
+    (end-performs-refused u d d x (refused-same (end u) (number x) d (λ e. no-twelve (lengths_right d) (record_sound d) (is_open_unit d u) (h ∙ e)))
+    (refused-more x (entering false d u) ((12, end_applies d u) ∷ (13, queue_room d ((unit_of d u).len + 1)) ∷ []) h))

@@ -16,9 +16,9 @@ use Rattle.lists.proofs.Lookup.{lists-shown}
 use Rattle.lists.proofs.Naturality.{taken-map, on_list-map}
 use Rattle.card_log.specs.Entry.{is_list, map_entry, raw, as_entry}
 use Rattle.card_log.specs.Cell.{cell_of}
+use Rattle.std.specs.Prelude.{Result, Ok, Err}
+use Rattle.answers.specs.declared.Refusal.{Refusal}
 use Rattle.disk.specs.Record.{Record, listed_in}
-use Rattle.answers.specs.declared.NumberReply.{NumberReply}
-use Rattle.answers.specs.declared.NumberReply.TheVariants.{Number, Refused}
 use Rattle.disk.specs.Disk.{Disk, with_record, view}
 use Rattle.disk.specs.Call.{new_block, on_stream, destination}
 use Rattle.disk.specs.Sound.{is_open_unit}
@@ -39,7 +39,7 @@ use Rattle.calls.proofs.Adding.{Says, change-added, sound-padded}
 use Rattle.calls.proofs.Giving.{free-number, hold-record}
 
 -- the same put of a number named otherwise
-pub puts-number : (rs : List (Row ℕ)) (s l p b b' : ℕ) (r : Record) (a : NumberReply) (r' : Record) → b ≡ b'
+pub puts-number : (rs : List (Row ℕ)) (s l p b b' : ℕ) (r : Record) (a : Result ℕ Refusal) (r' : Record) → b ≡ b'
     → Gives (ranged_put_questions l p b rs) s l p b r a r' → Gives (ranged_put_questions l p b' rs) s l p b' r a r'
 puts-number rs s l p b b' r a r' e h = subst (λ (x : ℕ). Gives (ranged_put_questions l p x rs) s l p x r a r') e h
 
@@ -91,14 +91,14 @@ module _ (s : ℕ) (d : Disk) (t : Tables) (k : Sees false d s t) where
       k
       ∙ rw (k.located.means, taken-map (contents d) l v, on_list-map (contents d) l p v, free-number 0 64 (listed_in d.rec))
 
-  pub puts-performs : (l p : ℕ) (a : NumberReply) (r' : Record) → OfShown t (λ rs. PutsFree s l p rs d.rec a r')
+  pub puts-performs : (l p : ℕ) (a : Result ℕ Refusal) (r' : Record) → OfShown t (λ rs. PutsFree s l p rs d.rec a r')
       → Performs (on_stream s (new_block l p)) d (with_record d r') (number_answer a) []
   unfolding number_answer destination accepted number_given change_for free_block given-block here
   puts-performs l p a r' f = go a (f here (lists-shown t k.located.here k.located.shows))
     where
-      go : (a : NumberReply) → Gives (ranged_put_questions l p given-block here) s l p given-block d.rec a r'
+      go : (a : Result ℕ Refusal) → Gives (ranged_put_questions l p given-block here) s l p given-block d.rec a r'
           → Performs (on_stream s (new_block l p)) d (with_record d r') (number_answer a) []
-      go (Refused x) h = rw h.0 (usual-performs-refused (on_stream s (new_block l p)) d x tt (asked l p ∙ h.1 d refl))
-      go (Number n) h =
+      go (Err x) h = rw h.0 (usual-performs-refused (on_stream s (new_block l p)) d x tt (asked l p ∙ h.1 d refl))
+      go (Ok n) h =
           performs-accepted (on_stream s (new_block l p)) d _ (asked l p ∙ h.2 d refl)
           (rw (put-disk s l p given-block d, h.0, h.1))

@@ -3,82 +3,33 @@ use mathlib.Core.Path.{◌≡◌, refl, sym, ap, ◌∙◌}
 use mathlib.Core.Logic.{◌⊎◌, inl, inr, ⊎_elim, ◌≢◌}
 use mathlib.Core.Bool.{Bool, true, false, ◌&&◌, false≢true, and-false}
 use mathlib.Core.Option.{none}
-use mathlib.Core.List.{List, [], ◌∷◌, ◌++◌}
-use Prim.Native.Nat.{ℕ, suc, ◌≤◌, ◌<◌}
+use mathlib.Core.List.{List, [], ◌++◌}
+use Prim.Native.Nat.{ℕ, ◌≤◌, ◌<◌}
 use native.Mathlib.Omega.{arith}
 use lib.Dec.{leb, eqb}
+use Rattle.std.specs.Prelude.{Result, Err}
+use Rattle.std.specs.Result.{IsErrAnd}
 use Rattle.lists.specs.promises.Tables.{Tables, IsList}
 use Rattle.lists.proofs.Basic.{and-true, or_cases, leb-true, eqb-true, eqb-false, gt-false}
 use Rattle.card_log.specs.Entry.{is_list}
 use Rattle.answers.specs.declared.Refusal.{Refusal}
-use Rattle.answers.specs.declared.Refusal.TheVariants.{WrongLength, LogFault, RecordUnsound, StreamClosed, OutOfRange, UnitOpen, ListNotTaken, BlockNotPlaced, PredecessorElsewhere, NoNumberFree, JournalFull, Conflict, QueueFull, BufferTooShort, Unwritten}
 use Rattle.disk.specs.Disk.{Disk, view}
 use Rattle.disk.specs.Sound.{lengths_right, record_sound, is_open_unit}
-use Rattle.disk.specs.Questions.{stream_open, edit_questions, look_questions, questions, ask, first_no, refusal}
+use Rattle.disk.specs.Questions.{stream_open, edit_questions, look_questions, questions, first_no, refusal}
 use Rattle.disk.specs.Call.{Edit, Look, Call, format, mount, conflict_count, on_stream, in_view, begin, end, flush, ends, lent_to, destination}
-use Rattle.disk.specs.Perform.{Result, accepted, refused, refusal_answer, perform}
-use Rattle.answers.specs.Answers.{number, refused_answer}
+use Rattle.disk.specs.Perform.{Result as Performed, accepted, refused, refusal_answer, perform}
+use Rattle.answers.specs.Answers.{Answer, number, refused_answer, reply_answer, number_answer, read_answer, flush_answer}
 use Rattle.disk.proofs.Order.{asks, Behind, edit-behind, look-behind, rising-above, asks-above}
 use Rattle.disk.proofs.Questions.{numbered, unit-range}
 use Rattle.disk.proofs.Clauses.{right}
 use Rattle.disk.proofs.Performing.{perform-accepted, perform-refused, refused_result}
 use Rattle.calls.specs.Performs.{Performs}
-use Rattle.inspect.specs.promises.Inspect.{open_as, Sees}
-
--- The first no.
-pub ask-yes : (n : ℕ) (b : Bool) (qs : List (ℕ × Bool)) → b ≡ true → first_no ((n, b) ∷ qs) ≡ first_no qs
-unfolding first_no ask
-ask-yes n b qs h = rw h
-
-pub ask-no : (n : ℕ) (b : Bool) (qs : List (ℕ × Bool)) → b ≡ false → first_no ((n, b) ∷ qs) ≡ n
-unfolding first_no ask
-ask-no n b qs h = rw h
-
-pub last-yes : (n : ℕ) (b : Bool) → b ≡ true → first_no ((n, b) ∷ []) ≡ 0
-unfolding first_no ask
-last-yes n b h = rw h
-
--- a no among the first questions is the first no of all
-pub ask-more : (ps qs : List (ℕ × Bool)) (n : ℕ) → n ≢ 0 → first_no ps ≡ n → first_no (ps ++ qs) ≡ n
-unfolding first_no ask
-ask-more [] qs n z h = absurd (z (sym h))
-ask-more ((m, true) ∷ ps) qs n z h = ask-more ps qs n z h
-ask-more ((m, false) ∷ ps) qs n z h = h
-
-pub number-some : (x : Refusal) → (m : ℕ) × (number x ≡ suc m)
-unfolding number
-number-some WrongLength = (_, refl)
-number-some LogFault = (_, refl)
-number-some RecordUnsound = (_, refl)
-number-some StreamClosed = (_, refl)
-number-some OutOfRange = (_, refl)
-number-some UnitOpen = (_, refl)
-number-some ListNotTaken = (_, refl)
-number-some BlockNotPlaced = (_, refl)
-number-some PredecessorElsewhere = (_, refl)
-number-some NoNumberFree = (_, refl)
-number-some JournalFull = (_, refl)
-number-some Conflict = (_, refl)
-number-some QueueFull = (_, refl)
-number-some BufferTooShort = (_, refl)
-number-some Unwritten = (_, refl)
-
-pub number-nonzero : (x : Refusal) → number x ≢ 0
-number-nonzero x e = let (m, h) = number-some x in omega arith
-
--- a refusal by one of the first questions
-pub refused-more : (x : Refusal) (ps qs : List (ℕ × Bool)) → first_no ps ≡ number x → first_no (ps ++ qs) ≡ number x
-refused-more x ps qs h = ask-more ps qs (number x) (number-nonzero x) h
+use Rattle.inspect.specs.promises.Inspect.{checked, open_as, Sees, opens}
+use Rattle.inspect.proofs.Asking.{ask-yes, number-some, refused-more, exit_is}
 
 -- Questions 1 and 3, and with them 4 as `look` answers it.
-abbrev pub checked : Disk → List (ℕ × Bool)
-checked d = (1, lengths_right d) ∷ (3, record_sound d) ∷ []
-
 pub sound-yes : (d : Disk) (qs : List (ℕ × Bool)) → lengths_right d ≡ true → record_sound d ≡ true → first_no (checked d ++ qs) ≡ first_no qs
 sound-yes d qs l s = ask-yes 1 (lengths_right d) _ l ∙ ask-yes 3 (record_sound d) qs s
-
-abbrev pub opens : Bool → Disk → ℕ → List (ℕ × Bool)
-opens looked d v = (1, lengths_right d) ∷ (3, record_sound d) ∷ (4, open_as looked d v) ∷ []
 
 pub seen : {looked : Bool} {d : Disk} {v : ℕ} {t : Tables} (qs : List (ℕ × Bool)) → Sees looked d v t → first_no (opens looked d v ++ qs) ≡ first_no qs
 seen {looked} {d} {v} qs s = sound-yes d _ s.lengths s.sound ∙ ask-yes 4 (open_as looked d v) qs s.opened
@@ -155,20 +106,38 @@ unfolding destination refusal
 end-performs-refused u d d' x r h =
     performs-refused (end u) d d' x (λ e. false≢true (sym (end-asks-two u d) ∙ numbered (questions (end u) d) 2 (omega arith) (h ∙ e))) r h
 
--- refused by one of the call's first questions
-pub first-refused : (k : Call) (d : Disk) (x : Refusal) (ps qs : List (ℕ × Bool)) → Usual k → refusal k d ≡ first_no (ps ++ qs) → first_no ps ≡ number x
-    → Performs k d d (refused_answer x) (destination k)
-first-refused k d x ps qs u q h = usual-performs-refused k d x u (q ∙ refused-more x ps qs h)
+-- The answers' definitions at a refusal.
+pub reply-refused : (x : Refusal) → reply_answer (Err x) ≡ refused_answer x
+unfolding reply_answer
+reply-refused x = refl
 
--- refused by question 1, 3 or 4: every edit and every look-up
-pub edit-unseen : (d : Disk) (s : ℕ) (e : Edit) (x : Refusal) → first_no (opens false d s) ≡ number x → Performs (on_stream s e) d d (refused_answer x) []
-unfolding refusal questions destination
-edit-unseen d s e x h = first-refused (on_stream s e) d x (opens false d s) (edit_questions s e d) tt refl h
+pub number-refused : (x : Refusal) → number_answer (Err x) ≡ refused_answer x
+unfolding number_answer
+number-refused x = refl
 
-pub look-unseen : (d : Disk) (v : ℕ) (k : Look) (x : Refusal) → first_no (opens true d v) ≡ number x → Performs (in_view v k) d d (refused_answer x) (lent_to k)
-unfolding refusal questions destination
-look-unseen d v k x h = first-refused (in_view v k) d x (opens true d v) (look_questions k (view d v).lists) tt refl h
+pub read-refused : (x : Refusal) → read_answer (Err x) ≡ refused_answer x
+unfolding read_answer
+read-refused x = refl
+
+pub flush-refused : (x : Refusal) → flush_answer (Err x) ≡ refused_answer x
+unfolding flush_answer
+flush-refused x = refl
+
+-- Where a `?` leaves a call: refused by one of its first questions, qs being the others; f tells the answer.
+module _ {A : Type 0} (f : Result A Refusal → Answer) (told : (x : Refusal) → f (Err x) ≡ refused_answer x) where
+  pub first-refused : (k : Call) (d : Disk) (ps qs : List (ℕ × Bool)) → Usual k → refusal k d ≡ first_no (ps ++ qs)
+      → (r : Result A Refusal) (x : Refusal) → IsErrAnd r (λ y. y ≡ x) → first_no ps ≡ number x → Performs k d d (f r) (destination k)
+  first-refused k d ps qs u q r x e h = rw (exit_is r x e, told x) (usual-performs-refused k d x u (q ∙ refused-more x ps qs h))
+
+  -- by question 1, 3 or 4: every edit and every look-up
+  pub edit-unseen : (d : Disk) (s : ℕ) (k : Edit) (r : Result A Refusal) (x : Refusal) → IsErrAnd r (λ y. y ≡ x) → first_no (opens false d s) ≡ number x → Performs (on_stream s k) d d (f r) []
+  unfolding refusal questions destination
+  edit-unseen d s k = first-refused (on_stream s k) d (opens false d s) (edit_questions s k d) tt refl
+
+  pub look-unseen : (d : Disk) (v : ℕ) (k : Look) (r : Result A Refusal) (x : Refusal) → IsErrAnd r (λ y. y ≡ x) → first_no (opens true d v) ≡ number x → Performs (in_view v k) d d (f r) (lent_to k)
+  unfolding refusal questions destination
+  look-unseen d v k = first-refused (in_view v k) d (opens true d v) (look_questions k (view d v).lists) tt refl
 
 -- Accepted calls.
-pub performs-accepted : (c : Call) (d : Disk) (r : Result) → refusal c d ≡ 0 → accepted c d ≡ r → perform c d ≡ r
+pub performs-accepted : (c : Call) (d : Disk) (r : Performed) → refusal c d ≡ 0 → accepted c d ≡ r → perform c d ≡ r
 performs-accepted c d r h a = perform-accepted c d h ∙ a

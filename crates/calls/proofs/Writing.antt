@@ -16,12 +16,11 @@ use Rattle.card_log.specs.Card.{Content, slot_bytes}
 use Rattle.card_log.specs.Entry.{map_entry, raw, is_block, is_race, carried, as_entry}
 use Rattle.card_log.specs.Cell.{cell_of}
 use Rattle.disk.specs.Record.{Record}
+use Rattle.std.specs.Prelude.{Result, Ok, Err}
 use Rattle.answers.specs.declared.Refusal.{Refusal}
-use Rattle.answers.specs.declared.Reply.{Reply}
-use Rattle.answers.specs.declared.Reply.TheVariants.{Accepted, Refused}
 use Rattle.disk.specs.Disk.{Disk, disk, with_record, unit_of, view}
 use Rattle.disk.specs.Questions.{journal_room, edit_questions, questions, refusal}
-use Rattle.disk.specs.Call.{write_block, on_stream, destination}
+use Rattle.disk.specs.Call.{Call, write_block, on_stream, destination}
 use Rattle.disk.specs.Perform.{accepted, change, noted, made, number_given, change_for, enqueue, journal_add, splice_some}
 use Rattle.answers.specs.Answers.{reply_answer}
 use Rattle.disk.proofs.Questions.{yes-all, queue-data, journal-data, journal-room}
@@ -57,31 +56,32 @@ unit-some d (suc s) l h n = unit_lawful d (suc s) l h (omega arith) n
 pub write-ranges : (d : Disk) (s : ℕ) (t : Tables) → Sees false d s t → InRange s d.rec
 write-ranges d s t z = ((seen-ranges z).0, (right d z.lengths z.sound).log.room, (seen-ranges z).1, (unit-some d s z.lengths z.sound (seen-ranges z).0).room)
 
-module _ (d : Disk) (s b n : ℕ) (x : Content) (a : Reply) (r : Record) where
-  pub write-decides : (t : Tables) → Sees false d s t → OfShown t (λ rs. AddsAfter ((5, is_block b && is_race n && eqb (length x) slot_bytes) ∷ (8, placed b rs) ∷ []) s (Write b 0 n) d.rec a r)
-      → Decides (on_stream s (write_block b n x)) d (added s (Write b 0 n) d.rec) a r
+module _ (d : Disk) (s b n : ℕ) (x : Content) (r : Record) (t : Tables) (z : Sees false d s t) where
+  abbrev call : Call
+  call = on_stream s (write_block b n x)
+
+  -- what the last questions leave, their answer being a
+  abbrev Written : Result (Unit {0}) Refusal → Type 0
+  Written a = OfShown t (λ rs. AddsAfter ((5, is_block b && is_race n && eqb (length x) slot_bytes) ∷ (8, placed b rs) ∷ []) s (Write b 0 n) d.rec a r)
+
+  decides : (a : Result (Unit {0}) Refusal) → Written a → Decides call d (added s (Write b 0 n) d.rec) a r
   unfolding refusal questions edit_questions
-  write-decides t z f =
-      seen-decides (on_stream s (write_block b n x)) d s 8 (is_block b && is_race n && eqb (length x) slot_bytes) (placed b (view d s).lists) (placed b) (λ rs. added s (Write b 0 n) d.rec) t a r refl z (placed-here d t (view d s) z.located b) f
+  decides a f =
+      seen-decides call d s 8 (is_block b && is_race n && eqb (length x) slot_bytes) (placed b (view d s).lists) (placed b) (λ rs. added s (Write b 0 n) d.rec) t a r refl z (placed-here d t (view d s) z.located b) f
 
-  pub write-refused : (y : Refusal) → a ≡ Refused y → Decides (on_stream s (write_block b n x)) d (added s (Write b 0 n) d.rec) a r → Performs (on_stream s (write_block b n x)) d (with_record d r) (reply_answer a) []
+  pub write-refused : (y : Refusal) → Written (Err y) → Performs call d (with_record d r) (reply_answer (Err y)) []
   unfolding reply_answer destination
-  write-refused y e h = let k = rw e at h in rw (e, k.0) (usual-performs-refused (on_stream s (write_block b n x)) d y tt k.1)
+  write-refused y f = let k = decides (Err y) f in rw k.0 (usual-performs-refused call d y tt k.1)
 
-  pub write-accepted : a ≡ Accepted → Decides (on_stream s (write_block b n x)) d (added s (Write b 0 n) d.rec) a r → (q j : List ℕ) → Copies s (place_next s d.rec) x d.queue_data d.journal_data q j
-      → Performs (on_stream s (write_block b n x)) d (disk d.card q j r) (reply_answer a) []
+  pub write-accepted : Written (Ok tt) → (q j : List ℕ) → Copies s (place_next s d.rec) x d.queue_data d.journal_data q j → Performs call d (disk d.card q j r) (reply_answer (Ok tt)) []
   unfolding reply_answer accepted made noted number_given change_for
-  write-accepted e h q j k =
-      let w = rw e at h in
-      rw (e, w.0) (performs-accepted (on_stream s (write_block b n x)) d _ w.1 (rw (change-written s d b n x q j k)))
+  write-accepted f q j k = let w = decides (Ok tt) f in rw w.0 (performs-accepted call d _ w.1 (rw (change-written s d b n x q j k)))
 
   -- what copying needs then
-  pub write-fits : (t : Tables) → Sees false d s t → a ≡ Accepted → Decides (on_stream s (write_block b n x)) d (added s (Write b 0 n) d.rec) a r
-      → (length d.queue_data ≡ 8192) × (length d.journal_data ≡ 15360) × (length x ≡ 256) × HasPlace s (place_next s d.rec)
+  pub write-fits : Written (Ok tt) → (length d.queue_data ≡ 8192) × (length d.journal_data ≡ 15360) × (length x ≡ 256) × HasPlace s (place_next s d.rec)
   unfolding questions edit_questions unit_of
-  write-fits t z e h =
-      let w = rw e at h in
-      let yes = yes-all (on_stream s (write_block b n x)) d w.1 in (
+  write-fits f =
+      let yes = yes-all call d (decides (Ok tt) f).1 in (
         queue-data d z.lengths,
         journal-data d z.lengths,
         (write-range b n (length x) (yes 3)).2,

@@ -3,7 +3,7 @@ ghost use Rattle.std.specs.Prelude.{◌≤◌, ◌<◌};
 ghost use Rattle.disk.specs.Record.{record_in};
 ghost use Rattle.calls.specs.promises.Adds.{Adds};
 
-use answers::{Refusal, Reply};
+use answers::{Refusal, Reply, ask};
 use card_log::entry::LogEntry;
 use disk::change::{append, journal};
 use disk::record::{RECORD, Record, Unit, journal_len, len};
@@ -14,15 +14,11 @@ pub fn add(rec: &mut [u8; RECORD], s: usize, e: LogEntry) -> Reply
     ensures { Adds s e (record_in rec.old) result (record_in rec.new) }
 {
     if s == 0 {
-        if Record::QUEUE <= len(rec) {
-            return Reply::Refused(Refusal::QueueFull);
-        }
+        ask(len(rec) < Record::QUEUE, Refusal::QueueFull)?;
         append(rec, false, e);
-        return Reply::Accepted;
+    } else {
+        ask(journal_len(rec, s) < Unit::JOURNAL, Refusal::JournalFull)?;
+        journal(rec, s, e);
     }
-    if Unit::JOURNAL <= journal_len(rec, s) {
-        return Reply::Refused(Refusal::JournalFull);
-    }
-    journal(rec, s, e);
-    Reply::Accepted
+    Ok(())
 }

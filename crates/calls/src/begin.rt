@@ -4,11 +4,10 @@ ghost use Rattle.answers.specs.Answers.{reply_answer};
 ghost use Rattle.calls.specs.Performs.{ChangesRecord};
 
 use crate::check::check;
-use crate::ranges::is_window;
-use answers::{Refusal, Reply};
+use crate::ranges::{is_unit, is_window};
+use answers::{Refusal, Reply, ask};
 use disk::change::empty;
-use disk::record::{RECORD, Record};
-use inspect::look::Looked;
+use disk::record::RECORD;
 use inspect::units::is_open;
 
 // Questions: 1 lengths, 3 record, 4 unit, 5 window, 6 closed.
@@ -22,21 +21,10 @@ pub fn begin(
 ) -> Reply
     ensures { ChangesRecord (begin_of unit window) card.now queue_data.now journal_data.now rec.old rec.new (reply_answer result) }
 {
-    match check(card, queue_data, journal_data, rec) {
-        Looked::Refused(x) => {
-            return Reply::Refused(x);
-        }
-        Looked::Seen => {}
-    }
-    if unit < 1 || Record::UNITS < unit {
-        return Reply::Refused(Refusal::StreamClosed);
-    }
-    if !is_window(window) {
-        return Reply::Refused(Refusal::OutOfRange);
-    }
-    if is_open(rec, unit) {
-        return Reply::Refused(Refusal::UnitOpen);
-    }
+    check(card, queue_data, journal_data, rec)?;
+    ask(is_unit(unit), Refusal::StreamClosed)?;
+    ask(is_window(window), Refusal::OutOfRange)?;
+    ask(!is_open(rec, unit), Refusal::UnitOpen)?;
     empty(rec, unit, window as u8);
-    Reply::Accepted
+    Ok(())
 }

@@ -6,10 +6,9 @@ ghost use Rattle.calls.specs.Performs.{ChangesNothing};
 
 use crate::check::check;
 use crate::ranges::is_window;
-use answers::{NumberReply, Refusal};
+use answers::{NumberReply, Refusal, ask};
 use disk::record;
 use disk::record::RECORD;
-use inspect::look::Looked;
 
 // Questions: 1 lengths, 3 record, 5 window.
 pub fn conflicts(
@@ -21,14 +20,7 @@ pub fn conflicts(
 ) -> NumberReply
     ensures { ChangesNothing (conflict_count window) card.now queue_data.now journal_data.now rec.now (number_answer result) [] }
 {
-    match check(card, queue_data, journal_data, rec) {
-        Looked::Refused(x) => {
-            return NumberReply::Refused(x);
-        }
-        Looked::Seen => {}
-    }
-    if !is_window(window) {
-        return NumberReply::Refused(Refusal::OutOfRange);
-    }
-    NumberReply::Number(record::conflicts(rec, window) as usize)
+    check(card, queue_data, journal_data, rec)?;
+    ask(is_window(window), Refusal::OutOfRange)?;
+    Ok(usize::from(record::conflicts(rec, window)))
 }

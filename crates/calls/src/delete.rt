@@ -19,13 +19,12 @@ fn list_freed(nodes: &mut [u8; 1280], rec: &mut [u8; RECORD], s: usize, e: LogEn
     requires { Padded (record_in rec.old) × (legal (raw 0 (member (as_change e))) ≡ true) }
     ensures { OfDeletion (tables_in nodes.old) e (λ c rs. record_in rec.new ≡ relisted_on s c rs (record_in rec.old)) }
 {
-    if s != 0 {
-        return;
+    if s == 0 {
+        let last = last_free(nodes);
+        let f = fields_of(e);
+        act(nodes, f.kind, f.block, f.list, f.predecessor, UNWRITTEN);
+        relist(rec, nodes, e, last);
     }
-    let last = last_free(nodes);
-    let f = fields_of(e);
-    act(nodes, f.kind, f.block, f.list, f.predecessor, UNWRITTEN);
-    relist(rec, nodes, e, last);
 }
 
 // 11 and 13, as `add` asks them. The tables show the stream's view, in which the deletion applies.
@@ -33,11 +32,7 @@ pub fn delete(nodes: &mut [u8; 1280], rec: &mut [u8; RECORD], s: usize, e: LogEn
     requires { (s ≤ 4) × ((record_in rec.old).ring.head < 32) × Padded (record_in rec.old) × (legal (raw 0 (member (as_change e))) ≡ true) }
     ensures { OfDeletion (tables_in nodes.old) e (λ c rs. Leaves s (record_in rec.old) (relisted_on s c rs (added s e (record_in rec.old))) result (record_in rec.new)) }
 {
-    match add(rec, s, e) {
-        Reply::Refused(x) => Reply::Refused(x),
-        Reply::Accepted => {
-            list_freed(nodes, rec, s, e);
-            Reply::Accepted
-        }
-    }
+    add(rec, s, e)?;
+    list_freed(nodes, rec, s, e);
+    Ok(())
 }

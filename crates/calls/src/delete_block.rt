@@ -14,10 +14,10 @@ ghost use Rattle.calls.specs.Performs.{ChangesRecord};
 
 use crate::delete::delete;
 use crate::ranges::is_block;
-use answers::{Refusal, Reply};
+use answers::{Refusal, Reply, ask};
 use card_log::entry::LogEntry;
 use disk::record::RECORD;
-use inspect::look::{Looked, look_stream};
+use inspect::look::look_stream;
 use lists::tables::is_placed;
 
 // Questions 5, 8, 11 and 13, over the stream's view.
@@ -25,13 +25,9 @@ fn delete_placed(rec: &mut [u8; RECORD], nodes: &mut [u8; 1280], s: usize, b: us
     requires { (s ≤ 4) × ((record_in rec.old).ring.head < 32) × Padded (record_in rec.old) }
     ensures { OfShown (tables_in nodes.old) (λ rs. DeletesAfter ((5, is_block b) ∷ (8, placed b rs) ∷ []) s (E.DeleteBlock b) (del_block b) rs (record_in rec.old) result (record_in rec.new)) }
 {
-    if !is_block(b) {
-        return Reply::Refused(Refusal::OutOfRange);
-    }
+    ask(is_block(b), Refusal::OutOfRange)?;
     let block = b as u8;
-    if !is_placed(nodes, block) {
-        return Reply::Refused(Refusal::BlockNotPlaced);
-    }
+    ask(is_placed(nodes, block), Refusal::BlockNotPlaced)?;
     delete(nodes, rec, s, LogEntry::DeleteBlock { block })
 }
 
@@ -47,11 +43,6 @@ pub fn delete_block(
     ensures { ChangesRecord (on_stream stream (delete_block block)) card.now queue_data.now journal_data.now rec.old rec.new (reply_answer result) }
 {
     let mut nodes = [0u8; 1280];
-    match look_stream(card, queue_data, journal_data, rec, stream, &mut nodes) {
-        Looked::Refused(x) => {
-            return Reply::Refused(x);
-        }
-        Looked::Seen => {}
-    }
+    look_stream(card, queue_data, journal_data, rec, stream, &mut nodes)?;
     delete_placed(rec, &mut nodes, stream, block)
 }

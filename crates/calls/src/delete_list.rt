@@ -14,10 +14,10 @@ ghost use Rattle.calls.specs.Performs.{ChangesRecord};
 
 use crate::delete::delete;
 use crate::ranges::is_list;
-use answers::{Refusal, Reply};
+use answers::{Refusal, Reply, ask};
 use card_log::entry::LogEntry;
 use disk::record::RECORD;
-use inspect::look::{Looked, look_stream};
+use inspect::look::look_stream;
 use lists::tables::is_taken;
 
 // Questions 5, 7, 11 and 13, over the stream's view.
@@ -25,13 +25,9 @@ fn delete_taken(rec: &mut [u8; RECORD], nodes: &mut [u8; 1280], s: usize, l: usi
     requires { (s ≤ 4) × ((record_in rec.old).ring.head < 32) × Padded (record_in rec.old) }
     ensures { OfShown (tables_in nodes.old) (λ rs. DeletesAfter ((5, is_list l) ∷ (7, taken l rs) ∷ []) s (E.DeleteList l) (del_list l) rs (record_in rec.old) result (record_in rec.new)) }
 {
-    if !is_list(l) {
-        return Reply::Refused(Refusal::OutOfRange);
-    }
+    ask(is_list(l), Refusal::OutOfRange)?;
     let list = l as u8;
-    if !is_taken(nodes, list) {
-        return Reply::Refused(Refusal::ListNotTaken);
-    }
+    ask(is_taken(nodes, list), Refusal::ListNotTaken)?;
     delete(nodes, rec, s, LogEntry::DeleteList { list })
 }
 
@@ -47,11 +43,6 @@ pub fn delete_list(
     ensures { ChangesRecord (on_stream stream (delete_list list)) card.now queue_data.now journal_data.now rec.old rec.new (reply_answer result) }
 {
     let mut nodes = [0u8; 1280];
-    match look_stream(card, queue_data, journal_data, rec, stream, &mut nodes) {
-        Looked::Refused(x) => {
-            return Reply::Refused(x);
-        }
-        Looked::Seen => {}
-    }
+    look_stream(card, queue_data, journal_data, rec, stream, &mut nodes)?;
     delete_taken(rec, &mut nodes, stream, list)
 }

@@ -8,7 +8,7 @@ ghost use Rattle.card_log.specs.Turns.{AllInTurn};
 ghost use Rattle.disk.specs.Record.{record_in, with_flow};
 ghost use Rattle.calls.specs.promises.Flushing.{HeadReady, Heads, Flushable, Flushes};
 
-use answers::FlushReply;
+use answers::{Ending, Flushed};
 use card_log::entry::LogEntry;
 use card_log::layout::{SEGMENT, SLOT};
 use card_log::place::{Home, Place, after, home_of};
@@ -18,7 +18,7 @@ use disk::record;
 use disk::record::{RECORD, Record, head, len, queue_entry};
 
 // What a flush makes of the queue's head: it has no place; the allowance ended when so many of its stores were done; or it is on the card, with the
-// place behind it and the stores that it took.
+// place behind it and the stores that it took. Three ways on, each with what it needs: as a Result it would be no plainer.
 #[derive(Clone, Copy)]
 pub enum Headed {
     Full,
@@ -39,10 +39,8 @@ fn advance(
     requires { Storable card.old place (map_entry (with_body content.now) (as_entry member e)) done × (upto ≤ length (entry_stores place (map_entry (with_body content.now) (as_entry member e)))) × (length content.now ≡ 256) × AllInTurn card.old place (map_entry (with_body content.now) (as_entry member e)) done upto }
     ensures { card.new ≡ do_stores (take (upto - done) (drop done (entry_stores place (map_entry (with_body content.now) (as_entry member e))))) card.old }
 {
-    let mut k = done;
-    while k < upto {
+    for k in done..upto {
         store_step(card, content, place, e, member, k);
-        k += 1;
     }
 }
 
@@ -74,14 +72,16 @@ fn store_head(
     Headed::Drained(after(home, e), left)
 }
 
-// The record when `gone` entries have left the queue and `done` stores of the next one are on the card.
-fn ended(rec: &mut [u8; RECORD], gone: usize, done: usize)
+// The record when `gone` entries have left the queue and `done` stores of the next one are on the card, and what the flush answers.
+fn ended(rec: &mut [u8; RECORD], gone: usize, done: usize, stores: usize, ending: Ending) -> Flushed
     requires { (gone ≤ (record_in rec.old).ring.len) × ((record_in rec.old).ring.len ≤ 32) × ((record_in rec.old).ring.head < 32) × (done < 65536) }
-    ensures { record_in rec.new ≡ with_flow (record_in rec.old) (((record_in rec.old).ring.head + gone) % 32) ((record_in rec.old).ring.len - gone) done }
+    ensures left { record_in rec.new ≡ with_flow (record_in rec.old) (((record_in rec.old).ring.head + gone) % 32) ((record_in rec.old).ring.len - gone) done }
+    ensures told { result ≡ record { stores = stores; ending = ending } }
 {
     let first = (head(rec) + gone) % Record::QUEUE;
     let left = len(rec) - gone;
     flow(rec, first, left, done);
+    Flushed { stores, ending }
 }
 
 // The queue's stores, from the place behind the log on, until the flush ends.
@@ -91,7 +91,7 @@ pub fn drain(
     rec: &mut [u8; RECORD],
     behind: Place,
     allowance: usize,
-) -> FlushReply
+) -> Flushed
     requires { Flushable card.old queue_data.now (record_in rec.old) behind }
     ensures { Flushes allowance card.old queue_data.now (record_in rec.old) card.new (record_in rec.new) result }
 {
@@ -100,37 +100,27 @@ pub fn drain(
     let mut place = behind;
     let mut done = record::done(rec);
     let mut left = allowance;
-    let mut gone = 0;
-    while gone < entries {
+    for gone in 0..entries {
         let at = (first + gone) % Record::QUEUE;
         let queued = queue_entry(rec, at);
-        let e = queued.entry;
         let data = SLOT * at;
         match store_head(
             card,
             &queue_data[data..data + SLOT],
             place,
-            e,
+            queued.entry,
             queued.member,
             done,
             left,
         ) {
-            Headed::Full => {
-                ended(rec, gone, done);
-                return FlushReply::Full(allowance - left);
-            }
-            Headed::Spent(upto) => {
-                ended(rec, gone, upto);
-                return FlushReply::Spent(allowance);
-            }
+            Headed::Full => return ended(rec, gone, done, allowance - left, Ending::Full),
+            Headed::Spent(upto) => return ended(rec, gone, upto, allowance, Ending::Spent),
             Headed::Drained(next, stores) => {
                 place = next;
                 left -= stores;
+                done = 0;
             }
         }
-        done = 0;
-        gone += 1;
     }
-    ended(rec, gone, done);
-    FlushReply::Drained(allowance - left)
+    ended(rec, entries, done, allowance - left, Ending::Drained)
 }

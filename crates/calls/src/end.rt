@@ -10,8 +10,8 @@ ghost use Rattle.disk.specs.promises.Listing.{Padded};
 ghost use Rattle.calls.specs.promises.Ending.{closed_over, QueuesMember, Ready, QueuesUnit, Ends};
 ghost use Rattle.calls.specs.Performs.{Performs};
 
-use crate::enter::enter;
-use answers::{Refusal, Reply};
+use crate::enter::enter_unit;
+use answers::{Refusal, Reply, ask};
 use card_log::copy::copy_in;
 use card_log::entry::LogEntry;
 use card_log::layout::SLOT;
@@ -19,7 +19,6 @@ use disk::change::{append, count_conflict, empty, release};
 use disk::record::{RECORD, Record, Unit, head, journal_entry, journal_len, len, window};
 use inspect::give_up::give_up;
 use inspect::journal::{enter_journal, relist_journal};
-use inspect::look::Looked;
 
 // The window of a closed unit.
 const CLOSED: u8 = 0;
@@ -78,11 +77,9 @@ fn queue_unit(queue_data: &mut [u8], journal_data: &[u8], rec: &mut [u8; RECORD]
 {
     let entries = journal_len(rec, u);
     let first = (u - 1) * Unit::JOURNAL;
-    let mut k = 0;
-    while k < entries {
+    for k in 0..entries {
         let e = journal_entry(rec, u, k);
         queue_member(queue_data, journal_data, rec, e, first + k);
-        k += 1;
     }
     let count = entries as u8;
     append(rec, false, LogEntry::Commit { count });
@@ -105,15 +102,16 @@ fn end_unit(
         let w = window(rec, u);
         close(nodes, rec, u);
         count_conflict(rec, w as usize);
-        return Reply::Refused(Refusal::Conflict);
+        return Err(Refusal::Conflict);
     }
-    if Record::QUEUE <= len(rec) + journal_len(rec, u) {
-        return Reply::Refused(Refusal::QueueFull);
-    }
+    ask(
+        len(rec) + journal_len(rec, u) < Record::QUEUE,
+        Refusal::QueueFull,
+    )?;
     queue_unit(queue_data, journal_data, rec, u);
     relist_journal(nodes, rec, u);
     close(nodes, rec, u);
-    Reply::Accepted
+    Ok(())
 }
 
 // Questions: 1 lengths, 3 record, 4 unit, 12 every entry applies, 13 queue.
@@ -127,11 +125,6 @@ pub fn end(
     ensures { Performs (end unit) (disk_in card.now queue_data.old journal_data.now rec.old) (disk_in card.now queue_data.new journal_data.now rec.new) (reply_answer result) [] }
 {
     let mut nodes = [0u8; 1280];
-    match enter(card, queue_data, journal_data, rec, false, unit, &mut nodes) {
-        Looked::Refused(x) => {
-            return Reply::Refused(x);
-        }
-        Looked::Seen => {}
-    }
+    enter_unit(card, queue_data, journal_data, rec, unit, &mut nodes)?;
     end_unit(&mut nodes, queue_data, journal_data, rec, unit)
 }

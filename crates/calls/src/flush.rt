@@ -6,9 +6,9 @@ ghost use Rattle.answers.specs.Answers.{flush_answer};
 ghost use Rattle.calls.specs.Performs.{Performs};
 
 use crate::drain::drain;
-use answers::{FlushReply, Refusal};
+use answers::{FlushReply, Refusal, ask};
 use disk::record::RECORD;
-use inspect::examine::{Examined, examine};
+use inspect::examine::examine;
 
 // The largest allowance.
 pub const ALLOWANCE: usize = 65535;
@@ -24,14 +24,7 @@ pub fn flush(
     ensures { Performs (flush allowance) (disk_in card.old queue_data.now journal_data.now rec.old) (disk_in card.new queue_data.now journal_data.now rec.new) (flush_answer result) [] }
 {
     let mut nodes = [0u8; 1280];
-    match examine(card, queue_data, journal_data, rec, false, &mut nodes) {
-        Examined::WrongLength => FlushReply::Refused(Refusal::WrongLength),
-        Examined::Unsound => FlushReply::Refused(Refusal::RecordUnsound),
-        Examined::Sound(behind) => {
-            if ALLOWANCE < allowance {
-                return FlushReply::Refused(Refusal::OutOfRange);
-            }
-            drain(card, queue_data, rec, behind, allowance)
-        }
-    }
+    let behind = examine(card, queue_data, journal_data, rec, &mut nodes)?;
+    ask(allowance <= ALLOWANCE, Refusal::OutOfRange)?;
+    Ok(drain(card, queue_data, rec, behind, allowance))
 }

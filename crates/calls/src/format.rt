@@ -6,7 +6,7 @@ ghost use Rattle.answers.specs.Answers.{reply_answer};
 ghost use Rattle.calls.specs.Performs.{Performs};
 
 use crate::renew::renew_from;
-use answers::{Refusal, Reply};
+use answers::{Refusal, Reply, ask};
 use card_log::layout::SEGMENT;
 use card_log::store::format_stores;
 use disk::record::RECORD;
@@ -22,13 +22,14 @@ pub fn format(
 ) -> Reply
     ensures { Performs format (disk_in card.old queue_data.now journal_data.now rec.old) (disk_in card.new queue_data.now journal_data.now rec.new) (reply_answer result) [] }
 {
-    if !lengths_right(card, queue_data, journal_data) {
-        return Reply::Refused(Refusal::WrongLength);
-    }
+    ask(
+        lengths_right(card, queue_data, journal_data),
+        Refusal::WrongLength,
+    )?;
     let segments = card.len() / SEGMENT;
     format_stores(card, segments);
     let mut nodes = [0u8; 1280];
     clear(&mut nodes);
     renew_from(rec, &nodes);
-    Reply::Accepted
+    Ok(())
 }

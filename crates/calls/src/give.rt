@@ -7,7 +7,7 @@ ghost use Rattle.calls.specs.promises.Giving.{Takes, held_by, put_entry, Gives, 
 
 use crate::add::add;
 use crate::ranges::{follows, is_position};
-use answers::{NumberReply, Refusal, Reply};
+use answers::{NumberReply, Refusal, ask};
 use card_log::entry::LogEntry;
 use disk::change::hold;
 use disk::free::{first_free, withdraw};
@@ -19,10 +19,9 @@ fn held(rec: &mut [u8; RECORD], s: usize, n: u8)
     requires { (s ≤ 4) × (1 ≤ n) × (n ≤ 80) }
     ensures { record_in rec.new ≡ held_by s n (record_in rec.old) }
 {
-    if s == 0 {
-        return;
+    if s != 0 {
+        hold(rec, usize::from(n), s as u8);
     }
-    hold(rec, n as usize, s as u8);
 }
 
 // 10. Is a list free? 11 and 13, and the take: the number is held in a unit, and leaves the order of the free ones.
@@ -31,18 +30,12 @@ pub fn take_list(rec: &mut [u8; RECORD], s: usize) -> NumberReply
     ensures { Takes s (record_in rec.old) result (record_in rec.new) }
 {
     let l = first_free(rec, LogEntry::BLOCKS, LogEntry::LISTS);
-    if l == 0 {
-        return NumberReply::Refused(Refusal::NoNumberFree);
-    }
-    match add(rec, s, LogEntry::Take { list: l }) {
-        Reply::Refused(x) => NumberReply::Refused(x),
-        Reply::Accepted => {
-            let n = list_number(l);
-            held(rec, s, n);
-            withdraw(rec, n);
-            NumberReply::Number(l as usize)
-        }
-    }
+    ask(l != 0, Refusal::NoNumberFree)?;
+    add(rec, s, LogEntry::Take { list: l })?;
+    let n = list_number(l);
+    held(rec, s, n);
+    withdraw(rec, n);
+    Ok(usize::from(l))
 }
 
 // The entry of a block put first, or behind block p.
@@ -50,12 +43,13 @@ fn entry_of(b: u8, l: u8, p: u8) -> LogEntry
     ensures { result ≡ put_entry b l p }
 {
     if p == 0 {
-        return LogEntry::PutFirst { block: b, list: l };
-    }
-    LogEntry::PutAfter {
-        block: b,
-        list: l,
-        predecessor: p,
+        LogEntry::PutFirst { block: b, list: l }
+    } else {
+        LogEntry::PutAfter {
+            block: b,
+            list: l,
+            predecessor: p,
+        }
     }
 }
 
@@ -64,14 +58,10 @@ fn put_block(rec: &mut [u8; RECORD], s: usize, l: u8, p: u8, b: u8) -> NumberRep
     requires { (s ≤ 4) × ((record_in rec.old).ring.head < 32) × (1 ≤ b) × (b ≤ 64) × Padded (record_in rec.old) }
     ensures { Gives [] s l p b (record_in rec.old) result (record_in rec.new) }
 {
-    match add(rec, s, entry_of(b, l, p)) {
-        Reply::Refused(x) => NumberReply::Refused(x),
-        Reply::Accepted => {
-            held(rec, s, b);
-            withdraw(rec, b);
-            NumberReply::Number(b as usize)
-        }
-    }
+    add(rec, s, entry_of(b, l, p))?;
+    held(rec, s, b);
+    withdraw(rec, b);
+    Ok(usize::from(b))
 }
 
 // 7, 9 and 10 of a block put on list l behind block p, first if p is 0; block b is 0 if none is free.
@@ -79,15 +69,9 @@ fn put_on(nodes: &[u8; 1280], rec: &mut [u8; RECORD], s: usize, l: u8, p: u8, b:
     requires { (s ≤ 4) × ((record_in rec.old).ring.head < 32) × IsList l × (p ≤ 64) × (b ≤ 64) × Padded (record_in rec.old) }
     ensures { OfShown (tables_in nodes.now) (λ rs. Gives (put_questions l p b rs) s l p b (record_in rec.old) result (record_in rec.new)) }
 {
-    if !is_taken(nodes, l) {
-        return NumberReply::Refused(Refusal::ListNotTaken);
-    }
-    if !follows(nodes, l, p) {
-        return NumberReply::Refused(Refusal::PredecessorElsewhere);
-    }
-    if b == 0 {
-        return NumberReply::Refused(Refusal::NoNumberFree);
-    }
+    ask(is_taken(nodes, l), Refusal::ListNotTaken)?;
+    ask(follows(nodes, l, p), Refusal::PredecessorElsewhere)?;
+    ask(b != 0, Refusal::NoNumberFree)?;
     put_block(rec, s, l, p, b)
 }
 
@@ -102,9 +86,7 @@ pub fn put_free(
     requires { (s ≤ 4) × ((record_in rec.old).ring.head < 32) × Padded (record_in rec.old) }
     ensures { OfShown (tables_in nodes.now) (λ rs. PutsFree s l p rs (record_in rec.old) result (record_in rec.new)) }
 {
-    if !is_position(l, p) {
-        return NumberReply::Refused(Refusal::OutOfRange);
-    }
+    ask(is_position(l, p), Refusal::OutOfRange)?;
     let b = first_free(rec, 0, LogEntry::BLOCKS);
     put_on(nodes, rec, s, l as u8, p as u8, b)
 }

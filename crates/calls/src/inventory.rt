@@ -6,10 +6,10 @@ ghost use Rattle.disk.specs.Call as call;
 ghost use Rattle.answers.specs.Answers.{number_answer};
 ghost use Rattle.calls.specs.Performs.{ChangesNothing};
 
-use answers::{NumberReply, Refusal};
+use answers::{NumberReply, Refusal, ask};
 use card_log::entry::LogEntry;
 use disk::record::RECORD;
-use inspect::look::{Looked, look_view};
+use inspect::look::look_view;
 use lists::tables::list_after;
 
 const LISTS: usize = LogEntry::LISTS as usize;
@@ -27,16 +27,9 @@ pub fn inventory(
     ensures { ChangesNothing (call.in_view view (call.inventory dest.old)) card.now queue_data.now journal_data.now rec.now (number_answer result) dest.new }
 {
     let mut nodes = [0u8; 1280];
-    match look_view(card, queue_data, journal_data, rec, view, &mut nodes) {
-        Looked::Refused(x) => {
-            return NumberReply::Refused(x);
-        }
-        Looked::Seen => {}
-    }
-    if dest.len() != LISTS {
-        return NumberReply::Refused(Refusal::OutOfRange);
-    }
-    NumberReply::Number(put_lists(&nodes, dest))
+    look_view(card, queue_data, journal_data, rec, view, &mut nodes)?;
+    ask(dest.len() == LISTS, Refusal::OutOfRange)?;
+    Ok(put_lists(&nodes, dest))
 }
 
 // The lists that tables with these links show, from the first on.
@@ -45,14 +38,12 @@ fn put_lists(nodes: &[u8; 1280], dest: &mut [u8]) -> usize
     ensures { OfShown (tables_in nodes.now) (λ rs. (result ≡ length (list_nums rs)) × (dest.new ≡ list_nums rs ++ drop (length (list_nums rs)) dest.old)) }
 {
     let mut list = list_after(nodes, 0);
-    let mut i = 0;
-    while i < LISTS {
+    for i in 0..LISTS {
         if list == 0 {
             return i;
         }
         dest[i] = list;
         list = list_after(nodes, list);
-        i += 1;
     }
-    i
+    LISTS
 }

@@ -4,7 +4,7 @@ ghost use Rattle.answers.specs.Answers.{mount_answer};
 ghost use Rattle.calls.specs.Performs.{ChangesRecord};
 
 use crate::renew::renew_from;
-use answers::{MountReply, Refusal};
+use answers::{MountRefusal, MountReply, Refusal, ask};
 use card_log::mount::{Mounted, mount_on};
 use disk::record::RECORD;
 use inspect::lengths::data_right;
@@ -18,16 +18,14 @@ pub fn mount(
 ) -> MountReply
     ensures { ChangesRecord mount card.now queue_data.now journal_data.now rec.old rec.new (mount_answer result) }
 {
-    if !data_right(queue_data, journal_data) {
-        return MountReply::Refused(Refusal::WrongLength);
-    }
+    ask(data_right(queue_data, journal_data), Refusal::WrongLength)?;
     let mut nodes = [0u8; 1280];
     match mount_on(card, &mut nodes) {
-        Mounted::WrongLength => MountReply::Refused(Refusal::WrongLength),
-        Mounted::Fault(segment, entry) => MountReply::Fault { segment, entry },
+        Mounted::WrongLength => Err(MountRefusal::Refused(Refusal::WrongLength)),
+        Mounted::Fault(segment, entry) => Err(MountRefusal::Fault { segment, entry }),
         Mounted::Sound(_) => {
             renew_from(rec, &nodes);
-            MountReply::Accepted
+            Ok(())
         }
     }
 }

@@ -7,7 +7,6 @@ use crate::enter::enter;
 use crate::give::take_list;
 use answers::NumberReply;
 use disk::record::RECORD;
-use inspect::look::Looked;
 
 // Questions: 1 lengths, 3 record, 4 stream, 10 a free number, 11 journal, 13 queue.
 pub fn new_list(
@@ -20,19 +19,6 @@ pub fn new_list(
     ensures { ChangesRecord (on_stream stream new_list) card.now queue_data.now journal_data.now rec.old rec.new (number_answer result) }
 {
     let mut nodes = [0u8; 1280];
-    match enter(
-        card,
-        queue_data,
-        journal_data,
-        rec,
-        true,
-        stream,
-        &mut nodes,
-    ) {
-        Looked::Refused(x) => {
-            return NumberReply::Refused(x);
-        }
-        Looked::Seen => {}
-    }
+    enter(card, queue_data, journal_data, rec, stream, &mut nodes)?;
     take_list(rec, stream)
 }

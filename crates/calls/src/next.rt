@@ -5,9 +5,9 @@ ghost use Rattle.answers.specs.Answers.{number_answer};
 ghost use Rattle.calls.specs.Performs.{ChangesNothing};
 
 use crate::ranges::{follows, is_position};
-use answers::{NumberReply, Refusal};
+use answers::{NumberReply, Refusal, ask};
 use disk::record::RECORD;
-use inspect::look::{Looked, look_view};
+use inspect::look::look_view;
 use lists::tables::{block_after, is_taken};
 
 // The block after a predecessor on a list in a view: 0 stands for the first, and is returned at the end.
@@ -24,23 +24,11 @@ pub fn next(
     ensures { ChangesNothing (in_view view (block_after list predecessor)) card.now queue_data.now journal_data.now rec.now (number_answer result) [] }
 {
     let mut nodes = [0u8; 1280];
-    match look_view(card, queue_data, journal_data, rec, view, &mut nodes) {
-        Looked::Refused(x) => {
-            return NumberReply::Refused(x);
-        }
-        Looked::Seen => {}
-    }
-    if !is_position(list, predecessor) {
-        return NumberReply::Refused(Refusal::OutOfRange);
-    }
+    look_view(card, queue_data, journal_data, rec, view, &mut nodes)?;
+    ask(is_position(list, predecessor), Refusal::OutOfRange)?;
     let l = list as u8;
     let p = predecessor as u8;
-    if !is_taken(&nodes, l) {
-        return NumberReply::Refused(Refusal::ListNotTaken);
-    }
-    if !follows(&nodes, l, p) {
-        return NumberReply::Refused(Refusal::PredecessorElsewhere);
-    }
-    let block = block_after(&nodes, l, p) as usize;
-    NumberReply::Number(block)
+    ask(is_taken(&nodes, l), Refusal::ListNotTaken)?;
+    ask(follows(&nodes, l, p), Refusal::PredecessorElsewhere)?;
+    Ok(usize::from(block_after(&nodes, l, p)))
 }

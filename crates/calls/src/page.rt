@@ -3,9 +3,9 @@ ghost use Rattle.disk.specs.Call as call;
 ghost use Rattle.answers.specs.Answers.{number_answer};
 ghost use Rattle.calls.specs.Performs.{ChangesNothing};
 
-use answers::{NumberReply, Refusal};
+use answers::{NumberReply, Refusal, ask};
 use disk::record::RECORD;
-use inspect::look::{Looked, look_view};
+use inspect::look::look_view;
 use listing::page::{page_length, put_page};
 
 // The page of a view goes to the front of the buffer; its length is returned. A buffer of `listing::page::PAGE` bytes is never too short.
@@ -21,16 +21,9 @@ pub fn page(
     ensures { ChangesNothing (call.in_view view (call.page buffer.old)) card.now queue_data.now journal_data.now rec.now (number_answer result) buffer.new }
 {
     let mut nodes = [0u8; 1280];
-    match look_view(card, queue_data, journal_data, rec, view, &mut nodes) {
-        Looked::Refused(x) => {
-            return NumberReply::Refused(x);
-        }
-        Looked::Seen => {}
-    }
+    look_view(card, queue_data, journal_data, rec, view, &mut nodes)?;
     let length = page_length(&nodes);
-    if buffer.len() < length {
-        return NumberReply::Refused(Refusal::BufferTooShort);
-    }
+    ask(length <= buffer.len(), Refusal::BufferTooShort)?;
     put_page(buffer, 0, &nodes);
-    NumberReply::Number(length)
+    Ok(length)
 }

@@ -3,14 +3,12 @@ ghost use Rattle.disk.specs.Call.{read_block, in_view};
 ghost use Rattle.answers.specs.Answers.{read_answer};
 ghost use Rattle.calls.specs.Performs.{ChangesNothing};
 
-use crate::ranges::is_block;
-use answers::{ReadReply, Refusal};
+use crate::ranges::is_read;
+use answers::{ReadReply, Refusal, ask};
 use card_log::content::copy_content;
-use card_log::layout::SLOT;
-use card_log::legal::both;
 use card_log::location::race_in;
 use disk::record::RECORD;
-use inspect::look::{Looked, look_view};
+use inspect::look::look_view;
 use lists::tables::{UNWRITTEN, is_placed, location_of};
 
 // Block b of view v goes to dest.
@@ -27,23 +25,12 @@ pub fn read(
     ensures { ChangesNothing (in_view view (read_block block dest.old)) card.now queue_data.now journal_data.now rec.now (read_answer result) dest.new }
 {
     let mut nodes = [0u8; 1280];
-    match look_view(card, queue_data, journal_data, rec, view, &mut nodes) {
-        Looked::Refused(x) => {
-            return ReadReply::Refused(x);
-        }
-        Looked::Seen => {}
-    }
-    if !both(is_block(block), dest.len() == SLOT) {
-        return ReadReply::Refused(Refusal::OutOfRange);
-    }
+    look_view(card, queue_data, journal_data, rec, view, &mut nodes)?;
+    ask(is_read(block, dest.len()), Refusal::OutOfRange)?;
     let b = block as u8;
-    if !is_placed(&nodes, b) {
-        return ReadReply::Refused(Refusal::BlockNotPlaced);
-    }
+    ask(is_placed(&nodes, b), Refusal::BlockNotPlaced)?;
     let number = location_of(&nodes, b);
-    if number == UNWRITTEN {
-        return ReadReply::Refused(Refusal::Unwritten);
-    }
+    ask(number != UNWRITTEN, Refusal::Unwritten)?;
     copy_content(card, queue_data, journal_data, number, dest);
-    ReadReply::Race(race_in(number))
+    Ok(race_in(number))
 }

@@ -13,14 +13,13 @@ ghost use Rattle.calls.specs.promises.Adds.{AddsAfter, InRange, place_next, Copi
 ghost use Rattle.calls.specs.Performs.{Performs};
 
 use crate::add::add;
-use crate::ranges::{is_block, is_race};
-use answers::{Refusal, Reply};
+use crate::ranges::is_write;
+use answers::{Refusal, Reply, ask};
 use card_log::copy::copy_in;
 use card_log::entry::LogEntry;
 use card_log::layout::SLOT;
-use card_log::legal::both;
 use disk::record::{RECORD, Record, Unit, head, journal_len, len};
-use inspect::look::{Looked, look_stream};
+use inspect::look::look_stream;
 use lists::tables::is_placed;
 
 // The place of the data of the entry that the stream takes next.
@@ -29,9 +28,10 @@ fn place_next(rec: &[u8; RECORD], s: usize) -> usize
     ensures { result ≡ place_next s (record_in rec.now) }
 {
     if s == 0 {
-        return (head(rec) + len(rec)) % Record::QUEUE;
+        (head(rec) + len(rec)) % Record::QUEUE
+    } else {
+        (s - 1) * Unit::JOURNAL + journal_len(rec, s)
     }
-    (s - 1) * Unit::JOURNAL + journal_len(rec, s)
 }
 
 // The content goes to that place.
@@ -41,9 +41,9 @@ fn copy_content(queue_data: &mut [u8], journal_data: &mut [u8], s: usize, at: us
 {
     if s == 0 {
         copy_in(queue_data, SLOT * at, content);
-        return;
+    } else {
+        copy_in(journal_data, SLOT * at, content);
     }
-    copy_in(journal_data, SLOT * at, content);
 }
 
 // Questions 5, 8, 11 and 13, over the stream's view; n bytes are lent.
@@ -58,14 +58,10 @@ fn write_placed(
     requires { (s ≤ 4) × ((record_in rec.old).ring.head < 32) }
     ensures { OfShown (tables_in nodes.now) (λ rs. AddsAfter ((5, is_block b && is_race race && eqb n slot_bytes) ∷ (8, placed b rs) ∷ []) s (E.Write b 0 race) (record_in rec.old) result (record_in rec.new)) }
 {
-    if !both(both(is_block(b), is_race(race)), n == SLOT) {
-        return Reply::Refused(Refusal::OutOfRange);
-    }
+    ask(is_write(b, race, n), Refusal::OutOfRange)?;
     let block = b as u8;
     let race_byte = race as u8;
-    if !is_placed(nodes, block) {
-        return Reply::Refused(Refusal::BlockNotPlaced);
-    }
+    ask(is_placed(nodes, block), Refusal::BlockNotPlaced)?;
     add(
         rec,
         s,
@@ -91,17 +87,9 @@ pub fn write(
     ensures { Performs (on_stream stream (write_block block race content.now)) (disk_in card.now queue_data.old journal_data.old rec.old) (disk_in card.now queue_data.new journal_data.new rec.new) (reply_answer result) [] }
 {
     let mut nodes = [0u8; 1280];
-    match look_stream(card, queue_data, journal_data, rec, stream, &mut nodes) {
-        Looked::Refused(x) => {
-            return Reply::Refused(x);
-        }
-        Looked::Seen => {}
-    }
+    look_stream(card, queue_data, journal_data, rec, stream, &mut nodes)?;
     let at = place_next(rec, stream);
-    let reply = write_placed(rec, &nodes, stream, block, race, content.len());
-    match reply {
-        Reply::Accepted => copy_content(queue_data, journal_data, stream, at, content),
-        Reply::Refused(_) => {}
-    }
-    reply
+    write_placed(rec, &nodes, stream, block, race, content.len())?;
+    copy_content(queue_data, journal_data, stream, at, content);
+    Ok(())
 }

@@ -1,5 +1,5 @@
 -- The first no of a list of questions.
-use mathlib.Core.Path.{◌≡◌, refl, sym, ap}
+use mathlib.Core.Path.{◌≡◌, refl, sym, ap, ◌∙◌}
 use mathlib.Core.Logic.{◌≢◌}
 use mathlib.Core.Bool.{Bool, true, false}
 use mathlib.Core.List.{List, [], ◌∷◌, ◌++◌}
@@ -60,3 +60,7 @@ refused-more x ps qs h = ask-more ps qs (number x) (number-nonzero x) h
 pub exit_is : {A E : Type 0} (r : Result A E) (x : E) → IsErrAnd r (λ y. y ≡ x) → r ≡ Err x
 exit_is (Ok a) x h = absurd h
 exit_is (Err y) x h = ap Err h
+
+-- and where a question's `?` does, the question's refusal
+pub exit_asked : {A E : Type 0} (r : Result A E) (x z : E) → IsErrAnd r (λ y. y ≡ x) → x ≡ z → r ≡ Err z
+exit_asked r x z e i = exit_is r x e ∙ ap Err i

@@ -1,5 +1,5 @@
 -- Questions 11 and 13 of a change on a stream, and the record with the change; of a deletion, with the numbers that it frees.
-use Rattle.std.specs.Prelude.{◌≡◌, Bool, true, false, cond, List, [], ◌∷◌, ◌++◌, ℕ, ◌*◌, ◌≤◌, ◌<◌, eqb}
+use Rattle.std.specs.Prelude.{◌≡◌, Bool, true, false, cond, List, [], ◌∷◌, ◌++◌, ℕ, ◌*◌, ◌≤◌, ◌<◌, eqb, Result, Ok, Err}
 use Rattle.std.proofs.Math.Option.{Option, none, some}
 use Rattle.lists.specs.Change.{Change, del_block, del_list}
 use Rattle.lists.specs.State.{Row, State, apply}
@@ -11,8 +11,7 @@ use Rattle.card_log.specs.Cell.{cell_of}
 use Rattle.card_log.specs.Card.{slot_bytes, splice}
 use Rattle.disk.specs.Record.{Record, ring_place, unit_at, appended, journal_grown}
 use Rattle.disk.specs.promises.Listing.{relisted_by}
-use Rattle.answers.specs.declared.Reply.{Reply}
-use Rattle.answers.specs.declared.Reply.TheVariants.{Accepted, Refused}
+use Rattle.answers.specs.declared.Refusal.{Refusal}
 use Rattle.disk.specs.Disk.{Disk, journal_place}
 use Rattle.disk.specs.Questions.{journal_room, stream_room, first_no}
 use Rattle.answers.specs.Answers.{number}
@@ -29,20 +28,20 @@ abbrev pub rooms : Disk → ℕ → List (ℕ × Bool)
 rooms d s = (11, journal_room d s) ∷ (13, stream_room d s) ∷ []
 
 -- Refused by one of them, and the record as it was; or accepted, and record y left. Of the disk's record alone, whatever is lent beside it.
-abbrev pub Leaves : ℕ → Record → Record → Reply → Record → Type 0
-Leaves s r y (Refused x) r' = (r' ≡ r) × ((d : Disk) → d.rec ≡ r → first_no (rooms d s) ≡ number x)
-Leaves s r y Accepted r' = (r' ≡ y) × ((d : Disk) → d.rec ≡ r → (journal_room d s ≡ true) × (stream_room d s ≡ true))
+abbrev pub Leaves : ℕ → Record → Record → Result (Unit {0}) Refusal → Record → Type 0
+Leaves s r y (Err x) r' = (r' ≡ r) × ((d : Disk) → d.rec ≡ r → first_no (rooms d s) ≡ number x)
+Leaves s r y (Ok done) r' = (r' ≡ y) × ((d : Disk) → d.rec ≡ r → (journal_room d s ≡ true) × (stream_room d s ≡ true))
 
 -- the same behind other questions
-abbrev pub LeavesAfter : List (ℕ × Bool) → ℕ → Record → Record → Reply → Record → Type 0
-LeavesAfter qs s r y (Refused x) r' = (r' ≡ r) × ((d : Disk) → d.rec ≡ r → first_no (qs ++ rooms d s) ≡ number x)
-LeavesAfter qs s r y Accepted r' = (r' ≡ y) × ((d : Disk) → d.rec ≡ r → first_no (qs ++ rooms d s) ≡ 0)
+abbrev pub LeavesAfter : List (ℕ × Bool) → ℕ → Record → Record → Result (Unit {0}) Refusal → Record → Type 0
+LeavesAfter qs s r y (Err x) r' = (r' ≡ r) × ((d : Disk) → d.rec ≡ r → first_no (qs ++ rooms d s) ≡ number x)
+LeavesAfter qs s r y (Ok done) r' = (r' ≡ y) × ((d : Disk) → d.rec ≡ r → first_no (qs ++ rooms d s) ≡ 0)
 
 -- an entry added
-abbrev pub Adds : ℕ → LogEntry → Record → Reply → Record → Type 0
+abbrev pub Adds : ℕ → LogEntry → Record → Result (Unit {0}) Refusal → Record → Type 0
 Adds s e r a r' = Leaves s r (added s e r) a r'
 
-abbrev pub AddsAfter : List (ℕ × Bool) → ℕ → LogEntry → Record → Reply → Record → Type 0
+abbrev pub AddsAfter : List (ℕ × Bool) → ℕ → LogEntry → Record → Result (Unit {0}) Refusal → Record → Type 0
 AddsAfter qs s e r a r' = LeavesAfter qs s r (added s e r) a r'
 
 -- What a change made in lists rs does to the order of the free numbers at once: on stream 0 all, and nothing in a unit, whose changes act on it when the
@@ -65,7 +64,7 @@ abbrev pub OfDeletion : Tables → LogEntry → (Change ℕ → List (Row ℕ) �
 OfDeletion t e P = (c : Change ℕ) (x y : State ℕ) → deletion e ≡ some c → ShowsAll t x → apply c x ≡ some y → P c x.lists
 
 -- a deletion added: entry e, which says change c, made in lists rs
-abbrev pub DeletesAfter : List (ℕ × Bool) → ℕ → LogEntry → Change ℕ → List (Row ℕ) → Record → Reply → Record → Type 0
+abbrev pub DeletesAfter : List (ℕ × Bool) → ℕ → LogEntry → Change ℕ → List (Row ℕ) → Record → Result (Unit {0}) Refusal → Record → Type 0
 DeletesAfter qs s e c rs r a r' = LeavesAfter qs s r (relisted_on s c rs (added s e r)) a r'
 
 -- what a sound record has, of an open stream s; unit 1 stands for stream 0's

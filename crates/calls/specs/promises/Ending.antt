@@ -1,5 +1,5 @@
 -- What End adds to the queue and leaves of the unit.
-use Rattle.std.specs.Prelude.{◌≡◌, Bool, true, cond, List, [], ◌∷◌, ℕ, ◌+◌, ◌≤◌, ◌<◌, leb, eqb, length}
+use Rattle.std.specs.Prelude.{◌≡◌, Bool, true, cond, List, [], ◌∷◌, ℕ, ◌+◌, ◌≤◌, ◌<◌, leb, eqb, length, Result, Ok, Err}
 use Rattle.std.proofs.Math.Option.{some}
 use Rattle.lists.specs.Basic.{is_some, all, from}
 use Rattle.lists.specs.Change.{map_change}
@@ -10,8 +10,7 @@ use Rattle.card_log.specs.Raced.{with_body}
 use Rattle.card_log.specs.Card.{slot}
 use Rattle.card_log.specs.Entry.{member, raw, legal, as_change}
 use Rattle.disk.specs.Record.{Record, unit_at, listed_in, unit_turned, releasing, conflict_counted}
-use Rattle.answers.specs.declared.Reply.{Reply}
-use Rattle.answers.specs.declared.Reply.TheVariants.{Accepted, Refused}
+use Rattle.answers.specs.declared.Refusal.{Refusal}
 use Rattle.disk.specs.Disk.{disk, journal_of}
 use Rattle.disk.specs.Questions.{first_no}
 use Rattle.disk.specs.Perform.{enqueue, enqueue_all, unit_entries, given_up}
@@ -52,14 +51,14 @@ end_questions a r u = (12, a) ∷ (13, leb (r.ring.len + ((unit_at r u).len + 1)
 
 -- refused by the first no, the unit closed if that was 12; or accepted, queued, followed entry by entry in the order of the free numbers, and closed. st is
 -- the committed state that tables show.
-abbrev pub EndsAs : State ℕ → List ℕ → List ℕ → Record → ℕ → Reply → List ℕ → Record → Type 0
-EndsAs st q j r u (Refused x) q' r' =
+abbrev pub EndsAs : State ℕ → List ℕ → List ℕ → Record → ℕ → Result (Unit {0}) Refusal → List ℕ → Record → Type 0
+EndsAs st q j r u (Err x) q' r' =
     (first_no (end_questions (is_some (apply_all (journal_here (unit_at r u) u) st)) r u) ≡ number x) × (q' ≡ q)
     × (r' ≡ cond (eqb (number x) 12) (conflict_counted (unit_at r u).window (closed_over u st.lists r)) r)
-EndsAs st q j r u Accepted q' r' =
+EndsAs st q j r u (Ok done) q' r' =
     (first_no (end_questions (is_some (apply_all (journal_here (unit_at r u) u) st)) r u) ≡ 0)
     × (r₁ : Record) × QueuesUnit q j r u q' r₁
     × ((v : State ℕ) → apply_all (journal_here (unit_at r u) u) st ≡ some v → r' ≡ closed_over u v.lists (relisted_all (journal_here (unit_at r u) u) st.lists r₁))
 
-abbrev pub Ends : Tables → List ℕ → List ℕ → Record → ℕ → Reply → List ℕ → Record → Type 0
+abbrev pub Ends : Tables → List ℕ → List ℕ → Record → ℕ → Result (Unit {0}) Refusal → List ℕ → Record → Type 0
 Ends t q j r u x q' r' = (st : State ℕ) → ShowsAll t st → EndsAs st q j r u x q' r'

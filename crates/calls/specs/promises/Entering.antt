@@ -1,13 +1,12 @@
 -- Questions 1, 3 and 4 of a call on a stream, and of End, whose unit is no stream 0.
-use Rattle.std.specs.Prelude.{◌≡◌, Bool, true, cond, [], ◌∷◌, ℕ}
+use Rattle.std.specs.Prelude.{◌≡◌, Bool, true, cond, List, [], ◌∷◌, ℕ, Result}
 use Rattle.lists.specs.promises.Tables.{Tables}
 use Rattle.disk.specs.Disk.{Disk, committed}
 use Rattle.disk.specs.Sound.{lengths_right, record_sound, is_open_unit}
-use Rattle.disk.specs.Questions.{stream_open, first_no}
-use Rattle.answers.specs.Answers.{number}
+use Rattle.disk.specs.Questions.{stream_open}
+use Rattle.answers.specs.declared.Refusal.{Refusal}
 use Rattle.inspect.specs.promises.Located.{Located}
-use Rattle.inspect.specs.declared.look.Looked.{Looked}
-use Rattle.inspect.specs.declared.look.Looked.TheVariants.{Refused, Seen}
+use Rattle.inspect.specs.promises.Inspect.{RefusedOr}
 
 -- is it open, as a stream, or as a unit?
 abbrev pub open_for : Bool → Disk → ℕ → Bool
@@ -21,6 +20,8 @@ pub record Admitted (stream : Bool) (d : Disk) (s : ℕ) (t : Tables) : Type 0 w
   pub located : Located d t (committed d)
 
 -- refused by the first no, or entered
-abbrev pub Admits : Bool → Disk → ℕ → Looked → Tables → Type 0
-Admits stream d s (Refused x) t = first_no ((1, lengths_right d) ∷ (3, record_sound d) ∷ (4, open_for stream d s) ∷ []) ≡ number x
-Admits stream d s Seen t = Admitted stream d s t
+abbrev pub entering : Bool → Disk → ℕ → List (ℕ × Bool)
+entering stream d s = (1, lengths_right d) ∷ (3, record_sound d) ∷ (4, open_for stream d s) ∷ []
+
+abbrev pub Admits : Bool → Disk → ℕ → Result (Unit {0}) Refusal → Tables → Type 0
+Admits stream d s r t = RefusedOr (entering stream d s) (λ done. Admitted stream d s t) r

@@ -1,5 +1,5 @@
 -- What a flush asks for and promises, entry by entry: its functions do the stores of one entry, of the queue's head, and of the queue.
-use Rattle.std.specs.Prelude.{◌≡◌, true, List, [], ◌∷◌, ℕ, ◌+◌, ◌-◌, ◌≤◌, ◌<◌, length, drop}
+use Rattle.std.specs.Prelude.{◌≡◌, true, List, [], ◌∷◌, ℕ, ◌+◌, ◌-◌, ◌≤◌, ◌<◌, length, drop, Ok}
 use Rattle.std.proofs.Math.Option.{some}
 use Rattle.card_log.specs.declared.place.Place.{Place}
 use Rattle.card_log.specs.Entry.{Entry}
@@ -9,7 +9,7 @@ use Rattle.card_log.specs.Flush.{Flow, full, spent, flush_from}
 use Rattle.card_log.specs.promises.Within.{Within}
 use Rattle.card_log.specs.Turns.{AllInTurn}
 use Rattle.disk.specs.Record.{Record}
-use Rattle.answers.specs.declared.FlushReply.{FlushReply}
+use Rattle.answers.specs.declared.Flushed.{Flushed}
 use Rattle.disk.specs.Disk.{disk, queued_at}
 use Rattle.disk.specs.Sound.{lengths_right, record_sound}
 use Rattle.disk.specs.Call.{flush}
@@ -63,5 +63,5 @@ pub record Flushable (c q : List ℕ) (r : Record) (p : Place) : Type 0 where
   pub sound : record_sound (disk c q journal_data r) ≡ true
 
 -- such a flush with allowance a leaves card and record, and answers x
-abbrev pub Flushes : ℕ → List ℕ → List ℕ → Record → List ℕ → Record → FlushReply → Type 0
-Flushes a c q r c' r' x = (j : List ℕ) → accepted (flush a) (disk c q j r) ≡ record { disk = disk c' q j r'; answer = flush_answer x; lent = [] }
+abbrev pub Flushes : ℕ → List ℕ → List ℕ → Record → List ℕ → Record → Flushed → Type 0
+Flushes a c q r c' r' x = (j : List ℕ) → accepted (flush a) (disk c q j r) ≡ record { disk = disk c' q j r'; answer = flush_answer (Ok x); lent = [] }

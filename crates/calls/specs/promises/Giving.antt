@@ -1,5 +1,5 @@
 -- The numbers that NewList and NewBlock give, and the record with what they add: of the record alone and of the lists that tables show.
-use Rattle.std.specs.Prelude.{◌≡◌, Bool, ◌&&◌, ◌||◌, not, cond, List, [], ◌∷◌, ◌++◌, ℕ, leb, eqb}
+use Rattle.std.specs.Prelude.{◌≡◌, Bool, ◌&&◌, ◌||◌, not, cond, List, [], ◌∷◌, ◌++◌, ℕ, leb, eqb, Result, Ok, Err}
 use Rattle.std.proofs.Math.Option.{Option, some}
 use Rattle.lists.specs.Basic.{is_some, or_else}
 use Rattle.lists.specs.InUse.{list_number}
@@ -8,8 +8,7 @@ use Rattle.card_log.specs.declared.entry.LogEntry.{LogEntry}
 use Rattle.card_log.specs.declared.entry.LogEntry.TheVariants.{Take, PutFirst, PutAfter}
 use Rattle.card_log.specs.Entry.{is_list}
 use Rattle.disk.specs.Record.{Record, listed_in, holding}
-use Rattle.answers.specs.declared.NumberReply.{NumberReply}
-use Rattle.answers.specs.declared.NumberReply.TheVariants.{Number, Refused}
+use Rattle.answers.specs.declared.Refusal.{Refusal}
 use Rattle.disk.specs.Disk.{Disk}
 use Rattle.disk.specs.Questions.{first_free, first_no}
 use Rattle.answers.specs.Answers.{number}
@@ -30,9 +29,9 @@ held_by s n r = cond (eqb s 0) r (holding n s r)
 abbrev pub taken_list : ℕ → ℕ → Record → Record
 taken_list s l r = unlisted (list_number l) (held_by s (list_number l) (added s (Take l) r))
 
-abbrev pub Takes : ℕ → Record → NumberReply → Record → Type 0
-Takes s r (Refused x) r' = (r' ≡ r) × ((d : Disk) → d.rec ≡ r → first_no ((10, is_some (free_list_in r)) ∷ rooms d s) ≡ number x)
-Takes s r (Number l) r' = (r' ≡ taken_list s l r) × (free_list_in r ≡ some l) × ((d : Disk) → d.rec ≡ r → first_no (rooms d s) ≡ 0)
+abbrev pub Takes : ℕ → Record → Result ℕ Refusal → Record → Type 0
+Takes s r (Err x) r' = (r' ≡ r) × ((d : Disk) → d.rec ≡ r → first_no ((10, is_some (free_list_in r)) ∷ rooms d s) ≡ number x)
+Takes s r (Ok l) r' = (r' ≡ taken_list s l r) × (free_list_in r ≡ some l) × ((d : Disk) → d.rec ≡ r → first_no (rooms d s) ≡ 0)
 
 -- NewBlock: block b put on list l behind block p, first if p is 0, and held by unit s
 abbrev pub put_entry : ℕ → ℕ → ℕ → LogEntry
@@ -42,9 +41,9 @@ unfoldable pub put_block : ℕ → ℕ → ℕ → ℕ → Record → Record
 put_block s l p b r = unlisted b (held_by s b (added s (put_entry b l p) r))
 
 -- after questions qs
-abbrev pub Gives : List (ℕ × Bool) → ℕ → ℕ → ℕ → ℕ → Record → NumberReply → Record → Type 0
-Gives qs s l p b r (Refused x) r' = (r' ≡ r) × ((d : Disk) → d.rec ≡ r → first_no (qs ++ rooms d s) ≡ number x)
-Gives qs s l p b r (Number n) r' = (n ≡ b) × (r' ≡ put_block s l p b r) × ((d : Disk) → d.rec ≡ r → first_no (qs ++ rooms d s) ≡ 0)
+abbrev pub Gives : List (ℕ × Bool) → ℕ → ℕ → ℕ → ℕ → Record → Result ℕ Refusal → Record → Type 0
+Gives qs s l p b r (Err x) r' = (r' ≡ r) × ((d : Disk) → d.rec ≡ r → first_no (qs ++ rooms d s) ≡ number x)
+Gives qs s l p b r (Ok n) r' = (n ≡ b) × (r' ≡ put_block s l p b r) × ((d : Disk) → d.rec ≡ r → first_no (qs ++ rooms d s) ≡ 0)
 
 -- 7, 9 and 10, where 0 is no block
 abbrev pub put_questions : {D : Type 0} → ℕ → ℕ → ℕ → List (Row D) → List (ℕ × Bool)
@@ -54,5 +53,5 @@ abbrev pub ranged_put_questions : {D : Type 0} → ℕ → ℕ → ℕ → List 
 ranged_put_questions l p b rs = (5, is_list l && leb p 64) ∷ put_questions l p b rs
 
 -- the number given is the first free one; rs are the lists of the stream's view
-abbrev pub PutsFree : {D : Type 0} → ℕ → ℕ → ℕ → List (Row D) → Record → NumberReply → Record → Type 0
+abbrev pub PutsFree : {D : Type 0} → ℕ → ℕ → ℕ → List (Row D) → Record → Result ℕ Refusal → Record → Type 0
 PutsFree s l p rs r a r' = let b = or_else 0 (free_block_in r) in Gives (ranged_put_questions l p b rs) s l p b r a r'

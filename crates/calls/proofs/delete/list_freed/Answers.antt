@@ -52,16 +52,15 @@ freed-order e c t a t' n r r' d l w f x y h k =
     f g x.lists y.lists x.free (subst (ShowsWith t' y.lists) free left.1) (last-free-shown x.free h l)
     ∙ ap (λ (b : Change ℕ). relisted_by b x.lists r) (d.says g)
 
-pub returns-then-s-ne0 : goal.returns-then-s-ne0
+pub returns-else-s-eq0 : goal.returns-else-s-eq0
 unfolding relisted_on
-returns-then-s-ne0 c = λ b x y i h k. rw (eqb-false _ 0 c.if-s-ne0.true)
+returns-else-s-eq0 c = λ b x y i h k. rw (eqb-false _ 0 c.if-s-eq0.false)
 
-pub returns : goal.returns
+pub returns-then-s-eq0 : goal.returns-then-s-eq0
 unfolding relisted_on
-returns c = λ b x y i h k.
+returns-then-s-eq0 c = λ b x y i h k.
     let a = c.act in
     let l = c.last_free-last in
-    let z : c.args.s ≡ 0 = omega (arith, c.if-s-ne0.false) in
-    rw (eq-true c.args.s 0 z)
+    rw (eq-true c.args.s 0 c.if-s-eq0.true)
     (freed-order c.args.e b (tables_in c.args.nodes.now) a.result (tables_in a.new.nodes) l.result (record_in c.args.rec.now) _ (deletes c.args.e b i c.requires.1)
     l.ensures (rw c.fields_of-f.ensures at a.ensures) c.relist.ensures.0 x y h k)

@@ -1,14 +1,11 @@
 -- The loop's invariant: the stores that are left, done on the card as it is, leave what all of them leave, and are each in turn. Assumes nothing.
-use mathlib.Core.Path.{refl, sym, ◌∙◌}
+use mathlib.Core.Path.{sym, ◌∙◌}
 use native.Mathlib.Omega.{arith}
 use Rattle.card_log.specs.Store.{entry_stores}
 use Rattle.card_log.proofs.LogStores.{going}
 use Rattle.calls.proofs.Storing.{stores-next, stores-done}
 use Rattle.calls.proofs.Turns.{turn-now, turns_next}
 use Rattle.calls.proofs.drain.advance.Goals as goal
-
-pub loop-k-init : goal.loop-k-init
-loop-k-init c = (refl, refl, c.requires.3)
 
 pub store_step-requires : goal.store_step-requires
 store_step-requires c =
@@ -23,23 +20,14 @@ store_step-requires c =
       turn-now c.args.place (going c.args.content.now c.args.member c.args.e) l.card l.k c.args.upto c.loop-k-test.true l.invariant.2,
     )
 
-pub overflow_add-k : goal.overflow_add-k
-overflow_add-k c = omega arith
-
-pub loop-k-smaller : goal.loop-k-smaller
-loop-k-smaller c = omega arith
-
 pub loop-k-preserved : goal.loop-k-preserved
 loop-k-preserved c =
     let l = c.loop-k in
     let ss = entry_stores c.args.place (going c.args.content.now c.args.member c.args.e) in (
-      c.card-1.given ∙ l.invariant.0,
+      omega arith,
       rw c.store_step.ensures (stores-next l.k c.args.upto ss l.card c.loop-k-test.true (omega (arith, c.loop-k-test.true, c.requires.1)) ∙ l.invariant.1),
       rw c.store_step.ensures (turns_next c.args.place (going c.args.content.now c.args.member c.args.e) l.card l.k c.args.upto c.loop-k-test.true l.invariant.2 c.requires.1),
     )
-
-pub shape_of-card : goal.shape_of-card
-shape_of-card c = c.loop-k.invariant.0
 
 pub returns : goal.returns
 returns c =

@@ -13,6 +13,3 @@ invariant-loop-k l =
     (length l.card ≡ length l.initial.card)
     × (let ss = entry_stores l.place (going l.content l.member l.e) in do_stores (several l.k (l.upto - l.k) ss) l.card ≡ do_stores (several l.done (l.upto - l.done) ss) l.initial.card)
     × AllInTurn l.card l.place (going l.content l.member l.e) l.k l.upto
-
-abbrev pub decreases-loop-k : goal.decreases-loop-k
-decreases-loop-k l = l.upto - l.k

@@ -8,12 +8,6 @@ returns-in_default c =
     let a = c.args in
     heads-full a.content.now c.requires.1 a.member a.e a.card.now a.place a.done c.requires.0 c.home_of.result c.home_of.ensures a.allowance c.in_default.is
 
-pub overflow_sub-left : goal.overflow_sub-left
-overflow_sub-left c =
-    let a = c.args in
-    let t = storable a.content.now c.requires.1 a.member a.e a.card.now a.place a.done c.requires.0 c.home_of.result c.home_of.ensures _ c.in-At.is in
-    omega (arith, t.left, c.stores_of-stores.ensures c.in-At.home a.member a.content.now c.requires.1)
-
 pub advance-requires : goal.advance-requires
 advance-requires c =
     let a = c.args in

@@ -1,11 +1,7 @@
 -- The invariant: the entries passed are queued in their order (Along). The measure is what is left of the journal. Assumes nothing.
-use Prim.Native.Nat.{◌-◌}
 use Rattle.disk.specs.Record.{record_in}
 use Rattle.calls.proofs.Ending.{Along}
 use Rattle.calls.proofs.end.queue_unit.Given as goal
 
 abbrev pub invariant-loop-k : goal.invariant-loop-k
 invariant-loop-k l = Along l.initial.queue_data l.journal_data l.u (record_in l.initial.rec) l.queue_data (record_in l.rec) l.k
-
-abbrev pub decreases-loop-k : goal.decreases-loop-k
-decreases-loop-k l = l.entries - l.k

@@ -4,12 +4,17 @@ use Prim.Native.Nat.{ℕ}
 use native.Mathlib.Omega.{arith}
 use Rattle.disk.specs.Record.{Record, record_in}
 use Rattle.disk.specs.promises.Listing.{unlisted}
+use Rattle.inspect.proofs.Asking.{exit_is, exit_asked}
 use Rattle.calls.specs.promises.Giving.{held_by}
 use Rattle.calls.proofs.Giving.{free-limit, takes_none, takes-full, takes, padded-given}
 use Rattle.calls.proofs.give.take_list.Goals as goal
 
-pub returns-then-l-eq0 : goal.returns-then-l-eq0
-returns-then-l-eq0 c = takes_none c.args.s _ _ c.first_free-l.ensures c.if-l-eq0.true
+pub returns-in_err-ask : goal.returns-in_err-ask
+returns-in_err-ask c = rw (exit_asked _ _ _ c.from_residual.ensures.1 c.in_err-ask.ensures.0) (takes_none c.args.s _ _ c.first_free-l.ensures c.in_err-ask.ensures.1)
+
+pub returns-in_err-add : goal.returns-in_err-add
+returns-in_err-add c =
+    rw (exit_is _ _ c.from_residual-in_err-add.ensures.1) (takes-full c.args.s (record_in c.args.rec.now) _ c.first_free-l.ensures c.in_ok-ask.ensures _ (record_in c.add.new.rec) c.in_err-add.ensures)
 
 pub list_number-n-requires : goal.list_number-n-requires
 list_number-n-requires c = free-limit 64 16 _ _ c.first_free-l.ensures
@@ -21,20 +26,11 @@ held-requires c =
     (c.requires.1, omega (arith, n), omega (arith, n))
 
 pub withdraw-requires : goal.withdraw-requires
-withdraw-requires c =
-    let y = c.add in
-    padded-given c.args.s _ _ (record_in c.args.rec.now) (record_in y.new.rec) _ (rw c.in-Accepted.is at y.ensures) c.held.ensures c.requires.0
+withdraw-requires c = padded-given c.args.s _ _ (record_in c.args.rec.now) (record_in c.add.new.rec) _ c.in_ok-add.ensures c.held.ensures c.requires.0
 
-pub returns-in-Refused : goal.returns-in-Refused
-returns-in-Refused c =
-    let y = c.add in
-    takes-full c.args.s (record_in c.args.rec.now) _ c.first_free-l.ensures c.if-l-eq0.false _ (record_in y.new.rec)
-    (rw c.in-Refused.is at y.ensures)
-
-pub returns-in-Accepted : goal.returns-in-Accepted
-returns-in-Accepted c =
-    let y = c.add in
+pub returns : goal.returns
+returns c =
     let s = c.args.s in
-    takes s (record_in c.args.rec.now) _ c.first_free-l.ensures c.if-l-eq0.false (record_in y.new.rec) _
-    (rw c.in-Accepted.is at y.ensures)
-    (c.withdraw.ensures ∙ ap (λ (r : Record). unlisted c.list_number-n.result r) c.held.ensures ∙ ap (λ (n : ℕ). unlisted n (held_by s n (record_in y.new.rec))) c.list_number-n.ensures)
+    rw c.from.ensures
+    (takes s (record_in c.args.rec.now) _ c.first_free-l.ensures c.in_ok-ask.ensures (record_in c.add.new.rec) _ c.in_ok-add.ensures
+    (c.withdraw.ensures ∙ ap (λ (r : Record). unlisted c.list_number-n.result r) c.held.ensures ∙ ap (λ (n : ℕ). unlisted n (held_by s n (record_in c.add.new.rec))) c.list_number-n.ensures))

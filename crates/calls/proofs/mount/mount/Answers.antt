@@ -5,13 +5,13 @@ use mathlib.Core.List.{[]}
 use Prim.Native.Nat.{ℕ}
 use lib.Dec.{eqb}
 use lib.ListN.{length}
-use borrow.Author.Tests.{not-true, not-false}
 use Rattle.lists.specs.Basic.{is_some}
 use Rattle.card_log.specs.Reader.{Reader}
 use Rattle.card_log.specs.Card.{Written, card_length, sound, fault, mounted}
 use Rattle.card_log.proofs.Mounting.{mounted-shown}
 use Rattle.answers.specs.declared.Refusal.TheVariants.{WrongLength}
-use Rattle.answers.specs.declared.MountReply.TheVariants.{Accepted, Fault, Refused}
+use Rattle.answers.specs.declared.MountRefusal.TheVariants.{Fault, Refused}
+use Rattle.std.specs.Prelude.{Ok, Err}
 use Rattle.disk.specs.Record.{fresh_record}
 use Rattle.disk.specs.Disk.{Disk, with_record, reader_of, state_of, persistent}
 use Rattle.disk.specs.Sound.{lengths_right}
@@ -21,22 +21,23 @@ use Rattle.disk.specs.Perform.{accepted, refused, fault_at, refusal_answer}
 use Rattle.answers.specs.Answers.{number, mount_answer}
 use Rattle.disk.proofs.Performing.{perform-accepted, perform-refused}
 use Rattle.inspect.proofs.Judging.{and-behind}
+use Rattle.inspect.proofs.Asking.{exit_is}
 use Rattle.calls.specs.Performs.{Performs}
 use Rattle.calls.proofs.mount.mount.Goals as goal
 
 abbrev DataRight : Disk → Bool
 DataRight d = eqb (length d.queue_data) 8192 && eqb (length d.journal_data) 15360
 
-mount-refused : (d : Disk) → lengths_right d ≡ false → Performs mount d d (mount_answer (Refused WrongLength)) []
+mount-refused : (d : Disk) → lengths_right d ≡ false → Performs mount d d (mount_answer (Err (Refused WrongLength))) []
 unfolding refusal questions first_no ask refused ends refusal_answer destination mount_answer number
 mount-refused d h = perform-refused mount d 0 (rw h)
 
-mount-fault : (d : Disk) (g i : ℕ) → lengths_right d ≡ true → mounted d.card ≡ fault g i → Performs mount d d (mount_answer (Fault g i)) []
+mount-fault : (d : Disk) (g i : ℕ) → lengths_right d ≡ true → mounted d.card ≡ fault g i → Performs mount d d (mount_answer (Err (Fault g i))) []
 unfolding refusal questions first_no ask mountable reader_of is_some refused ends refusal_answer fault_at destination mount_answer
 mount-fault d g i h m = perform-refused mount d 1 (rw (h, m)) ∙ rw m
 
 mount-accepted : (d : Disk) (r : Reader Written) → lengths_right d ≡ true → mounted d.card ≡ sound r
-    → Performs mount d (with_record d (fresh_record r.state.free)) (mount_answer Accepted) []
+    → Performs mount d (with_record d (fresh_record r.state.free)) (mount_answer (Ok tt)) []
 unfolding refusal questions first_no ask mountable reader_of is_some persistent state_of accepted mount_answer
 mount-accepted d r h m = perform-accepted mount d (rw (h, m)) ∙ rw m
 
@@ -53,23 +54,21 @@ lengths-all : (d : Disk) → DataRight d ≡ true → card_length d.card ≡ tru
 unfolding lengths_right
 lengths-all d h k = and-behind (card_length d.card) (eqb (length d.queue_data) 8192) (eqb (length d.journal_data) 15360) ∙ rw k h
 
-pub returns-then-not-data_right : goal.returns-then-not-data_right
-returns-then-not-data_right c = mount-refused _ (lengths-data _ (sym c.data_right.ensures ∙ not-true c.data_right.result c.if-not-data_right.true-raw))
+pub returns-in_err-ask : goal.returns-in_err-ask
+returns-in_err-ask c = rw (exit_is _ _ c.from_residual.ensures.1, c.in_err-ask.ensures.0) (mount-refused _ (lengths-data _ (sym c.data_right.ensures ∙ c.in_err-ask.ensures.1)))
 
 pub returns-in-WrongLength : goal.returns-in-WrongLength
 returns-in-WrongLength c = mount-refused _ (lengths-card _ (rw c.in-WrongLength.is at c.mount_on.ensures))
 
 pub returns-in-Fault : goal.returns-in-Fault
 returns-in-Fault c =
-    let l = c.data_right in
     let w = rw c.in-Fault.is at c.mount_on.ensures in
-    mount-fault _ _ _ (lengths-all _ (sym l.ensures ∙ not-false l.result c.if-not-data_right.false-raw) w.0) w.1
+    mount-fault _ _ _ (lengths-all _ (sym c.data_right.ensures ∙ c.in_ok-ask.ensures) w.0) w.1
 
 pub returns-in-Sound : goal.returns-in-Sound
 returns-in-Sound c =
-    let l = c.data_right in
     let w = rw c.in-Sound.is at c.mount_on.ensures in
     let r = w.accepts.reader in
     let (rs, s) = mounted-shown _ _ _ r w w.accepts.walked in
     rw (c.renew_from.ensures rs r.state.free s)
-    (mount-accepted _ r (lengths-all _ (sym l.ensures ∙ not-false l.result c.if-not-data_right.false-raw) w.accepts.right) w.accepts.walked)
+    (mount-accepted _ r (lengths-all _ (sym c.data_right.ensures ∙ c.in_ok-ask.ensures) w.accepts.right) w.accepts.walked)

@@ -3,50 +3,38 @@ use Rattle.disk.specs.Record.{record_in}
 use Rattle.disk.specs.Disk.{disk_in}
 use Rattle.disk.specs.Call.{write_block}
 use Rattle.answers.specs.Answers.{reply_answer}
-use Rattle.calls.proofs.Refusing.{edit-unseen, seen-ranges}
-use Rattle.calls.proofs.Writing.{write-decides, write-refused, write-accepted, write-ranges, write-fits}
+use Rattle.inspect.proofs.Asking.{exit_is}
+use Rattle.calls.proofs.Refusing.{reply-refused, edit-unseen, seen-ranges}
+use Rattle.calls.proofs.Writing.{write-refused, write-accepted, write-ranges, write-fits}
 use Rattle.calls.proofs.write.write.Goals as goal
 
-pub returns-in-Refused : goal.returns-in-Refused
-unfolding reply_answer
-returns-in-Refused c =
-    let a = c.args in
-    edit-unseen (disk_in a.card.now a.queue_data.now a.journal_data.now a.rec.now) a.stream (write_block a.block a.race a.content.now) _ (rw c.in-Refused.is at c.look_stream.ensures)
+pub returns-in_err-look_stream : goal.returns-in_err-look_stream
+returns-in_err-look_stream c =
+    edit-unseen reply_answer reply-refused _ _ (write_block c.args.block c.args.race c.args.content.now) _ _ c.from_residual.ensures.1 c.in_err-look_stream.ensures
 
 pub place_next-at-requires : goal.place_next-at-requires
 place_next-at-requires c =
     let a = c.args in
-    write-ranges (disk_in a.card.now a.queue_data.now a.journal_data.now a.rec.now) a.stream _ (rw c.in-Seen.is at c.look_stream.ensures)
+    write-ranges (disk_in a.card.now a.queue_data.now a.journal_data.now a.rec.now) a.stream _ c.in_ok-look_stream.ensures
 
-pub write_placed-reply-requires : goal.write_placed-reply-requires
-write_placed-reply-requires c = seen-ranges (rw c.in-Seen.is at c.look_stream.ensures)
+pub write_placed-requires : goal.write_placed-requires
+write_placed-requires c = seen-ranges c.in_ok-look_stream.ensures
+
+pub returns-in_err-write_placed : goal.returns-in_err-write_placed
+returns-in_err-write_placed c =
+    let a = c.args in
+    let d = disk_in a.card.now a.queue_data.now a.journal_data.now a.rec.now in
+    rw (exit_is _ _ c.from_residual-in_err-write_placed.ensures.1)
+    (write-refused d a.stream a.block a.race a.content.now (record_in c.write_placed.new.rec) _ c.in_ok-look_stream.ensures _ c.in_err-write_placed.ensures)
 
 pub copy_content-requires : goal.copy_content-requires
 copy_content-requires c =
     let a = c.args in
-    let w = c.write_placed-reply in
-    let r = record_in w.new.rec in
     let d = disk_in a.card.now a.queue_data.now a.journal_data.now a.rec.now in
-    let z = rw c.in-Seen.is at c.look_stream.ensures in
-    let h = write-decides d a.stream a.block a.race a.content.now w.result r _ z w.ensures in
-    rw c.place_next-at.ensures (write-fits d a.stream a.block a.race a.content.now w.result r _ z c.in-Accepted.is h)
+    rw c.place_next-at.ensures (write-fits d a.stream a.block a.race a.content.now (record_in c.write_placed.new.rec) _ c.in_ok-look_stream.ensures c.in_ok-write_placed.ensures)
 
-pub returns-in-Accepted : goal.returns-in-Accepted
-returns-in-Accepted c =
+pub returns : goal.returns
+returns c =
     let a = c.args in
-    let w = c.write_placed-reply in
-    let r = record_in w.new.rec in
     let d = disk_in a.card.now a.queue_data.now a.journal_data.now a.rec.now in
-    let z = rw c.in-Seen.is at c.look_stream.ensures in
-    let h = write-decides d a.stream a.block a.race a.content.now w.result r _ z w.ensures in
-    write-accepted d a.stream a.block a.race a.content.now w.result r c.in-Accepted.is h _ _ (rw c.place_next-at.ensures at c.copy_content.ensures)
-
-pub returns-in-Refused-reply : goal.returns-in-Refused-reply
-returns-in-Refused-reply c =
-    let a = c.args in
-    let w = c.write_placed-reply in
-    let r = record_in w.new.rec in
-    let d = disk_in a.card.now a.queue_data.now a.journal_data.now a.rec.now in
-    let z = rw c.in-Seen.is at c.look_stream.ensures in
-    let h = write-decides d a.stream a.block a.race a.content.now w.result r _ z w.ensures in
-    write-refused d a.stream a.block a.race a.content.now w.result r _ c.in-Refused-reply.is h
+    write-accepted d a.stream a.block a.race a.content.now (record_in c.write_placed.new.rec) _ c.in_ok-look_stream.ensures c.in_ok-write_placed.ensures _ _ (rw c.place_next-at.ensures at c.copy_content.ensures)
