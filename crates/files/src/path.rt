@@ -33,13 +33,14 @@ pub fn path_text(path: &[u8]) -> io::Result<&str> {
 }
 
 // How many bytes of a path name its folder, the slash among them; 0 where it names none.
-#[tactic(auto, using(crate::proofs::Paths::folder_none, crate::proofs::Paths::folder_at))]
+#[tactic(auto, using(crate::proofs::Paths::folder_none))]
 pub fn folder(path: &[u8]) -> usize
     ensures { result ≡ folder_of path.now }
 {
-    path.iter()
-        .rposition(|byte| *byte == SLASH)
-        .map_or(0, |n| n + 1)
+    match path.iter().rposition(|byte| *byte == SLASH) {
+        Some(n) => n + 1,
+        None => 0,
+    }
 }
 
 // A path in an array of its own. Of one that is too long what has no room is lost, and the system refuses it.

@@ -26,6 +26,7 @@ pub fn look_at(rt: &HostRuntime, path: &[u8]) -> io::Result<Metadata> {
     fs::symlink_metadata(rt, path_text(path)?)
 }
 
+// Of the number, as `specs/Status` has it: std's `is_file` and `permissions` are of types of its own.
 pub fn is_regular(mode: u32) -> bool
     ensures { result ≡ Status·is_regular mode }
 {

@@ -7,7 +7,7 @@ use std::io::ErrorKind;
 use std::os::fd::AsFd;
 use std::{fs, io};
 
-// Up to the end of the input, or of the buffer.
+// Up to the end of the input, or of the buffer. std reads no array so: `read_exact` takes an early end for an error.
 pub fn read_whole<R: io::Read>(from: &mut R, buffer: &mut [u8]) -> io::Result<usize>
     ensures { InBuffer result (length buffer.old) }
 {
