@@ -20,6 +20,8 @@ use Rattle.card_log.specs.Entry.{map_entry, raw, is_list, as_entry}
 use Rattle.card_log.specs.Cell.{cell_of}
 use Rattle.disk.specs.Record.{Record, listed_in, holding}
 use Rattle.std.specs.Prelude.{Result, Ok, Err}
+use Rattle.std.specs.Prelude as P
+use Rattle.std.specs.Option.{ok_or}
 use Rattle.answers.specs.declared.Refusal.{Refusal}
 use Rattle.answers.specs.declared.Refusal.TheVariants.{OutOfRange, ListNotTaken, PredecessorElsewhere, NoNumberFree}
 use Rattle.disk.specs.Disk.{Disk, with_record}
@@ -27,13 +29,13 @@ use Rattle.disk.specs.Call.{new_list, on_stream, destination}
 use Rattle.disk.specs.Questions.{first_free, free_list, edit_questions, questions, first_no, refusal}
 use Rattle.disk.specs.Perform.{accepted, hold, relisted, given as given_out, noted, made, number_given, change_for}
 use Rattle.answers.specs.Answers.{number, number_answer}
-use Rattle.disk.specs.promises.Listing.{Padded, unlisted}
+use Rattle.disk.specs.promises.Listing.{as_option, Padded, unlisted}
 use Rattle.disk.proofs.Questions.{first-free}
 use Rattle.disk.proofs.Listing.{padded-same}
 use Rattle.calls.specs.Performs.{Performs}
 use Rattle.calls.specs.promises.Entering.{Admitted}
 use Rattle.calls.specs.promises.Adds.{added, rooms, Adds}
-use Rattle.calls.specs.promises.Giving.{free_list_in, taken_list, Takes, put_entry, held_by, put_block, Gives, put_questions, ranged_put_questions}
+use Rattle.calls.specs.promises.Giving.{none0, GivenBlock, free_list_in, taken_list, Takes, put_entry, held_by, put_block, Gives, put_questions, ranged_put_questions}
 use Rattle.inspect.proofs.Asking.{ask-yes, ask-no}
 use Rattle.calls.proofs.Refusing.{usual-performs-refused, performs-accepted}
 use Rattle.calls.proofs.Adding.{rooms-yes, change-added, added-padded}
@@ -64,6 +66,31 @@ module _ (m k : ℕ) (ns : List ℕ) where
       go : (o : Option ℕ) → n ≡ or_else 0 o → o ≡ some n
       go none e = absurd (z e)
       go (some x) e = ap some (sym e)
+
+  -- the same in code
+  pub none0-is : (o : P.Option ℕ) → as_option o ≡ first_free m k ns → none0 o ≡ or_else 0 (first_free m k ns)
+  unfolding or_else
+  none0-is P.None h = rw (← h) refl
+  none0-is (P.Some n) h = rw (← h) refl
+
+  pub some_range : (n : ℕ) → as_option (P.Some n) ≡ first_free m k ns → (1 ≤ n) × (n ≤ k)
+  some_range n h = let f = first-free m k n ns (sym h) in (f.0, f.1)
+
+  pub some_nonzero : (n : ℕ) → as_option (P.Some n) ≡ first_free m k ns → not (eqb n 0) ≡ true
+  some_nonzero n h = rw (eqb-false n 0 (λ z. let f = some_range n h in omega arith))
+
+pub given-block : (ns : List ℕ) (o : P.Option ℕ) → as_option o ≡ first_free 0 64 ns → GivenBlock o
+given-block ns P.None h = tt
+given-block ns (P.Some n) h = some_range 0 64 ns n h
+
+-- what `ok_or` answers where there is no free number
+refusal_in : Result ℕ Refusal → Refusal
+refusal_in (Ok n) = NoNumberFree
+refusal_in (Err x) = x
+
+pub none_free : (o : P.Option ℕ) (x : Refusal) → o ≡ P.None → Err x ≡ ok_or o NoNumberFree → x ≡ NoNumberFree
+unfolding refusal_in
+none_free o x n e = ap refusal_in (e ∙ ap (λ (p : P.Option ℕ). ok_or p NoNumberFree) n)
 
 -- A take.
 module _ (s : ℕ) (r : Record) (n : ℕ) (h : n ≡ or_else 0 (free_list_in r)) where

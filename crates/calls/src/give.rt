@@ -3,7 +3,7 @@ ghost use Rattle.std.specs.Prelude.{◌≡◌, [], ◌≤◌, ◌<◌};
 ghost use Rattle.lists.specs.promises.Tables.{tables_in, OfShown, IsList};
 ghost use Rattle.disk.specs.Record.{record_in};
 ghost use Rattle.disk.specs.promises.Listing.{Padded};
-ghost use Rattle.calls.specs.promises.Giving.{Takes, held_by, put_entry, Gives, put_questions, PutsFree};
+ghost use Rattle.calls.specs.promises.Giving.{Takes, none0, GivenBlock, held_by, put_entry, Gives, put_questions, PutsFree};
 
 use crate::add::add;
 use crate::ranges::{follows, is_position};
@@ -29,8 +29,8 @@ pub fn take_list(rec: &mut [u8; RECORD], s: usize) -> NumberReply
     requires { Padded (record_in rec.old) × (s ≤ 4) × ((record_in rec.old).ring.head < 32) }
     ensures { Takes s (record_in rec.old) result (record_in rec.new) }
 {
-    let l = first_free(rec, LogEntry::BLOCKS, LogEntry::LISTS);
-    ask(l != 0, Refusal::NoNumberFree)?;
+    let free = first_free(rec, LogEntry::BLOCKS, LogEntry::LISTS);
+    let l = free.ok_or(Refusal::NoNumberFree)?;
     add(rec, s, LogEntry::Take { list: l })?;
     let n = list_number(l);
     held(rec, s, n);
@@ -64,14 +64,21 @@ fn put_block(rec: &mut [u8; RECORD], s: usize, l: u8, p: u8, b: u8) -> NumberRep
     Ok(usize::from(b))
 }
 
-// 7, 9 and 10 of a block put on list l behind block p, first if p is 0; block b is 0 if none is free.
-fn put_on(nodes: &[u8; 1280], rec: &mut [u8; RECORD], s: usize, l: u8, p: u8, b: u8) -> NumberReply
-    requires { (s ≤ 4) × ((record_in rec.old).ring.head < 32) × IsList l × (p ≤ 64) × (b ≤ 64) × Padded (record_in rec.old) }
-    ensures { OfShown (tables_in nodes.now) (λ rs. Gives (put_questions l p b rs) s l p b (record_in rec.old) result (record_in rec.new)) }
+// 7, 9 and 10 of a block put on list l behind block p, first if p is 0: the free one, if there is one.
+fn put_on(
+    nodes: &[u8; 1280],
+    rec: &mut [u8; RECORD],
+    s: usize,
+    l: u8,
+    p: u8,
+    free: Option<u8>,
+) -> NumberReply
+    requires { (s ≤ 4) × ((record_in rec.old).ring.head < 32) × IsList l × (p ≤ 64) × GivenBlock free × Padded (record_in rec.old) }
+    ensures { OfShown (tables_in nodes.now) (λ rs. Gives (put_questions l p (none0 free) rs) s l p (none0 free) (record_in rec.old) result (record_in rec.new)) }
 {
     ask(is_taken(nodes, l), Refusal::ListNotTaken)?;
     ask(follows(nodes, l, p), Refusal::PredecessorElsewhere)?;
-    ask(b != 0, Refusal::NoNumberFree)?;
+    let b = free.ok_or(Refusal::NoNumberFree)?;
     put_block(rec, s, l, p, b)
 }
 
@@ -87,6 +94,6 @@ pub fn put_free(
     ensures { OfShown (tables_in nodes.now) (λ rs. PutsFree s l p rs (record_in rec.old) result (record_in rec.new)) }
 {
     ask(is_position(l, p), Refusal::OutOfRange)?;
-    let b = first_free(rec, 0, LogEntry::BLOCKS);
-    put_on(nodes, rec, s, l as u8, p as u8, b)
+    let free = first_free(rec, 0, LogEntry::BLOCKS);
+    put_on(nodes, rec, s, l as u8, p as u8, free)
 }

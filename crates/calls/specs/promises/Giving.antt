@@ -1,6 +1,7 @@
 -- The numbers that NewList and NewBlock give, and the record with what they add: of the record alone and of the lists that tables show.
-use Rattle.std.specs.Prelude.{◌≡◌, Bool, ◌&&◌, ◌||◌, not, cond, List, [], ◌∷◌, ◌++◌, ℕ, leb, eqb, Result, Ok, Err}
+use Rattle.std.specs.Prelude.{◌≡◌, ◌≤◌, Bool, ◌&&◌, ◌||◌, not, cond, List, [], ◌∷◌, ◌++◌, ℕ, leb, eqb, Result, Ok, Err}
 use Rattle.std.proofs.Math.Option.{Option, some}
+use Rattle.std.specs.Prelude as P
 use Rattle.lists.specs.Basic.{is_some, or_else}
 use Rattle.lists.specs.InUse.{list_number}
 use Rattle.lists.specs.State.{Row, taken, on_list}
@@ -20,6 +21,16 @@ free_list_in r = first_free 64 16 (listed_in r)
 
 abbrev pub free_block_in : Record → Option ℕ
 free_block_in r = first_free 0 64 (listed_in r)
+
+-- a free number as the questions have it, 0 for none
+abbrev pub none0 : P.Option ℕ → ℕ
+none0 P.None = 0
+none0 (P.Some n) = n
+
+-- a block, if there is one
+abbrev pub GivenBlock : P.Option ℕ → Type 0
+GivenBlock P.None = Unit {0}
+GivenBlock (P.Some n) = (1 ≤ n) × (n ≤ 64)
 
 -- number n held by unit s, by none on stream 0
 abbrev pub held_by : ℕ → ℕ → Record → Record
