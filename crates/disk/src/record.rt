@@ -13,7 +13,7 @@
 //     493   the free numbers, blocks and lists, in the order of their freeing: a byte for each
 #![tactic(auto, using(crate::proofs::Bytes::reads), unfolding(crate::specs::Record::record_in, crate::specs::Record::unit_in, crate::specs::Record::listed_in))]
 
-ghost use Rattle.std.specs.Prelude.{◌≡◌, ◌<◌, ◌≤◌, get_or};
+ghost use Rattle.std.specs.Prelude.{◌≡◌, ◌<◌, ◌≤◌, get_or, length};
 ghost use Rattle.lists.specs.InUse.{list_number};
 ghost use Rattle.card_log.specs.Cell.{member_in, entry_in};
 ghost use Rattle.disk.specs.Record.{record_in, no_cell, unit_at, is_open, holder_of, count_of, listed_in, blank_record};
@@ -131,7 +131,8 @@ pub fn listed_at(rec: &[u8; RECORD], at: usize) -> u8
 
 // The places of their order, and those that are listed.
 pub fn order(rec: &[u8; RECORD]) -> &[u8]
-    ensures { result.now ≡ (record_in rec.now).tally.order }
+    ensures places { result.now ≡ (record_in rec.now).tally.order }
+    ensures many { length result.now ≡ 80 }
 {
     &rec[ORDER..ORDER + NUMBERS]
 }

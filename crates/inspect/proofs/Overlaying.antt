@@ -1,6 +1,5 @@
 -- A journal's changes laid over a state, one by one: what is left of it leads from the state that the tables show to where the whole led.
 use mathlib.Core.Path.{◌≡◌, refl, sym, ap, ◌∙◌}
-use mathlib.Core.Logic.{◌⊎◌, inl, inr}
 use mathlib.Core.Bool.{Bool, true, false, ◌&&◌, false≢true}
 use mathlib.Core.Bool as bool
 use mathlib.Core.Option.{Option, none, some}
@@ -11,7 +10,7 @@ use lib.ListN.{get_or}
 use Rattle.lists.specs.Basic.{is_some, or_else, bind, all, from}
 use Rattle.lists.specs.Change.{Change, map_change}
 use Rattle.lists.specs.State.{State, apply, apply_all, overlay}
-use Rattle.lists.specs.promises.Tables.{Tables, ShowsAll, Ranged, Represents, Did, DidSome, of_kind}
+use Rattle.lists.specs.promises.Tables.{Tables, ShowsAll, Ranged, Represents, Did, of_kind}
 use Rattle.lists.proofs.Basic.{and-true, leb-true, from_step, from-none, all_from}
 use Rattle.lists.proofs.Represents.{did-apply, did-overlay}
 use Rattle.card_log.specs.Entry.{member, map_entry, raw, legal, legal_change, is_block, is_list, is_race, as_change}
@@ -25,6 +24,7 @@ use Rattle.disk.specs.Record.{Unit, no_cell}
 use Rattle.disk.specs.Disk.{journal_place}
 use Rattle.inspect.specs.promises.Located.{change_here, journal_here}
 use Rattle.inspect.specs.promises.Clauses.{Overlays, change_in}
+use Rattle.inspect.proofs.Judging.{and-behind}
 
 block-range : (b : ℕ) → is_block b ≡ true → (1 ≤ b) × (b ≤ 64)
 block-range b h = let (p, q) = and-true _ _ h in (leb-true 1 b p, leb-true b 64 q)
@@ -58,9 +58,11 @@ member-race (DeleteBlock b) h = omega arith
 member-race (DeleteList l) h = omega arith
 member-race (Commit k) h = omega arith
 
-pub journal-race : (x : Unit) → all (λ c. legal (raw 0 (member c))) (from (change_in x) 0 x.len) ≡ true → (k : ℕ) → k < x.len
-    → (fields_of (entry_in (get_or x.journal k no_cell))).race ≤ 24
-journal-race x h k l = member-race (entry_in (get_or x.journal k no_cell)) (all_from _ (change_in x) 0 x.len h k (omega arith) (omega arith))
+-- entry k of unit u's journal
+pub change-here : (x : Unit) (u k : ℕ) (e : LogEntry) (d : ℕ) → e ≡ entry_in (get_or x.journal k no_cell) → d ≡ journal_location (journal_place u k)
+    → map_change (number_at d) (as_change e) ≡ change_here x u k
+unfolding change_here
+change-here x u k e d p q = rw (p, q)
 
 -- a change made or skipped, and the changes behind it
 turn : (c : Change ℕ) (cs : List (Change ℕ)) (v : State ℕ) (r : Bool) (u : Tables) → Represents (apply c v) r u
@@ -87,32 +89,22 @@ pub laid_none : (x : Unit) (u : ℕ) (s : State ℕ) (t : Tables) → ShowsAll t
 unfolding journal_here
 laid_none x u s t h = let e : x.len - 0 ≡ x.len = omega arith in record { now = s; shows = h; leads = rw e; applies = rw e }
 
--- what a change that was made or not says of those tried so far
-abbrev pub Still : Bool → Bool → Bool → Type 0
-Still every r every' = ((r ≡ false) × (every' ≡ false)) ⊎ ((r ≡ true) × (every' ≡ every))
-
-still-all : (every r every' b : Bool) → Still every r every' → every' && b ≡ every && (r && b)
-still-all true r every' b (inl h) = rw (h.0, h.1)
-still-all false r every' b (inl h) = rw h.1
-still-all true r every' b (inr h) = rw (h.0, h.1)
-still-all false r every' b (inr h) = rw h.1
-
 module _ (x : Unit) (u : ℕ) (s : State ℕ) (lawful : all (λ c. legal (raw 0 (member c))) (from (change_in x) 0 x.len) ≡ true) where
-  pub laid-turn : (every r every' : Bool) (k n : ℕ) (t t' : Tables) → k < x.len
-      → n ≡ journal_location (journal_place u k) + 2048 * (fields_of (entry_in (get_or x.journal k no_cell))).race → Still every r every'
-      → DidSome (fields_change (entry_in (get_or x.journal k no_cell)) n) t r t' → Laid x u s every k t → Laid x u s every' (k + 1) t'
+  lawful-at : (k : ℕ) → k < x.len → legal (raw 0 (member (change_in x k))) ≡ true
+  lawful-at k l = all_from _ (change_in x) 0 x.len lawful k (omega arith) (omega arith)
+
+  pub laid-turn : (every r : Bool) (k : ℕ) (t t' : Tables) → k < x.len → Did (change_here x u k) t r t' → Laid x u s every k t → Laid x u s (every && r) (k + 1) t'
   unfolding overlay change_here
-  laid-turn every r every' k n t t' l e a d h =
+  laid-turn every r k t t' l d h =
       let c = change_here x u k in
-      let (f, g) = member-change (entry_in (get_or x.journal k no_cell)) (journal_location (journal_place u k)) (omega arith) (all_from _ (change_in x) 0 x.len lawful k (omega arith) (omega arith)) in
-      let w : Did c t r t' = rw (e, f) at d in
+      let g = (member-change (entry_in (get_or x.journal k no_cell)) (journal_location (journal_place u k)) (omega arith) (lawful-at k l)).1 in
       let q : rest_of x u k ≡ c ∷ rest_of x u (k + 1) = from_step (change_here x u) k x.len l in
       record {
         now = or_else h.now (apply c h.now);
-        shows = did-overlay c t r t' h.now g h.shows w;
+        shows = did-overlay c t r t' h.now g h.shows d;
         leads = ap (λ (cs : List (Change ℕ)). overlay cs h.now) (sym q) ∙ h.leads;
-        applies = still-all every r every' _ a
-            ∙ ap (λ (b : Bool). every && b) (turn c (rest_of x u (k + 1)) h.now r t' (did-apply c t r t' h.now g h.shows w))
+        applies = and-behind every r (is_some (apply_all (rest_of x u (k + 1)) (or_else h.now (apply c h.now))))
+            ∙ ap (λ (b : Bool). every && b) (turn c (rest_of x u (k + 1)) h.now r t' (did-apply c t r t' h.now g h.shows d))
             ∙ ap (λ (cs : List (Change ℕ)). every && is_some (apply_all cs h.now)) (sym q)
             ∙ h.applies;
       }

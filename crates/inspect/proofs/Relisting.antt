@@ -4,34 +4,28 @@ use mathlib.Core.Path.{◌≡◌, sym, ap, ◌∙◌, subst}
 use mathlib.Core.Bool.{Bool, true}
 use mathlib.Core.Option.{Option, some, some-injective}
 use mathlib.Core.List.{List, [], ◌∷◌}
-use Prim.Native.Nat.{ℕ, ◌+◌, ◌-◌, ◌*◌, ◌≤◌, ◌<◌}
+use Prim.Native.Nat.{ℕ, ◌+◌, ◌-◌, ◌≤◌, ◌<◌}
 use native.Mathlib.Omega.{arith}
-use lib.ListN.{get_or}
 use Rattle.lists.specs.Change.{Change, map_change}
 use Rattle.lists.specs.State.{State, changed, apply, apply_all}
-use Rattle.lists.specs.promises.Tables.{Tables, ShowsAll, Represents, Did, DidSome, SaysLastFree}
+use Rattle.lists.specs.promises.Tables.{Tables, ShowsAll, Represents, Did, SaysLastFree}
 use Rattle.lists.proofs.Basic.{bind-some, from_step, from-none}
 use Rattle.lists.proofs.Apply.{apply_some}
 use Rattle.lists.proofs.Represents.{did-apply}
 use Rattle.lists.proofs.FreeRow.{last-free-shown}
 use Rattle.card_log.specs.Entry.{member, raw, legal, as_change}
-use Rattle.card_log.specs.Cell.{entry_in}
 use Rattle.card_log.specs.declared.entry.LogEntry.{LogEntry}
-use Rattle.card_log.proofs.Feeding.{fields_change}
-use Rattle.card_log.specs.promises.Location.{number_at, journal_location}
-use Rattle.card_log.specs.promises.Feed.{fields_of}
-use Rattle.disk.specs.Record.{Unit, Record, no_cell}
-use Rattle.disk.specs.Disk.{journal_place}
+use Rattle.card_log.specs.promises.Location.{number_at}
+use Rattle.disk.specs.Record.{Unit, Record}
 use Rattle.disk.specs.promises.Listing.{Reorders, relisted_all, Relists}
 use Rattle.inspect.specs.promises.Located.{change_here, journal_here}
 use Rattle.inspect.specs.promises.Relisting.{RelistsChange, RelistsJournal}
 use Rattle.inspect.proofs.Overlaying.{rest_of, member-change}
 
 -- An entry, its write's bytes at location d, which is not 0; last was the last free number before it.
-pub relists-change : (e : LogEntry) (d n last : ℕ) (t : Tables) (r : Record) (b : Bool) (t' : Tables) (r' : Record) → 1 ≤ d → legal (raw 0 (member (as_change e))) ≡ true
-    → n ≡ d + 2048 * (fields_of e).race → SaysLastFree t last → DidSome (fields_change e n) t b t' → Relists e last t' r r' → Reorders r r'
-    → RelistsChange (map_change (number_at d) (as_change e)) t r r' t'
-relists-change e d n last t r b t' r' low lawful q w a l k = record {
+pub relists-change : (e : LogEntry) (d last : ℕ) (t : Tables) (r : Record) (b : Bool) (t' : Tables) (r' : Record) → 1 ≤ d → legal (raw 0 (member (as_change e))) ≡ true
+    → SaysLastFree t last → Did (map_change (number_at d) (as_change e)) t b t' → Relists e last t' r r' → Reorders r r' → RelistsChange (map_change (number_at d) (as_change e)) t r r' t'
+relists-change e d last t r b t' r' low lawful w did l k = record {
   shows = acted;
   order = λ s v h p. l (number_at d) s.lists _ s.free (subst (ShowsAll t') (apply_some change s v p).1 (acted s v h p)) (last-free-shown s.free h w);
   keeps = k;
@@ -40,17 +34,8 @@ relists-change e d n last t r b t' r' low lawful q w a l k = record {
     change : Change ℕ
     change = map_change (number_at d) (as_change e)
 
-    did : Did change t b t'
-    did = rw (q, (member-change e d low lawful).0) at a
-
     acted : (s v : State ℕ) → ShowsAll t s → apply change s ≡ some v → ShowsAll t' v
     acted s v h p = (subst (λ (o : Option (State ℕ)). Represents o b t') p (did-apply change t b t' s (member-change e d low lawful).1 h did)).1
-
--- entry k of unit u's journal
-pub change-here : (x : Unit) (u k : ℕ) (e : LogEntry) (d : ℕ) → e ≡ entry_in (get_or x.journal k no_cell) → d ≡ journal_location (journal_place u k)
-    → map_change (number_at d) (as_change e) ≡ change_here x u k
-unfolding change_here
-change-here x u k e d p q = rw (p, q)
 
 -- the tables show a state, from which the changes from number k on lead to v, and from r' to where all of them lead from r
 pub record Relisted (x : Unit) (u : ℕ) (s v : State ℕ) (r : Record) (k : ℕ) (t : Tables) (r' : Record) : Type 0 where

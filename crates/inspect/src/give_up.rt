@@ -10,16 +10,13 @@ use disk::free::{is_listed, push};
 use disk::record::{NUMBERS, RECORD, holder_of};
 
 // One number.
+#[tactic(auto, using(crate::proofs::Yielding::giving), unfolding(crate::specs::promises::Relisting::is_given_up))]
 fn give_up_number(nodes: &[u8; 1280], rec: &mut [u8; RECORD], u: u8, number: u8)
     requires { Padded (record_in rec.old) × (1 ≤ number) × (number ≤ 80) }
     ensures { GivesUpNumber u number (tables_in nodes.now) (record_in rec.old) (record_in rec.new) × Reorders (record_in rec.old) (record_in rec.new) }
 {
-    if holder_of(rec, number) == u {
-        if !is_used(nodes, number) {
-            if !is_listed(rec, number) {
-                push(rec, number);
-            }
-        }
+    if holder_of(rec, number) == u && !is_used(nodes, number) && !is_listed(rec, number) {
+        push(rec, number);
     }
 }
 
@@ -28,9 +25,7 @@ pub fn give_up(nodes: &[u8; 1280], rec: &mut [u8; RECORD], u: u8)
     requires { Padded (record_in rec.old) }
     ensures { GivesUp u (tables_in nodes.now) (record_in rec.old) (record_in rec.new) × Reorders (record_in rec.old) (record_in rec.new) }
 {
-    let mut i = 0;
-    while i < NUMBERS {
-        give_up_number(nodes, rec, u, (i + 1) as u8);
-        i += 1;
+    for n in 1..=NUMBERS {
+        give_up_number(nodes, rec, u, n as u8);
     }
 }

@@ -7,8 +7,9 @@ ghost use Rattle.lists.specs.promises.Tables.{tables_in, OfShown};
 ghost use Rattle.disk.specs.Record.{record_in};
 ghost use Rattle.disk.specs.Sound.{holder_sound};
 
+use super::units::is_open;
 use card_log::entry::LogEntry;
-use disk::record::{NUMBERS, RECORD, Record, holder_of, opened};
+use disk::record::{NUMBERS, RECORD, holder_of};
 use lists::tables::{is_placed, is_taken};
 
 // Is the block on a list, or, behind the blocks, the list taken?
@@ -22,26 +23,19 @@ pub fn is_used(nodes: &[u8; 1280], number: u8) -> bool
     is_taken(nodes, number - LogEntry::BLOCKS)
 }
 
-// Is each number held by no unit, or by an open one while it is not in use?
+// Is the number held by no unit, or by an open one while it is not in use?
+#[tactic(auto, unfolding(disk::specs::Sound::holder_sound))]
+fn holder_right(rec: &[u8; RECORD], nodes: &[u8; 1280], number: u8) -> bool
+    requires { (1 ≤ number) × (number ≤ 80) }
+    ensures { OfShown (tables_in nodes.now) (λ rs. result ≡ holder_sound (record_in rec.now) rs number) }
+{
+    let u = usize::from(holder_of(rec, number));
+    u == 0 || is_open(rec, u) && !is_used(nodes, number)
+}
+
+// Is every one?
 pub fn holders_right(rec: &[u8; RECORD], nodes: &[u8; 1280]) -> bool
     ensures { OfShown (tables_in nodes.now) (λ rs. result ≡ all (holder_sound (record_in rec.now) rs) all_numbers) }
 {
-    let mut i = 0;
-    while i < NUMBERS {
-        let number = (i + 1) as u8;
-        let h = holder_of(rec, number) as usize;
-        if h != 0 {
-            if Record::UNITS < h {
-                return false;
-            }
-            if !opened(rec, h) {
-                return false;
-            }
-            if is_used(nodes, number) {
-                return false;
-            }
-        }
-        i += 1;
-    }
-    true
+    (1..=NUMBERS).all(|n| holder_right(rec, nodes, n as u8))
 }

@@ -1,47 +1,45 @@
 // The record's counts and numbers.
-ghost use Rattle.std.specs.Prelude.{◌≡◌, cond, eqb};
+ghost use Rattle.std.specs.Prelude.{◌≡◌, eqb};
+ghost use Rattle.lists.specs.Basic.{all};
 ghost use Rattle.lists.specs.Numbers.{is_number};
 ghost use Rattle.disk.specs.Record.{record_in};
 ghost use Rattle.disk.specs.Sound.{order_sound};
 ghost use Rattle.inspect.specs.promises.Clauses.{numbers_right};
 
-use card_log::legal::both;
-use disk::record::{NUMBERS, RECORD, Record, head, len, listed, listed_at};
+use disk::record::{NUMBERS, RECORD, Record, free_numbers, head, len, listed, order};
 
-// May a place of the order hold this: a number if it is one of the listed places, else 0?
-fn place_right(full: bool, number: u8) -> bool
-    ensures { result ≡ cond full (is_number number) (eqb number 0) }
+fn is_number(n: u8) -> bool
+    ensures { result ≡ is_number n }
 {
-    if full {
-        return both(1 <= number, number as usize <= NUMBERS);
-    }
-    number == 0
+    1 <= n && usize::from(n) <= NUMBERS
 }
 
-// Is the order right, place by place? The places behind it are looked at too.
+// Do these places hold numbers, or nothing?
+fn are_numbers(places: &[u8]) -> bool
+    ensures { result ≡ all is_number places.now }
+{
+    places.iter().all(|x| is_number(*x))
+}
+
+fn are_empty(places: &[u8]) -> bool
+    ensures { result ≡ all (λ n. eqb n 0) places.now }
+{
+    places.iter().all(|x| *x == 0)
+}
+
+// Is the order right? The places behind it are looked at too.
+#[tactic(auto, unfolding(disk::specs::Sound::order_sound))]
 fn order_right(rec: &[u8; RECORD]) -> bool
     ensures { result ≡ order_sound (record_in rec.now) }
 {
     let n = listed(rec);
-    if NUMBERS < n {
-        return false;
-    }
-    let mut k = 0;
-    while k < NUMBERS {
-        if !place_right(k < n, listed_at(rec, k)) {
-            return false;
-        }
-        k += 1;
-    }
-    true
+    n <= NUMBERS && are_numbers(free_numbers(rec)) && are_empty(&order(rec)[n..])
 }
 
 // Are they in range?
+#[tactic(auto, unfolding(crate::specs::promises::Clauses::numbers_right, lists::specs::Basic::each))]
 pub fn numbers_right(rec: &[u8; RECORD]) -> bool
     ensures { result ≡ numbers_right (record_in rec.now) }
 {
-    both(
-        both(len(rec) <= Record::QUEUE, head(rec) < Record::QUEUE),
-        order_right(rec),
-    )
+    len(rec) <= Record::QUEUE && head(rec) < Record::QUEUE && order_right(rec)
 }

@@ -21,10 +21,8 @@ pub fn enter_queue(
     ensures { Replays (memory nodes.old members.old) run (record_in rec.now) result (tables_in nodes.new) }
 {
     let first = head(rec);
-    let n = len(rec);
     let mut members_in_run = run;
-    let mut k = 0;
-    while k < n {
+    for k in 0..len(rec) {
         let at = (first + k) % Record::QUEUE;
         let queued = queue_entry(rec, at);
         let e = queued.entry;
@@ -46,7 +44,6 @@ pub fn enter_queue(
                 return false;
             }
         }
-        k += 1;
     }
     true
 }

@@ -1,8 +1,9 @@
 // The units and their journals.
 ghost use Rattle.std.specs.Prelude.{◌≡◌, ◌≤◌};
+ghost use Rattle.lists.specs.Basic.{all, from};
 ghost use Rattle.card_log.specs.Entry.{as_change};
 ghost use Rattle.disk.specs.Record.{record_in, unit_at};
-ghost use Rattle.inspect.specs.promises.Clauses.{change_right, unit_right, units_right};
+ghost use Rattle.inspect.specs.promises.Clauses.{change_right, change_in, unit_right, units_right};
 ghost use Rattle.disk.specs.Sound.{open_unit};
 
 use card_log::entry::LogEntry;
@@ -30,53 +31,37 @@ fn entry_right(rec: &[u8; RECORD], u: u8, e: LogEntry) -> bool
     }
 }
 
+// May each of the first n entries of unit u's journal stand there?
+fn entries_right(rec: &[u8; RECORD], u: usize, n: usize) -> bool
+    requires { (1 ≤ u) × (u ≤ 4) × (n ≤ 15) }
+    ensures { result ≡ all (change_right (record_in rec.now).held.holder u) (from (change_in (unit_at (record_in rec.now) u)) 0 n) }
+{
+    (0..n).all(|k| entry_right(rec, u as u8, journal_entry(rec, u, k)))
+}
+
+#[tactic(auto, unfolding(crate::specs::promises::Clauses::unit_right, lists::specs::Basic::each))]
 fn unit_right(rec: &[u8; RECORD], u: usize) -> bool
     requires { (1 ≤ u) × (u ≤ 4) }
     ensures { result ≡ unit_right (record_in rec.now).held.holder (unit_at (record_in rec.now) u) u }
 {
     let n = journal_len(rec, u);
-    if Unit::JOURNAL < n {
-        return false;
-    }
-    if Record::WINDOWS < window(rec, u) as usize {
-        return false;
-    }
-    if !opened(rec, u) {
-        return n == 0;
-    }
-    let mut k = 0;
-    while k < n {
-        if !entry_right(rec, u as u8, journal_entry(rec, u, k)) {
-            return false;
-        }
-        k += 1;
-    }
-    true
+    n <= Unit::JOURNAL
+        && usize::from(window(rec, u)) <= Record::WINDOWS
+        && (opened(rec, u) || n == 0)
+        && entries_right(rec, u, n)
 }
 
 // Are all four right?
 pub fn units_right(rec: &[u8; RECORD]) -> bool
     ensures { result ≡ units_right (record_in rec.now) }
 {
-    let mut i = 0;
-    while i < Record::UNITS {
-        if !unit_right(rec, i + 1) {
-            return false;
-        }
-        i += 1;
-    }
-    true
+    (1..=Record::UNITS).all(|u| unit_right(rec, u))
 }
 
 // Is unit u open? No other number is a unit.
+#[tactic(auto, using(crate::proofs::Judging::opens), unfolding(disk::specs::Sound::open_unit))]
 pub fn is_open(rec: &[u8; RECORD], u: usize) -> bool
     ensures { result ≡ open_unit (record_in rec.now) u }
 {
-    if u < 1 {
-        return false;
-    }
-    if Record::UNITS < u {
-        return false;
-    }
-    opened(rec, u)
+    1 <= u && u <= Record::UNITS && opened(rec, u)
 }

@@ -1,36 +1,37 @@
 -- The invariant: the table has how often each byte is among the places passed (Counted). None is among more than 80. Assumes nothing.
-use mathlib.Core.Path.{◌≡◌}
-use Prim.Native.Nat.{◌<◌}
-use native.Mathlib.Omega.{arith}
-use Rattle.disk.specs.Record.{record_in, listed_in}
-use Rattle.inspect.proofs.Ordering.{counted_none, counted-few, counted_next}
+use Rattle.std.proofs.Common.{◌∙◌, ◌<◌, ap, length, rules, arith}
+use Rattle.std.proofs.lemmas.List.{take_all}
+use Rattle.lists.specs.Basic.{times}
+use Rattle.disk.specs.Record.{record_in}
 use Rattle.disk.proofs.Bytes.{order-length}
-use borrow.Author.Rules.{rules}
+use Rattle.disk.proofs.Listing.{listed-length}
+use Rattle.inspect.proofs.Ordering.{counted_none, counted-few, counted_next}
 use Rattle.inspect.proofs.listed.count_listed.Goals as goal
 
-pub loop-k-init : goal.loop-k-init
-loop-k-init c = (omega arith, counted_none _ _ c.requires.1)
-
-pub listed_at-number-requires : goal.listed_at-number-requires
-listed_at-number-requires c = omega (arith, c.listed-n.ensures, c.requires.0)
+pub loop-x-init : goal.loop-x-init
+loop-x-init c = counted_none _ _ c.requires.1
 
 pub overflow_add-seen : goal.overflow_add-seen
 overflow_add-seen c =
-    let l = c.loop-k in
-    let n = c.listed_at-number.result in
-    let bs = c.args.rec.now in
-    let b : n < 256 = search rules in
-    omega (arith, counted-few (record_in bs).tally.order l.k l.seen l.invariant.1 (omega (arith, order-length bs)) n b)
+    let l = c.loop-x in
+    let r = record_in c.args.rec.now in
+    let xs = c.free_numbers-x-items in
+    let byte : c.from-number.result < 256 = search rules in
+    omega (
+      arith,
+      counted-few xs.result.now l.x-index l.seen l.invariant (omega (arith, c.loop-x-test.true)) c.from-number.result byte,
+      ap length xs.ensures,
+      listed-length r (order-length c.args.rec.now) c.requires.0,
+    )
 
-pub loop-k-preserved : goal.loop-k-preserved
-loop-k-preserved c =
-    let l = c.loop-k in
-    let bs = c.args.rec.now in
-    (omega arith, counted_next (record_in bs).tally.order l.k l.seen l.invariant.1 c.listed_at-number.result c.listed_at-number.ensures (omega (arith, order-length bs)))
+pub loop-x-preserved : goal.loop-x-preserved
+loop-x-preserved c =
+    let l = c.loop-x in
+    let ys = c.free_numbers-x-items in
+    counted_next ys.result.now l.x-index l.seen l.invariant c.from-number.result c.from-number.ensures c.loop-x-test.true
 
 pub returns : goal.returns
-unfolding listed_in
-returns c =
-    let l = c.loop-k in
-    let e : l.k ≡ c.listed-n.result = omega arith in
-    rw (← c.listed-n.ensures, ← e) l.invariant.1.count
+returns c = λ n b.
+    let l = c.loop-x in
+    let zs = c.free_numbers-x-items in
+    l.invariant.count n b ∙ ap (times n) (take_all l.x-index zs.result.now (omega (arith, c.loop-x-test.false)) ∙ zs.ensures)

@@ -1,11 +1,6 @@
--- The invariant: the table has how often each byte is among the places passed (Counted). None is among more than 80. Assumes nothing.
-use Prim.Native.Nat.{◌-◌, ◌≤◌}
-use Rattle.disk.specs.Record.{record_in}
+-- The invariant: the table has how often each byte is among the places passed (Counted). Assumes nothing.
 use Rattle.inspect.proofs.Ordering.{Counted}
 use Rattle.inspect.proofs.listed.count_listed.Given as goal
 
-abbrev pub invariant-loop-k : goal.invariant-loop-k
-invariant-loop-k l = (l.k ≤ l.n) × Counted (record_in l.rec).tally.order l.k l.seen
-
-abbrev pub decreases-loop-k : goal.decreases-loop-k
-decreases-loop-k l = l.n - l.k
+abbrev pub invariant-loop-x : goal.invariant-loop-x
+invariant-loop-x l = Counted l.x-items l.x-index l.seen

@@ -1,26 +1,15 @@
--- The invariant: the units before i + 1 are right. Assumes nothing.
-use mathlib.Core.Path.{refl, sym, ◌∙◌}
-use Prim.Native.Nat.{◌+◌}
-use native.Mathlib.Omega.{arith}
-use borrow.Author.Tests.{not-true, not-false}
+-- Unit by unit. Assumes nothing.
+use Rattle.std.proofs.Common.{◌∙◌, refl, rules, tests, arith}
+use Rattle.std.proofs.lemmas.Iterator.Search.{all_from_yields_List}
 use Rattle.disk.specs.Record.{record_in}
-use Rattle.inspect.proofs.Judging.{left-fails, left-passes, left-ends, unit_good, units-all}
+use Rattle.inspect.specs.promises.Clauses.{units_right}
+use Rattle.inspect.proofs.Judging.{all-range, unit_good}
+use Rattle.inspect.proofs.Spans.{YieldsList-from_span}
 use Rattle.inspect.proofs.units.units_right.Goals as goal
 
-pub loop-i-init : goal.loop-i-init
-loop-i-init c = (omega arith, refl)
-
-pub returns-then-not-unit_right : goal.returns-then-not-unit_right
-returns-then-not-unit_right c =
-    let r = record_in c.args.rec.now in
-    left-fails (unit_good r) (λ k. k + 1) 4 c.loop-i.i c.loop-i.invariant.1 (omega arith) (sym c.unit_right.ensures ∙ not-true _ c.if-not-unit_right.true-raw) ∙ units-all r
-
-pub loop-i-preserved : goal.loop-i-preserved
-loop-i-preserved c =
-    let r = record_in c.args.rec.now in
-    (omega arith, left-passes (unit_good r) (λ k. k + 1) 4 c.loop-i.i c.loop-i.invariant.1 (omega arith) (sym c.unit_right.ensures ∙ not-false _ c.if-not-unit_right.false-raw))
-
 pub returns : goal.returns
+unfolding units_right
 returns c =
-    let r = record_in c.args.rec.now in
-    left-ends (unit_good r) (λ k. k + 1) 4 c.loop-i.i c.loop-i.invariant.1 (omega arith) ∙ units-all r
+    let right = unit_good (record_in c.args.rec.now) in
+    all_from_yields_List right _ _ _ c.all.ensures.ran (YieldsList-from_span 1 4 4 (cc) (cc) (cc) (omega arith)) (λ u b q h. search (rules, tests))
+    ∙ all-range right (λ u. u) right 1 4 (λ u l. refl)
