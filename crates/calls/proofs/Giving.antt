@@ -51,14 +51,6 @@ module _ (m k : ℕ) (ns : List ℕ) where
       go none e = refl
       go (some n) e = let f = first-free m k n ns e in rw (eqb-false n 0 (λ z. omega arith))
 
-  pub free-limit : (n : ℕ) → n ≡ or_else 0 (first_free m k ns) → n ≤ k
-  unfolding or_else
-  free-limit n h = go (first_free m k ns) refl h
-    where
-      go : (o : Option ℕ) → first_free m k ns ≡ o → n ≡ or_else 0 o → n ≤ k
-      go none e h = omega arith
-      go (some x) e h = omega (arith, (first-free m k x ns e).1)
-
   free-some : (n : ℕ) → n ≡ or_else 0 (first_free m k ns) → n ≢ 0 → first_free m k ns ≡ some n
   unfolding or_else
   free-some n h z = go (first_free m k ns) h
