@@ -14,13 +14,14 @@ use Rattle.card_log.specs.Card.{Written, segments_in}
 use Rattle.card_log.specs.Store.{home}
 use Rattle.card_log.specs.Flush.{Flow, Ending, drained, full, spent, Next, stored, stopped, store_next, next_store, flush_from}
 use Rattle.card_log.proofs.Flows.{flow_for}
-use Rattle.answers.specs.declared.FlushReply.TheVariants.{Drained}
+use Rattle.answers.specs.declared.Ending.TheVariants.{Drained}
+use Rattle.std.specs.Prelude.{Ok}
 use Rattle.disk.specs.Disk.{Disk}
 use Rattle.disk.specs.Call.{flush, resets}
 use Rattle.disk.specs.Questions.{refusal}
 use Rattle.disk.specs.Perform.{Result, flow_of, flushed, accepted, perform}
 use Rattle.answers.specs.Answers.{Answer, ending_number}
-use Rattle.answers.specs.Answers.{flush_answer}
+use Rattle.answers.specs.Answers.{flush_answer, ending_of}
 use Rattle.disk.proofs.Performing.{perform-accepted, perform-refused, refusal-code}
 use Rattle.crash.specs.Event.{called, Parts, lend, lent_whole, is_accepted, answered, may_happen}
 use Rattle.crash.specs.Book.{Book, Waiting, entries_of, longest, closing_on_card, on_card, book_flush, book_accepted, book_called, book_step}
@@ -93,8 +94,8 @@ book-covered a d b i h =
     ∙ f.keeps.history
 
 -- the reported ending is the flush's
-flush-ending : (a n : ℕ) (d : Disk) → (perform (flush a) d).answer ≡ flush_answer (Drained n) → (flushed a d).ending ≡ drained
-unfolding accepted flush_answer
+flush-ending : (a n : ℕ) (d : Disk) → (perform (flush a) d).answer ≡ flush_answer (Ok (record { stores = n; ending = Drained })) → (flushed a d).ending ≡ drained
+unfolding accepted flush_answer ending_of
 flush-ending a n d h = go (refusal (flush a) d) refl
   where
     go : (m : ℕ) → refusal (flush a) d ≡ m → (flushed a d).ending ≡ drained
@@ -105,7 +106,7 @@ flush-ending a n d h = go (refusal (flush a) d) refl
         absurd (omega arith)
 
 scene-covered : (s : Scene) (a n : ℕ) (p : Parts) → Inv s.world s.book → may_happen s.world (called (flush a) p) ≡ true
-    → (perform (flush a) (lend p s.world.disk)).answer ≡ flush_answer (Drained n) → on_card (scene_step s (called (flush a) p)).book ≡ s.book.history
+    → (perform (flush a) (lend p s.world.disk)).answer ≡ flush_answer (Ok (record { stores = n; ending = Drained })) → on_card (scene_step s (called (flush a) p)).book ≡ s.book.history
 unfolding scene_step book_step answered book_called book_accepted flush_answer may_happen is_accepted resets
 scene-covered s a n p i m h =
     let d = s.world.disk in

@@ -2,7 +2,7 @@
 --
 -- After any list of calls and power cuts, mounting the card is accepted and gives exactly the state after the longest prefix of the serial
 -- history whose closing stores are on the card. A drained flush covers all of it.
-use Rattle.std.specs.Prelude.{◌≡◌, Bool, true, false, ◌&&◌, List, [], ◌∷◌, ℕ, length}
+use Rattle.std.specs.Prelude.{Ok, ◌≡◌, Bool, true, false, ◌&&◌, List, [], ◌∷◌, ℕ, length}
 use Rattle.std.proofs.Math.Option.{some}
 use Rattle.lists.specs.Basic.{joined}
 use Rattle.lists.specs.State.{State, empty, apply_all}
@@ -12,7 +12,7 @@ use Rattle.disk.specs.Disk.{Disk, view}
 use Rattle.disk.specs.Call.{format, mount, flush}
 use Rattle.disk.specs.Questions.{refusal}
 use Rattle.disk.specs.Perform.{perform}
-use Rattle.answers.specs.declared.FlushReply.TheVariants.{Drained}
+use Rattle.answers.specs.declared.Ending.TheVariants.{Drained}
 use Rattle.answers.specs.Answers.{flush_answer}
 use Rattle.crash.specs.Event.{Event, called, Parts, Rest, World, leaves, answered, step, may_happen}
 use Rattle.crash.specs.Book.{Book, empty_book, book_step, on_card}
@@ -65,5 +65,5 @@ Demand3 = Always (λ s. Kept s.world.disk.card s.book)
 -- stores are on the card is the whole history.
 abbrev pub DrainedCovers : Type 0
 DrainedCovers = Always (λ s. (a n : ℕ) (p : Parts)
-    → may_happen s.world (called (flush a) p) ≡ true → answered s.world (called (flush a) p) ≡ some (flush_answer (Drained n))
+    → may_happen s.world (called (flush a) p) ≡ true → answered s.world (called (flush a) p) ≡ some (flush_answer (Ok (record { stores = n; ending = Drained })))
     → on_card (scene_step s (called (flush a) p)).book ≡ s.book.history)
