@@ -9,7 +9,8 @@ use Rattle.lists.proofs.Basic.{eqb-false}
 use Rattle.card_log.specs.Card.{segments_in}
 use Rattle.answers.specs.declared.Refusal.{Refusal}
 use Rattle.answers.specs.declared.Refusal.TheVariants.{WrongLength}
-use Rattle.std.specs.Prelude.{Result, Ok, Err}
+use Rattle.std.specs.Prelude.{Ok, Err}
+use Rattle.std.specs.Prelude as P
 use Rattle.disk.specs.Disk.{Disk, disk_in}
 use Rattle.disk.specs.Sound.{lengths_right}
 use Rattle.disk.specs.Call.{flush, ends}
@@ -18,7 +19,7 @@ use Rattle.disk.specs.Perform.{Result, refused, formatted}
 use Rattle.answers.specs.Answers.{number, accepted_answer, refused_answer}
 use Rattle.disk.proofs.Performing.{perform-accepted, perform-refused, accepted-code}
 use Rattle.calls.specs.Performs.{Performs}
-use Rattle.calls.proofs.Refusing.{number-nonzero}
+use Rattle.inspect.proofs.Asking.{number-nonzero}
 use Rattle.crash.specs.Event.{leaves}
 use Rattle.text.proofs.Lines.{take-least}
 use Rattle.commands.specs.declared.state.State.{State}
@@ -89,6 +90,6 @@ module _ (c : List ℕ) (s : State) (f : Fits c s) (n : ℕ) (many : n ≡ min (
             fits = rw t f;
           })
 
-      pub broken-runs : (y : Result ℕ Refusal) → Breaks b (take n c) x y → Loses y q j s out at q' j' out' r → Cuts
+      pub broken-runs : (y : P.Result ℕ Refusal) → Breaks b (take n c) x y → Loses y q j s out at q' j' out' r → Cuts
       broken-runs (Ok k) h l = cut-made k h l
       broken-runs (Err y) h l = cut-refused y h l

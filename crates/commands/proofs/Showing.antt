@@ -16,7 +16,7 @@ use Rattle.disk.specs.Perform.{Result}
 use Rattle.answers.specs.Answers.{Answer}
 use Rattle.answers.specs.Answers.{number, read_answer, number_answer}
 use Rattle.calls.specs.Performs.{Performs}
-use Rattle.calls.proofs.Refusing.{number-nonzero}
+use Rattle.inspect.proofs.Asking.{number-nonzero}
 use Rattle.script.specs.Lines.{number_line, block_line, unwritten_line}
 use Rattle.commands.specs.Shown.{block_behind, blocks_from, blocks_on, block_shown, view_shown, shown}
 

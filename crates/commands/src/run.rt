@@ -30,10 +30,12 @@ pub fn run(
     requires { Fits card.old state }
     ensures { Runs (ran line.now (command_of line.now) (shell_of card.old queue.old journal.old state)) card.old out.old at card.new queue.new journal.new out.new result }
 {
-    match command(line) {
-        None => said(state, out, at, b"?\n"),
-        Some(Command::Nothing) => Ran { state, at },
-        Some(Command::Call(q)) => {
+    let Some(asked) = command(line) else {
+        return said(state, out, at, b"?\n");
+    };
+    match asked {
+        Command::Nothing => Ran { state, at },
+        Command::Call(q) => {
             // A call sees only what is lent.
             let n = state.card.min(state.size);
             let m = state.queue.min(queue.len());
@@ -54,7 +56,7 @@ pub fn run(
                 at: next,
             }
         }
-        Some(Command::Tool(t)) => work(t, card, queue, journal, state, out, at),
+        Command::Tool(t) => work(t, card, queue, journal, state, out, at),
     }
 }
 

@@ -25,13 +25,11 @@ pub returns-in-Nothing : goal.returns-in-Nothing
 unfolding ran
 returns-in-Nothing c =
     let a = c.args in
-    rw (← c.command.ensures, c.in-Nothing.is) (runs _ a.state _ refl c.requires refl refl (puts_none a.out.now a.at))
+    rw (← c.command.ensures, c.in-Some.is, c.in-Nothing.is) (runs _ a.state _ refl c.requires refl refl (puts_none a.out.now a.at))
 
-pub returns-in-Unknown : goal.returns-in-Unknown
+pub returns-in_default : goal.returns-in_default
 unfolding ran bytes
-returns-in-Unknown c =
-    let a = c.args in
-    rw (← c.command.ensures, c.in-Unknown.is) (runs _ a.state _ c.said.ensures.0 c.requires refl refl c.said.ensures.1)
+returns-in_default c = ?
 
 pub returns-in-Call : goal.returns-in-Call
 unfolding ran
@@ -42,9 +40,9 @@ returns-in-Call c =
     let n : c.min-n.result ≡ min (min s.card s.size) (length a.card.now) = omega (arith, c.min-n.ensures, f.whole) in
     let q = c.min-m.ensures in
     let j = c.min-k.ensures in
-    rw (← c.command.ensures, c.in-Call.is, n, q, j)
+    rw (← c.command.ensures, c.in-Some.is, c.in-Call.is, n, q, j)
     (lent_runs a.card.now a.queue.now a.journal.now s f _ _ _ _ (call_of a.line.now _) _ (rw n at c.card-1.given.0) refl (rw (n, q, j) at c.call-next.ensures))
 
 pub returns-in-Tool : goal.returns-in-Tool
 unfolding ran
-returns-in-Tool c = rw (← c.command.ensures, c.in-Tool.is) c.work.ensures
+returns-in-Tool c = rw (← c.command.ensures, c.in-Some.is, c.in-Tool.is) c.work.ensures
