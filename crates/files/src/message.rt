@@ -72,7 +72,7 @@ pub fn told<T: Drop>(rt: &HostRuntime, who: &[u8], done: Result<T, Failure>) -> 
     }
 }
 
-// WHO need not be text, which alone `write!` puts.
+// By `put_bytes`: WHO need not be text, and `write!` puts nothing else.
 pub fn put_message(out: &mut [u8], who: &[u8], what: &[u8]) -> usize
     ensures { Puts out.old 0 (message who.now what.now) out.new result }
 {

@@ -88,12 +88,12 @@ fn edit(rt: &HostRuntime, who: &[u8], path: &[u8]) -> Result<(), Failure> {
         print(rt, b"shell: standard output", Stream::Output, b"too long\n");
         return Err(Failure::refusal("not read: longer than 266,240 bytes"));
     }
-    change(rt, who, target, found.as_ref(), &mut card, size)
+    play(rt, who, target, found.as_ref(), &mut card, size)
 }
 
 // The script runs on a card that was read whole. What it leaves is kept, unless standard input or output failed; a card that is as
 // it was read is not written.
-fn change(
+fn play(
     rt: &HostRuntime,
     who: &[u8],
     target: &[u8],

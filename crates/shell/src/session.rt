@@ -33,8 +33,7 @@ pub fn run_whole(rt: &HostRuntime, card: &mut [u8], size: usize) -> Result<usize
     let mut session = begin(card, size);
     session.run_script(rt)?;
     session.run_last(rt)?;
-    let state = session.state;
-    Ok(state.size)
+    Ok(session.state.size)
 }
 
 fn begin(card: &mut [u8], size: usize) -> Session<'_>
