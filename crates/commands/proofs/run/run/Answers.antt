@@ -29,7 +29,9 @@ returns-in-Nothing c =
 
 pub returns-in_default : goal.returns-in_default
 unfolding ran bytes
-returns-in_default c = ?
+returns-in_default c =
+    let a = c.args in
+    rw (← c.command.ensures, c.in_default.is) (runs _ a.state _ c.said.ensures.0 c.requires refl refl c.said.ensures.1)
 
 pub returns-in-Call : goal.returns-in-Call
 unfolding ran
