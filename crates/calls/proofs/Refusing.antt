@@ -90,11 +90,13 @@ usual (begin v w) d u = (refl, refl)
 usual (end w) d u = absurd u
 usual (flush a) d u = (refl, refl)
 
+pub not-two : (c : Call) (d : Disk) (x : Refusal) → Usual c → refusal c d ≡ number x → number x ≢ 2
+unfolding refusal
+not-two c d x u h e = false≢true (sym (usual c d u).1 ∙ numbered (questions c d) 2 (omega arith) (h ∙ e))
+
 pub usual-performs-refused : (c : Call) (d : Disk) (x : Refusal) → Usual c → refusal c d ≡ number x → Performs c d d (refused_answer x) (destination c)
-unfolding refusal refused
-usual-performs-refused c d x u h =
-    let (n, t) = usual c d u in
-    performs-refused c d d x (λ e. false≢true (sym t ∙ numbered (questions c d) 2 (omega arith) (h ∙ e))) (rw (n, refused)) h
+unfolding refused
+usual-performs-refused c d x u h = performs-refused c d d x (not-two c d x u h) (rw ((usual c d u).0, refused)) h
 
 -- a refused End, which 12 closes
 end-asks-two : (u : ℕ) (d : Disk) → asks 2 (questions (end u) d) ≡ false

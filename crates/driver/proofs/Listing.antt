@@ -1,13 +1,17 @@
 -- Words put into a buffer one after the other: word by word (`words-next`), entry by entry (`head-ended`, `head-behind`), and what they make of the
 -- whole listing (`lists-accepted`).
 use mathlib.Core.Path.{◌≡◌, refl, sym, ap, ◌∙◌}
-use mathlib.Core.Logic.{◌≢◌, ◌⊎◌, inl, inr}
+use mathlib.Core.Logic.{◌≢◌}
 use mathlib.Core.List.{List, [], ◌∷◌, ◌++◌, map}
-use Prim.Native.Nat.{ℕ, zero, suc, ◌+◌, ◌-◌, ◌*◌, ◌≤◌, ◌<◌}
+use Prim.Native.Nat.{ℕ, zero, suc, ◌+◌, ◌-◌, ◌*◌, ◌≤◌, ◌<◌, min}
 use native.Mathlib.Omega.{arith}
 use native.Mathlib.Nat.{add-zero}
+use native.Mathlib.Decide.{dec_le}
 use lib.ListN.{length, take, drop, get_or, set, length-take, length-drop, length-map}
 use lib.Seq.{sets, sets-eq, drop-cons, drop-append-le, take-append-le, take-append-add, take-take, take_all}
+use Rattle.std.specs.Prelude.{Result}
+use Rattle.std.specs.Result.{IsErrAnd}
+use Rattle.std.proofs.lemmas.List.{take_min}
 use Rattle.lists.proofs.Basic.{eqb-false}
 use Rattle.card_log.specs.Store.{Store, format_stores}
 use Rattle.card_log.proofs.Formatting.{format-length}
@@ -16,9 +20,10 @@ use Rattle.disk.specs.Disk.{Disk}
 use Rattle.disk.specs.Call.{Call}
 use Rattle.disk.specs.Questions.{refusal}
 use Rattle.disk.specs.Perform.{refusal_answer}
-use Rattle.answers.specs.Answers.{number, refused_answer, accepted_answer}
+use Rattle.answers.specs.Answers.{number, refused_answer, accepted_answer, number_answer}
 use Rattle.calls.proofs.Storing.{several}
-use Rattle.calls.proofs.Refusing.{number-some}
+use Rattle.inspect.proofs.Asking.{number-some, exit_is}
+use Rattle.calls.proofs.Refusing.{Usual, not-two, number-refused}
 use Rattle.driver.specs.Stores.{stores_made, word, list_stores}
 use Rattle.driver.specs.promises.Listing.{listed}
 
@@ -76,17 +81,11 @@ module _ (ss ts : List Store) (k m at : ℕ) (x : List ℕ) (a : at ≤ m) (l : 
       ∙ ap (λ (us : List Store). listed t (take (m - t) ts) (sets x at (map word us))) (sym (take_all (length ss - k) (drop k ss) (omega (arith, n))))
 
 -- A formatting's: at most m are listed, m being the smaller of the segments n and the buffer's room, and at of them are.
-pub counts_start : (n r m : ℕ) (x : List ℕ) → (n ≤ m) ⊎ (r ≤ m) → m ≤ n → m ≤ r → listed 0 (take (m - 0) (format_stores (n - 0))) x ≡ listed 0 (take r (format_stores n)) x
-counts_start n r m x w h l = ap (λ (ss : List Store). listed 0 ss x) (go w)
-  where
-    go : (n ≤ m) ⊎ (r ≤ m) → take (m - 0) (format_stores (n - 0)) ≡ take r (format_stores n)
-    go (inl a) =
-        let e : n - 0 ≡ n = omega arith in
-        rw e (take_all (m - 0) (format_stores n) (omega (arith, format-length n)) ∙ sym (take_all r (format_stores n) (omega (arith, format-length n))))
-    go (inr a) =
-        let e : n - 0 ≡ n = omega arith in
-        let f : m - 0 ≡ r = omega arith in
-        rw (e, f)
+pub counts_start : (n r m : ℕ) (x : List ℕ) → m ≡ min n r → listed 0 (take (m - 0) (format_stores (n - 0))) x ≡ listed 0 (take r (format_stores n)) x
+counts_start n r m x h =
+    let e : n - 0 ≡ n = omega arith in
+    let f : m - 0 ≡ min r (length (format_stores n)) = omega (arith, h, format-length n) in
+    rw (e, f) (ap (λ (ss : List Store). listed 0 ss x) (take_min r (format_stores n)))
 
 pub counts-next : (n m at : ℕ) (x : List ℕ) → at < m → m ≤ n
     → listed (at + 1) (take (m - (at + 1)) (format_stores (n - (at + 1)))) (set x at (word (4096 * (n - at - 1) + 3584, 0))) ≡ listed at (take (m - at) (format_stores (n - at))) x
@@ -127,11 +126,18 @@ lists-refused c d x y z h =
     let (m, e) = number-some y in
     rw (h ∙ e, list_stores) (ap (λ (n : ℕ). (refusal_answer n d, x)) (sym e) ∙ rw (eqb-false (number y) 2 z, refusal_answer))
 
--- at most a, and at most n: the smaller m of both
-pub take-smaller : (a n m : ℕ) (ss : List Store) → m ≤ a → m ≤ n → (a ≤ m) ⊎ (n ≤ m) → take n (take a ss) ≡ take m ss
-take-smaller a n m ss h l (inl w) =
-    let e : a ≡ m = omega arith in
-    take_all n (take a ss) (omega (arith, length-take a ss)) ∙ rw e
-take-smaller a n m ss h l (inr w) =
-    let e : n ≡ m = omega arith in
-    take-take n a ss (omega arith) ∙ rw e
+-- where a `?` leaves
+pub lists-exit : (c : Call) (d : Disk) (x : List ℕ) → Usual c → (r : Result ℕ Refusal) (y : Refusal) → IsErrAnd r (λ z. z ≡ y) → refusal c d ≡ number y → list_stores c d x ≡ (number_answer r, x)
+lists-exit c d x u r y e h = rw (exit_is r y e, number-refused y) (lists-refused c d x y (not-two c d y u h) h)
+
+-- at most a, and at most n
+pub take-smaller : (a n m : ℕ) (ss : List Store) → m ≡ min a n → take n (take a ss) ≡ take m ss
+take-smaller a n m ss h = go (dec_le a n)
+  where
+    go : Dec (a ≤ n) → take n (take a ss) ≡ take m ss
+    go (yes l) =
+        let e : a ≡ m = omega (arith, h) in
+        take_all n (take a ss) (omega (arith, length-take a ss)) ∙ rw e
+    go (no l) =
+        let e : n ≡ m = omega (arith, h) in
+        take-take n a ss (omega arith) ∙ rw e

@@ -22,7 +22,8 @@ use Rattle.disk.proofs.Questions.{yes-all}
 use Rattle.disk.proofs.Held.{hold-card, noted-by}
 use Rattle.disk.proofs.Performing.{perform-accepted}
 use Rattle.disk.proofs.Flushing.{flushes, cut-after}
-use Rattle.calls.proofs.Refusing.{last-yes, sound-yes}
+use Rattle.inspect.proofs.Asking.{last-yes}
+use Rattle.calls.proofs.Refusing.{sound-yes}
 use Rattle.driver.specs.Stores.{stores_made, word, WordSays, StoresMake, DriverFlush}
 
 pub word-says : WordSays

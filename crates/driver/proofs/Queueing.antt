@@ -30,11 +30,10 @@ use Rattle.calls.proofs.Storing.{several}
 use Rattle.calls.proofs.Draining.{entry_here, rest as later, entry_here_lem, rest-step, rest-none, queue-whole}
 use Rattle.driver.specs.Stores.{word}
 use Rattle.driver.specs.promises.Listing.{listed, Listable, HeadListable, HeadLists}
-use Rattle.driver.specs.declared.queue.Listed.{Listed}
-use Rattle.driver.specs.declared.queue.Listed.TheVariants.{Ended, Behind}
+use Rattle.std.proofs.Common.{ControlFlow, Continue, Break}
 use Rattle.driver.proofs.Listing.{listed-none, head-ended, head-behind}
 
-pub lists-met : (n : ℕ) (p : Place) (e f : Entry Written) (k m at : ℕ) (x : List ℕ) (l : Listed) (x' : List ℕ) → e ≡ f → HeadLists n p e k m at x l x' → HeadLists n p f k m at x l x'
+pub lists-met : (n : ℕ) (p : Place) (e f : Entry Written) (k m at : ℕ) (x : List ℕ) (l : ControlFlow ℕ (Place × ℕ)) (x' : List ℕ) → e ≡ f → HeadLists n p e k m at x l x' → HeadLists n p f k m at x l x'
 lists-met n p e f k m at x l x' i = subst (λ (y : Entry Written). HeadLists n p y k m at x l x') i
 
 -- The head as the code has it, and its place as the code finds it.
@@ -43,7 +42,7 @@ module _ (d : Content) (z : length d ≡ 256) (t : Bool) (e : LogEntry) (n : ℕ
   home_found : as_place y ≡ home n p (going d t e)
   home_found = i ∙ sym (home-of-entry d t e n p)
 
-  pub lists-full : (m at : ℕ) (x : List ℕ) → y ≡ Full → HeadLists n p (going d t e) k m at x (Ended at) x
+  pub lists-full : (m at : ℕ) (x : List ℕ) → y ≡ Full → HeadLists n p (going d t e) k m at x (Break at) x
   unfolding as_place ahead
   lists-full m at x j q =
       let v : home n p (going d t e) ≡ none = sym home_found ∙ rw j in
@@ -68,7 +67,7 @@ module _ (d : Content) (z : length d ≡ 256) (t : Bool) (e : LogEntry) (n : ℕ
         record { within = w; room = f; inside = omega (arith, r.few); left = omega (arith, r.left, stores-many d z t e h, stores-many d z t e p) }
 
     pub lists-ended : (m at : ℕ) (x x' : List ℕ) → at ≤ m → m - at < length ss - k → x' ≡ sets x at (map word (several k (k + (m - at) - k) ss))
-        → HeadLists n p (going d t e) k m at x (Ended m) x'
+        → HeadLists n p (going d t e) k m at x (Break m) x'
     lists-ended m at x x' a l u q =
         let b : k + (m - at) - k ≡ m - at = omega arith in
         ap (λ (us : List Store). listed at (take (m - at) (drop k us)) x) (ahead-head q)
@@ -76,7 +75,7 @@ module _ (d : Content) (z : length d ≡ 256) (t : Bool) (e : LogEntry) (n : ℕ
         ∙ rw (u, b)
 
     pub lists-behind : (m at c : ℕ) (p' : Place) (x x' : List ℕ) → at ≤ m → c ≡ length ss → c - k ≤ m - at → p' ≡ after h (as_entry false e)
-        → x' ≡ sets x at (map word (several k (c - k) ss)) → HeadLists n p (going d t e) k m at x (Behind p' (at + (c - k))) x'
+        → x' ≡ sets x at (map word (several k (c - k) ss)) → HeadLists n p (going d t e) k m at x (Continue (p', at + (c - k))) x'
     unfolding after
     lists-behind m at c p' x x' a b l f u =
         let v : p' ≡ after h (going d t e) = f ∙ sym (after-of-entry d t e h) in
@@ -139,10 +138,10 @@ module _ (c q : List ℕ) (r : Record) (p : Place) (m : ℕ) (x : List ℕ) wher
       whole_here : whole ≡ listed at (take (m - at) (drop k (ahead (segments_in c) p' (entry_here q r gone ∷ later c q r (gone + 1))))) x'
       whole_here = sym g.onward ∙ ap (λ (es : List (Entry Written)). listed at (take (m - at) (drop k (ahead (segments_in c) p' es))) x') (rest-step c q r gone l)
 
-      pub whole-ended : (t : ℕ) (x'' : List ℕ) → HeadLists (segments_in c) p' (entry_here q r gone) k m at x' (Ended t) x'' → whole ≡ (t, x'')
+      pub whole-ended : (t : ℕ) (x'' : List ℕ) → HeadLists (segments_in c) p' (entry_here q r gone) k m at x' (Break t) x'' → whole ≡ (t, x'')
       whole-ended t x'' h = whole_here ∙ h (later c q r (gone + 1))
 
-      pub going_on : (p'' : Place) (t : ℕ) (x'' : List ℕ) → length x'' ≡ length x' → HeadLists (segments_in c) p' (entry_here q r gone) k m at x' (Behind p'' t) x'' → Going x'' p'' 0 t (gone + 1)
+      pub going_on : (p'' : Place) (t : ℕ) (x'' : List ℕ) → length x'' ≡ length x' → HeadLists (segments_in c) p' (entry_here q r gone) k m at x' (Continue (p'', t)) x'' → Going x'' p'' 0 t (gone + 1)
       going_on p'' t x'' s h = record {
         most = h.most;
         size = s ∙ g.size;

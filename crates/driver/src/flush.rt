@@ -4,10 +4,10 @@ ghost use Rattle.answers.specs.Answers.{number_answer};
 ghost use Rattle.driver.specs.Stores.{Lists};
 
 use super::queue::list_queue;
-use answers::{NumberReply, Refusal};
+use answers::{NumberReply, Refusal, ask};
 use calls::flush::ALLOWANCE;
 use disk::record::RECORD;
-use inspect::examine::{Examined, examine};
+use inspect::examine::examine;
 
 // The words of the longest list: a buffer of so many takes those of every flush (`StoresFew` in specs/Stores).
 pub const FLUSH_STORES: usize = 8352;
@@ -25,16 +25,8 @@ pub fn flush_stores(
     ensures { Lists (flush allowance) card.now queue_data.now journal_data.now rec.now stores.old stores.new (number_answer result) }
 {
     let mut nodes = [0u8; 1280];
-    match examine(card, queue_data, journal_data, rec, false, &mut nodes) {
-        Examined::WrongLength => NumberReply::Refused(Refusal::WrongLength),
-        Examined::Unsound => NumberReply::Refused(Refusal::RecordUnsound),
-        Examined::Sound(behind) => {
-            if ALLOWANCE < allowance {
-                return NumberReply::Refused(Refusal::OutOfRange);
-            }
-            let room = stores.len();
-            let most = if allowance < room { allowance } else { room };
-            NumberReply::Number(list_queue(card, queue_data, rec, behind, most, stores))
-        }
-    }
+    let behind = examine(card, queue_data, journal_data, rec, &mut nodes)?;
+    ask(allowance <= ALLOWANCE, Refusal::OutOfRange)?;
+    let most = allowance.min(stores.len());
+    Ok(list_queue(card, queue_data, rec, behind, most, stores))
 }

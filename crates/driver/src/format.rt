@@ -7,7 +7,7 @@ ghost use Rattle.driver.specs.Stores.{Lists};
 ghost use Rattle.driver.specs.promises.Listing.{listed};
 
 use super::word::joined;
-use answers::{NumberReply, Refusal};
+use answers::{NumberReply, Refusal, ask};
 use card_log::layout::{COUNT_AT, SEGMENT};
 use disk::record::RECORD;
 use inspect::lengths::lengths_right;
@@ -17,14 +17,11 @@ fn list_counts(segments: usize, stores: &mut [u32]) -> usize
     requires { segments ≤ 64 }
     ensures { listed 0 (take (length stores.old) (format_stores segments)) stores.old ≡ (result, stores.new) }
 {
-    let room = stores.len();
-    let most = if segments < room { segments } else { room };
-    let mut at = 0;
-    while at < most {
+    let most = segments.min(stores.len());
+    for at in 0..most {
         stores[at] = joined(SEGMENT * (segments - at - 1) + COUNT_AT, 0);
-        at += 1;
     }
-    at
+    most
 }
 
 // The stores that a formatting would make, as words, in order; how many there are, at most as many as fit. The record is lent as to the call, and is
@@ -39,8 +36,9 @@ pub fn format_stores(
 ) -> NumberReply
     ensures { Lists format card.now queue_data.now journal_data.now rec.now stores.old stores.new (number_answer result) }
 {
-    if !lengths_right(card, queue_data, journal_data) {
-        return NumberReply::Refused(Refusal::WrongLength);
-    }
-    NumberReply::Number(list_counts(card.len() / SEGMENT, stores))
+    ask(
+        lengths_right(card, queue_data, journal_data),
+        Refusal::WrongLength,
+    )?;
+    Ok(list_counts(card.len() / SEGMENT, stores))
 }

@@ -18,14 +18,7 @@ use card_log::place::{Home, Place, after, home_of};
 use card_log::store::stores_of;
 use disk::record;
 use disk::record::{RECORD, Record, head, len, queue_entry};
-
-// What a listing makes of the queue's head, with the words that stand in the buffer then: it ends there, or all of the head's stores are listed, and
-// this is the place behind it.
-#[derive(Clone, Copy)]
-pub enum Listed {
-    Ended(usize),
-    Behind(Place, usize),
-}
+use std::ops::ControlFlow;
 
 // The words of an entry's stores from number `done` up to number `upto`, in the buffer from `at` on.
 fn put_words(
@@ -41,15 +34,13 @@ fn put_words(
     requires { Listable place (map_entry (with_body content.now) (as_entry member e)) done × (upto ≤ length (entry_stores place (map_entry (with_body content.now) (as_entry member e)))) × (length content.now ≡ 256) × (done ≤ upto) × (at + (upto - done) ≤ length stores.old) }
     ensures { stores.new ≡ sets stores.old at (map word (take (upto - done) (drop done (entry_stores place (map_entry (with_body content.now) (as_entry member e)))))) }
 {
-    let mut k = done;
-    while k < upto {
+    for k in done..upto {
         stores[at + (k - done)] = word_of(content, place, e, member, k);
-        k += 1;
     }
 }
 
-// The words of the head's stores, `done` of which are made, behind the `at` words that stand in the buffer; it takes `most`. A head without a place
-// ends the listing, as it ends a flush.
+// The words of the head's stores, `done` of which are made, behind the `at` words that stand in the buffer; it takes `most`. The listing ends there,
+// as at a head without a place, or all are listed, and it goes on at the place behind; with the words that stand then.
 fn list_head(
     segments: usize,
     content: &[u8],
@@ -60,21 +51,22 @@ fn list_head(
     most: usize,
     stores: &mut [u32],
     at: usize,
-) -> Listed
+) -> ControlFlow<usize, (Place, usize)>
     requires { HeadListable segments place (map_entry (with_body content.now) (as_entry member e)) done × (length content.now ≡ 256) × (at ≤ most) × (most ≤ length stores.old) }
     ensures { HeadLists segments place (map_entry (with_body content.now) (as_entry member e)) done most at stores.old result stores.new }
 {
     let Home::At(home) = home_of(segments, place, e) else {
-        return Listed::Ended(at);
+        return ControlFlow::Break(at);
     };
     let all = stores_of(e);
     let room = most - at;
     if room < all - done {
         put_words(content, home, e, member, done, done + room, stores, at);
-        return Listed::Ended(most);
+        ControlFlow::Break(most)
+    } else {
+        put_words(content, home, e, member, done, all, stores, at);
+        ControlFlow::Continue((after(home, e), at + (all - done)))
     }
-    put_words(content, home, e, member, done, all, stores, at);
-    Listed::Behind(after(home, e), at + (all - done))
 }
 
 // The words of the queue's stores, from the place behind the log on, at most `most`; how many there are.
@@ -95,33 +87,28 @@ pub fn list_queue(
     let mut place = behind;
     let mut done = record::done(rec);
     let mut at = 0;
-    let mut gone = 0;
-    while gone < entries {
+    for gone in 0..entries {
         let i = (first + gone) % Record::QUEUE;
         let queued = queue_entry(rec, i);
-        let e = queued.entry;
         let data = SLOT * i;
         match list_head(
             segments,
             &queue_data[data..data + SLOT],
             place,
-            e,
+            queued.entry,
             queued.member,
             done,
             most,
             stores,
             at,
         ) {
-            Listed::Ended(n) => {
-                return n;
-            }
-            Listed::Behind(next, n) => {
+            ControlFlow::Break(n) => return n,
+            ControlFlow::Continue((next, n)) => {
                 place = next;
                 at = n;
+                done = 0;
             }
         }
-        done = 0;
-        gone += 1;
     }
     at
 }

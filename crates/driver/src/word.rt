@@ -15,7 +15,7 @@ pub fn joined(at: usize, byte: u8) -> u32
     requires { at < 262144 }
     ensures { result ≡ word (at, byte) }
 {
-    256 * (at as u32) + byte as u32
+    256 * (at as u32) + u32::from(byte)
 }
 
 // Store number `done` of an entry at its place; `content` is what a write writes. The order is that in which a flush stores: data, entry, count.

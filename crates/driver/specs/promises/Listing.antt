@@ -1,5 +1,6 @@
 -- What a listing asks for and promises, entry by entry: its functions list the stores of one entry, of the queue's head, and of the queue.
 use Rattle.std.specs.Prelude.{◌≡◌, true, List, ◌∷◌, map, ℕ, ◌+◌, ◌-◌, ◌≤◌, ◌<◌, length, take, drop, get_or}
+use Rattle.std.proofs.Common.{ControlFlow, Continue, Break}
 use Rattle.std.proofs.lemmas.List.Edits.{sets}
 use Rattle.card_log.specs.declared.place.Place.{Place}
 use Rattle.card_log.specs.Entry.{Entry}
@@ -8,8 +9,6 @@ use Rattle.card_log.specs.Store.{Store, fits, entry_stores}
 use Rattle.card_log.specs.Flush.{ahead}
 use Rattle.card_log.specs.promises.Within.{Within}
 use Rattle.driver.specs.Stores.{word}
-use Rattle.driver.specs.declared.queue.Listed.{Listed}
-use Rattle.driver.specs.declared.queue.Listed.TheVariants.{Ended, Behind}
 
 -- store k of entry e at place p
 abbrev pub store_at : Place → Entry Written → ℕ → Store
@@ -41,6 +40,6 @@ pub record HeadListed (n : ℕ) (p : Place) (e : Entry Written) (k m at : ℕ) (
   pub onward : (q : List (Entry Written)) → listed at (take (m - at) (drop k (ahead n p (e ∷ q)))) x ≡ listed t (take (m - t) (ahead n p' q)) x'
 
 -- the listing of at most m stores, at of which stand in buffer x, up to where the head is listed, or up to its end
-abbrev pub HeadLists : ℕ → Place → Entry Written → ℕ → ℕ → ℕ → List ℕ → Listed → List ℕ → Type 0
-HeadLists n p e k m at x (Ended t) x' = (q : List (Entry Written)) → listed at (take (m - at) (drop k (ahead n p (e ∷ q)))) x ≡ (t, x')
-HeadLists n p e k m at x (Behind p' t) x' = HeadListed n p e k m at x p' t x'
+abbrev pub HeadLists : ℕ → Place → Entry Written → ℕ → ℕ → ℕ → List ℕ → ControlFlow ℕ (Place × ℕ) → List ℕ → Type 0
+HeadLists n p e k m at x (Break t) x' = (q : List (Entry Written)) → listed at (take (m - at) (drop k (ahead n p (e ∷ q)))) x ≡ (t, x')
+HeadLists n p e k m at x (Continue (p', t)) x' = HeadListed n p e k m at x p' t x'

@@ -8,12 +8,6 @@ returns-in_default c =
     let a = c.args in
     lists-full a.content.now c.requires.1 a.member a.e a.segments a.place a.done c.requires.0 c.home_of.result c.home_of.ensures a.most a.at a.stores.now c.in_default.is
 
-pub overflow_sub-all : goal.overflow_sub-all
-overflow_sub-all c =
-    let a = c.args in
-    let t = listable a.content.now c.requires.1 a.member a.e a.segments a.place a.done c.requires.0 c.home_of.result c.home_of.ensures _ c.in-At.is in
-    omega (arith, t.left, c.stores_of-all.ensures c.in-At.home a.member a.content.now c.requires.1)
-
 pub put_words-requires : goal.put_words-requires
 put_words-requires c =
     let a = c.args in
@@ -28,8 +22,8 @@ returns-then-room-all c =
     lists-ended a.content.now c.requires.1 a.member a.e a.segments a.place a.done c.requires.0 c.home_of.result c.home_of.ensures _ c.in-At.is a.most a.at a.stores.now _ c.requires.2
     (omega (arith, c.if-room-all.true, n)) c.put_words.ensures
 
-pub put_words-requires-2 : goal.put_words-requires-2
-put_words-requires-2 c =
+pub put_words-requires-else-room-all : goal.put_words-requires-else-room-all
+put_words-requires-else-room-all c =
     let a = c.args in
     let t = listable a.content.now c.requires.1 a.member a.e a.segments a.place a.done c.requires.0 c.home_of.result c.home_of.ensures _ c.in-At.is in
     let n = c.stores_of-all.ensures c.in-At.home a.member a.content.now c.requires.1 in
@@ -40,15 +34,9 @@ after-requires c =
     let a = c.args in
     (listable a.content.now c.requires.1 a.member a.e a.segments a.place a.done c.requires.0 c.home_of.result c.home_of.ensures _ c.in-At.is).within
 
-pub overflow_sub-result : goal.overflow_sub-result
-overflow_sub-result c =
-    let a = c.args in
-    let t = listable a.content.now c.requires.1 a.member a.e a.segments a.place a.done c.requires.0 c.home_of.result c.home_of.ensures _ c.in-At.is in
-    omega (arith, t.left, c.stores_of-all.ensures c.in-At.home a.member a.content.now c.requires.1)
-
-pub returns : goal.returns
-returns c =
+pub returns-else-room-all : goal.returns-else-room-all
+returns-else-room-all c =
     let a = c.args in
     let n = c.stores_of-all.ensures c.in-At.home a.member a.content.now c.requires.1 in
     lists-behind a.content.now c.requires.1 a.member a.e a.segments a.place a.done c.requires.0 c.home_of.result c.home_of.ensures _ c.in-At.is a.most a.at _ _ a.stores.now _ c.requires.2
-    n c.if-room-all.false c.after.ensures c.put_words-2.ensures
+    n c.if-room-all.false c.after.ensures c.put_words-else-room-all.ensures

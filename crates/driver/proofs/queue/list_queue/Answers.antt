@@ -15,21 +15,6 @@ loop-gone-init c =
     let a = c.args in
     (c.requires.0, rw c.done-done.ensures (going_start a.card.now a.queue_data.now (record_in a.rec.now) a.behind a.most a.stores.now c.requires.0))
 
-pub overflow_add-i : goal.overflow_add-i
-overflow_add-i c = omega (arith, c.loop-gone.invariant.0.head, c.loop-gone.invariant.0.room, c.loop-gone-test.true, c.head-first.ensures, c.len-entries.ensures)
-
-pub queue_entry-queued-requires : goal.queue_entry-queued-requires
-queue_entry-queued-requires c = omega arith
-
-pub overflow_mul-data : goal.overflow_mul-data
-overflow_mul-data c = omega arith
-
-pub overflow_add-data : goal.overflow_add-data
-overflow_add-data c = omega arith
-
-pub slice_bounds-list_head-count : goal.slice_bounds-list_head-count
-slice_bounds-list_head-count c = omega arith
-
 pub list_head-requires : goal.list_head-requires
 list_head-requires c =
     let l = c.loop-gone in
@@ -38,7 +23,7 @@ list_head-requires c =
     let q = c.queue_entry-queued in
     let h = c.head-first in
     let x = entry-met a.queue_data.now r _ l.gone q.result.member q.result.entry h.ensures q.ensures.0 q.ensures.1 in
-    let n : l.gone < r.ring.len = omega (arith, c.loop-gone-test.true, c.len-entries.ensures) in (
+    let n : l.gone < r.ring.len = omega (arith, c.len-entries.ensures) in (
       subst (λ (e : Entry Written). HeadListable (segments_in a.card.now) l.place e l.done) (sym x)
           (going-head a.card.now a.queue_data.now r a.behind a.most a.stores.now l.stores l.place l.done l.at l.gone l.invariant.1 n l.invariant.0),
       data-size a.queue_data.now ((h.result + l.gone) % 32) l.invariant.0.queue_data (omega arith),
@@ -46,28 +31,19 @@ list_head-requires c =
       omega (arith, c.requires.1, l.invariant.1.size),
     )
 
-pub shape_of-stores-in-Ended : goal.shape_of-stores-in-Ended
-shape_of-stores-in-Ended c = c.stores-1.given ∙ c.loop-gone.invariant.1.size
-
-pub returns-in-Ended : goal.returns-in-Ended
-returns-in-Ended c =
+pub returns-in-Break : goal.returns-in-Break
+returns-in-Break c =
     let l = c.loop-gone in
     let a = c.args in
     let r = record_in a.rec.now in
     let q = c.queue_entry-queued in
     let h = c.head-first in
     let x = entry-met a.queue_data.now r _ l.gone q.result.member q.result.entry h.ensures q.ensures.0 q.ensures.1 in
-    let n : l.gone < r.ring.len = omega (arith, c.loop-gone-test.true, c.len-entries.ensures) in
+    let n : l.gone < r.ring.len = omega (arith, c.len-entries.ensures) in
     let k = c.list_head in
     λ j. whole-todo a.card.now a.queue_data.now r a.behind a.most a.stores.now j l.invariant.0.place
     ∙ whole-ended a.card.now a.queue_data.now r a.behind a.most a.stores.now l.stores l.place l.done l.at l.gone l.invariant.1 n _ _
-    (rw c.in-Ended.is at (lists-met (segments_in a.card.now) l.place _ _ l.done a.most l.at l.stores k.result _ x k.ensures))
-
-pub overflow_add-gone : goal.overflow_add-gone
-overflow_add-gone c = omega (arith, c.loop-gone.invariant.0.room, c.loop-gone-test.true, c.len-entries.ensures)
-
-pub loop-gone-smaller : goal.loop-gone-smaller
-loop-gone-smaller c = omega arith
+    (rw c.in-Break.is at (lists-met (segments_in a.card.now) l.place _ _ l.done a.most l.at l.stores k.result _ x k.ensures))
 
 pub loop-gone-preserved : goal.loop-gone-preserved
 loop-gone-preserved c =
@@ -77,21 +53,18 @@ loop-gone-preserved c =
     let q = c.queue_entry-queued in
     let h = c.head-first in
     let x = entry-met a.queue_data.now r _ l.gone q.result.member q.result.entry h.ensures q.ensures.0 q.ensures.1 in
-    let n : l.gone < r.ring.len = omega (arith, c.loop-gone-test.true, c.len-entries.ensures) in
+    let n : l.gone < r.ring.len = omega (arith, c.len-entries.ensures) in
     let k = c.list_head in (
       l.invariant.0,
-      going_on a.card.now a.queue_data.now r a.behind a.most a.stores.now l.stores l.place l.done l.at l.gone l.invariant.1 n _ _ _ c.stores-1.given
-          (rw c.in-Behind.is at (lists-met (segments_in a.card.now) l.place _ _ l.done a.most l.at l.stores k.result _ x k.ensures)),
+      going_on a.card.now a.queue_data.now r a.behind a.most a.stores.now l.stores l.place l.done l.at l.gone l.invariant.1 n _ _ _ (omega arith)
+          (rw c.in-Continue.is at (lists-met (segments_in a.card.now) l.place _ _ l.done a.most l.at l.stores k.result _ x k.ensures)),
     )
-
-pub shape_of-stores : goal.shape_of-stores
-shape_of-stores c = c.loop-gone.invariant.1.size
 
 pub returns : goal.returns
 returns c =
     let l = c.loop-gone in
     let a = c.args in
     let r = record_in a.rec.now in
-    let n : r.ring.len ≤ l.gone = omega (arith, c.loop-gone-test.false, c.len-entries.ensures) in
+    let n : r.ring.len ≤ l.gone = omega (arith, c.len-entries.ensures) in
     λ j. whole-todo a.card.now a.queue_data.now r a.behind a.most a.stores.now j l.invariant.0.place
     ∙ whole-drained a.card.now a.queue_data.now r a.behind a.most a.stores.now l.stores l.place l.done l.at l.gone l.invariant.1 n

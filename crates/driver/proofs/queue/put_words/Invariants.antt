@@ -1,8 +1,7 @@
 -- The loop's invariant: the words that are left, put into the buffer as it is, leave what all of them leave. Assumes nothing.
 use mathlib.Core.Path.{◌≡◌}
 use mathlib.Core.List.{map}
-use Prim.Native.Nat.{◌+◌, ◌-◌, ◌≤◌}
-use lib.ListN.{length}
+use Prim.Native.Nat.{◌+◌, ◌-◌}
 use lib.Seq.{sets}
 use Rattle.card_log.specs.Store.{entry_stores}
 use Rattle.card_log.proofs.LogStores.{going}
@@ -12,10 +11,5 @@ use Rattle.driver.proofs.queue.put_words.Given as goal
 
 abbrev pub invariant-loop-k : goal.invariant-loop-k
 invariant-loop-k l =
-    (l.done ≤ l.k)
-    × (length l.stores ≡ length l.initial.stores)
-    × (let ss = entry_stores l.place (going l.content l.member l.e) in
-    sets l.stores (l.at + (l.k - l.done)) (map word (several l.k (l.upto - l.k) ss)) ≡ sets l.initial.stores l.at (map word (several l.done (l.upto - l.done) ss)))
-
-abbrev pub decreases-loop-k : goal.decreases-loop-k
-decreases-loop-k l = l.upto - l.k
+    let ss = entry_stores l.place (going l.content l.member l.e) in
+    sets l.stores (l.at + (l.k - l.done)) (map word (several l.k (l.upto - l.k) ss)) ≡ sets l.initial.stores l.at (map word (several l.done (l.upto - l.done) ss))
