@@ -24,7 +24,7 @@ const LONGEST_LINE: usize = 1023;
 // The longest card that can be put in: one segment more than a card may have.
 const LONGEST_CARD: u64 = 266240;
 
-const LARGEST_BYTE: u64 = 255;
+const LARGEST_BYTE: u64 = u8::MAX as u64;
 
 // The bytes lent for an inventory and a page where a line does not say how many. The language fixes the page's; the longest page has more.
 const LISTS: u64 = limits::LISTS as u64;
