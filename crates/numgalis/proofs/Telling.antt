@@ -1,26 +1,17 @@
--- A call's promise with its answer told: the number returned, and what the out-parameters hold.
-use mathlib.Core.Path.{◌≡◌, sym, ap, ◌∙◌}
-use mathlib.Core.List.{List}
+-- A race told as a number.
+use mathlib.Core.Path.{◌≡◌}
 use Prim.Native.Nat.{ℕ}
+use Rattle.std.specs.Prelude.{Result, Ok, Err, MatchResult}
+use Rattle.std.specs.Result.{IsOkAnd}
 use Rattle.answers.specs.declared.Refusal.{Refusal}
-use Rattle.disk.specs.Disk.{Disk}
-use Rattle.disk.specs.Call.{Call}
-use Rattle.disk.specs.Perform.{Result}
-use Rattle.answers.specs.Answers.{Answer}
-use Rattle.answers.specs.Answers.{number, refused_answer}
-use Rattle.calls.specs.Performs.{Performs}
-use Rattle.driver.specs.Stores.{Lists}
-use Rattle.numgalis.specs.Border.{told}
+use Rattle.answers.specs.Answers.{number_answer, read_answer}
 
-result : Disk → List ℕ → Answer → Result
-result d x a = record { disk = d; answer = a; lent = x }
+pub IsOkAnd-weaker : {T E : Type 0} (r : Result T E) {P Q : T → Type 0} → ((x : T) → P x → Q x) → IsOkAnd r P → IsOkAnd r Q
+IsOkAnd-weaker (Ok x) f h = f x h
+IsOkAnd-weaker (Err e) f h = absurd h
 
-pub told-so : (c : Call) (d d' : Disk) (a b : Answer) (x : List ℕ) → Performs c d d' a x → a ≡ b → Performs c d d' b x
-unfolding result
-told-so c d d' a b x p e = p ∙ ap (result d' x) e
-
-pub told-refused : (x : Refusal) (n : ℕ) → n ≡ number x → refused_answer x ≡ told n 0 0
-told-refused x n e = ap (λ (k : ℕ). told k 0 0) (sym e)
-
-pub listed-so : (c : Call) (card q j r x x' : List ℕ) (a b : Answer) → Lists c card q j r x x' a → a ≡ b → Lists c card q j r x x' b
-listed-so c card q j r x x' a b p e = p ∙ ap (λ (t : Answer). (t, x')) e
+pub read-number : (r s : Result ℕ Refusal) → MatchResult r (λ n. IsOkAnd s (λ m. m ≡ n)) (λ x. s ≡ Err x) → read_answer r ≡ number_answer s
+unfolding read_answer number_answer
+read-number (Ok n) (Ok m) h = rw h
+read-number (Ok n) (Err x) h = absurd h
+read-number (Err x) s h = rw h

@@ -4,7 +4,7 @@ ghost use Rattle.disk.specs.Call as call;
 ghost use Rattle.calls.specs.Performs.{ChangesNothing};
 ghost use Rattle.numgalis.specs.Border.{told};
 
-use crate::tell::{tell_number, tell_race};
+use crate::tell::tell_number;
 use calls::conflicts::conflicts;
 use calls::inventory::inventory;
 use calls::next::next;
@@ -26,8 +26,8 @@ pub extern "C" fn numgalis_read(
 ) -> usize
     ensures { ChangesNothing (call.in_view view (call.read_block block dest.old)) card.now queue_data.now journal_data.now rec.now (told result race.new 0) dest.new }
 {
-    tell_race(
-        read(card, queue_data, journal_data, rec, view, block, dest),
+    tell_number(
+        read(card, queue_data, journal_data, rec, view, block, dest).map(usize::from),
         race,
     )
 }

@@ -1,6 +1,0 @@
--- The call's own promise, its answer told. Assumes nothing.
-use Rattle.numgalis.proofs.Telling.{told-so}
-use Rattle.numgalis.proofs.changes.numgalis_delete_block.Goals as goal
-
-pub returns : goal.returns
-returns c = told-so _ _ _ _ _ _ c.delete_block.ensures c.tell.ensures
