@@ -42,7 +42,12 @@ fn cut_allowance(allowance: usize, stores: usize) -> usize
 }
 
 // Formatting asks the lengths only.
-pub fn broken_format(card: &mut [u8], queue: &[u8], journal: &[u8], stores: usize) -> Result<usize, Refusal>
+pub fn broken_format(
+    card: &mut [u8],
+    queue: &[u8],
+    journal: &[u8],
+    stores: usize,
+) -> Result<usize, Refusal>
     ensures { (rec : Record) → Breaks (broken_format stores (disk card.old queue.now journal.now rec)) card.old card.new result }
 {
     if !lengths_right(card, queue, journal) {
