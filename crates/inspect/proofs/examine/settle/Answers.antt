@@ -9,29 +9,48 @@ use Rattle.inspect.proofs.Settling.{Left, left-refused, left-held, left-listed}
 use Rattle.inspect.proofs.examine.settle.Goals as goal
 use Rattle.inspect.proofs.examine.settle.Goals.{Joined-holders_right, then-enter_queue, else-enter_queue, then-holders_right, else-holders_right}
 
-asked : (c : Joined-holders_right) → (let s = c.args in Left s.card.now s.queue_data.now (memory s.nodes.now s.members.now) s.run (record_in s.rec.now) (tables_in c.enter_queue.new.nodes) c.if-holders_right.value)
-asked c =
-    let s = c.args in
+pub returns-then-listed_right : goal.returns-then-listed_right
+returns-then-listed_right c =
+    let j = (goal.at.returns-then-listed_right c).Joined-holders_right in
+    let s = j.args in
     let m = memory s.nodes.now s.members.now in
     let r = record_in s.rec.now in
-    let q = c.enter_queue in
+    let q = j.enter_queue in
     let t = tables_in q.new.nodes in
-    elim c.if-holders_right.branch [
-      | then-holders_right f ↦ elim c.if-enter_queue.branch [
+    let asked : Left s.card.now s.queue_data.now m s.run r t j.if-holders_right.value =
+    elim j.if-holders_right.branch [
+      | then-holders_right f ↦ elim j.if-enter_queue.branch [
         | then-enter_queue h ↦ left-listed s.card.now s.queue_data.now m s.run r q.result t q.ensures h.if-enter_queue.true h.holders_right.result h.holders_right.ensures
             (sym h.value-is ∙ f.if-holders_right.true) f.listed_right.result f.listed_right.ensures _ f.value-is
         | else-enter_queue h ↦ absurd (false≢true (sym h.if-enter_queue.false ∙ sym h.value-is ∙ f.if-holders_right.true))
       ]
-      | else-holders_right f ↦ elim c.if-enter_queue.branch [
+      | else-holders_right f ↦ elim j.if-enter_queue.branch [
         | then-enter_queue h ↦ left-held s.card.now s.queue_data.now m s.run r q.result t q.ensures h.if-enter_queue.true h.holders_right.result h.holders_right.ensures
             _ (f.value-is ∙ h.value-is) (sym h.value-is ∙ f.if-holders_right.false)
         | else-enter_queue h ↦ left-refused s.card.now s.queue_data.now m s.run r q.result t q.ensures _ (f.value-is ∙ h.value-is) h.if-enter_queue.false
       ]
-    ]
-
-pub returns-then-listed_right : goal.returns-then-listed_right
-returns-then-listed_right c = (asked (goal.at.returns-then-listed_right c).Joined-holders_right).1 c.if-listed_right.true _ (c.head_stands.ensures [])
+    ] in
+    asked.1 c.if-listed_right.true _ (c.head_stands.ensures [])
 
 pub returns-else-listed_right : goal.returns-else-listed_right
 returns-else-listed_right c =
-    rw c.if-listed_right.false ((asked (goal.at.returns-else-listed_right c).Joined-holders_right).0 c.if-listed_right.false)
+    let k = (goal.at.returns-else-listed_right c).Joined-holders_right in
+    let s = k.args in
+    let m = memory s.nodes.now s.members.now in
+    let r = record_in s.rec.now in
+    let q = k.enter_queue in
+    let t = tables_in q.new.nodes in
+    let asked : Left s.card.now s.queue_data.now m s.run r t k.if-holders_right.value =
+    elim k.if-holders_right.branch [
+      | then-holders_right g ↦ elim k.if-enter_queue.branch [
+        | then-enter_queue e ↦ left-listed s.card.now s.queue_data.now m s.run r q.result t q.ensures e.if-enter_queue.true e.holders_right.result e.holders_right.ensures
+            (sym e.value-is ∙ g.if-holders_right.true) g.listed_right.result g.listed_right.ensures _ g.value-is
+        | else-enter_queue e ↦ absurd (false≢true (sym e.if-enter_queue.false ∙ sym e.value-is ∙ g.if-holders_right.true))
+      ]
+      | else-holders_right g ↦ elim k.if-enter_queue.branch [
+        | then-enter_queue e ↦ left-held s.card.now s.queue_data.now m s.run r q.result t q.ensures e.if-enter_queue.true e.holders_right.result e.holders_right.ensures
+            _ (g.value-is ∙ e.value-is) (sym e.value-is ∙ g.if-holders_right.false)
+        | else-enter_queue e ↦ left-refused s.card.now s.queue_data.now m s.run r q.result t q.ensures _ (g.value-is ∙ e.value-is) e.if-enter_queue.false
+      ]
+    ] in
+    rw c.if-listed_right.false (asked.0 c.if-listed_right.false)
