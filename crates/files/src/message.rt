@@ -1,6 +1,6 @@
 // What was not done, and messages of it on standard error: `WHO: WHAT`, and the error's text where a call failed. WHO is the
 // program and the file, `PROGRAM: NAME`.
-ghost use Rattle.std.specs.Prelude.{◌≡◌, ◌↔◌, Some, IsSome, Ok, IsOk, IsErrAnd, MatchResult};
+ghost use Rattle.std.specs.Prelude.{◌≡◌, ◌↔◌, Some, None, IsSome, Ok, IsOk, IsErrAnd, MatchResult};
 ghost use Rattle.text.specs.Written.{Puts};
 ghost use Rattle.files.specs.Message.{message};
 
@@ -29,7 +29,9 @@ impl Failure {
     }
 
     // Something is refused for what it is.
-    pub fn refusal(what: &'static str) -> Failure {
+    pub fn refusal(what: &'static str) -> Failure
+        ensures { result.error ≡ None }
+    {
         Failure { what, error: None }
     }
 

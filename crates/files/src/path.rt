@@ -1,7 +1,7 @@
 // Paths as bytes: the folder that a path names, and where a link leads.
-ghost use Rattle.std.specs.Prelude.{◌≡◌};
+ghost use Rattle.std.specs.Prelude.{◌≡◌, ◌-◌, length as Len, replicate};
 ghost use Rattle.std.proofs.Math.Seq.{slice};
-ghost use Rattle.text.specs.Written.{Puts};
+ghost use Rattle.text.specs.Written.{written, Puts};
 ghost use Rattle.files.specs.Path.{Ended, folder_of, start_of, beside};
 
 use std::io;
@@ -51,14 +51,18 @@ pub struct PathBytes {
 }
 
 impl PathBytes {
-    pub fn of(path: &[u8]) -> PathBytes {
+    pub fn of(path: &[u8]) -> PathBytes
+        ensures { Puts (replicate 4096 0) 0 path.now result.array result.length }
+    {
         let mut array = [0u8; PATH_MAX];
         let length = put_bytes(&mut array, 0, path);
         PathBytes { array, length }
     }
 
     // A name in the folder of a path.
-    pub fn beside(path: &[u8], name: &[u8]) -> PathBytes {
+    pub fn beside(path: &[u8], name: &[u8]) -> PathBytes
+        ensures { Puts (replicate 4096 0) 0 (beside path.now name.now) result.array result.length }
+    {
         let mut array = [0u8; PATH_MAX];
         let length = put_beside(&mut array, path, name);
         PathBytes { array, length }
@@ -79,7 +83,10 @@ impl PathBytes {
     }
 
     // The last bytes give way to others.
-    pub fn end_with(&mut self, bytes: &[u8]) {
+    pub fn end_with(&mut self, bytes: &[u8])
+        ensures length_stays { self.new.length ≡ self.old.length }
+        ensures ends { self.new.array ≡ written self.old.array (self.old.length - Len bytes.now) bytes.now }
+    {
         let at = self.length.saturating_sub(bytes.len());
         put_bytes(&mut self.array, at, bytes);
     }
