@@ -62,6 +62,10 @@ slice_within s e l =
     ∙ drop-least s (min e (length l)) (take (min e (length l)) l) (length-take (min e (length l)) l ∙ omega arith)
     ∙ ap (drop s) (take-least e l)
 
+-- what stands from a position on
+pub slice_rest : (s : ℕ) (l : List ℕ) → slice s (length l) l ≡ drop s l
+slice_rest s l = ap (drop s) (take_all (length l) l (omega arith))
+
 pub same_is : (a b : List ℕ) → pointwise nat_eq a b ≡ same a b
 unfolding same
 same_is [] [] = refl

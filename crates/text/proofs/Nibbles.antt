@@ -109,15 +109,6 @@ unfolding hex_bytes
 hex_bytes-at text i h = padded-at 256 (pairs text) i h
 
 -- Tests, as the library makes them.
-nibble_is : (c : ℕ) → nibble c ≡ cond (ltb (digit_value c) 16) (digit_value c) 0
-unfolding nibble between
-nibble_is c = grind (arith, nat_tests)
-
--- r is the digit that the library reads, and n that digit, or 0
-pub nibble-from : (c : ℕ) (r : Option ℕ) (n : ℕ) → SomeIff r (digit_value c < 16) (digit_value c) → MatchOption r (n ≡ 0) (λ d. n ≡ d) → (n < 16) × (n ≡ nibble c)
-nibble-from c None n h e = rw (e, nibble_is c, le-ltb (digit_value c) 16 (omega arith)) (omega arith, refl)
-nibble-from c (Some d) n h e = rw (e, h.1, nibble_is c, lt-ltb (digit_value c) 16 h.0) (h.0, refl)
-
 is_nibble-is : (c : ℕ) → is_ascii_hexdigit c ≡ is_nibble c
 unfolding is_nibble between
 is_nibble-is c = grind (arith, nat_tests)

@@ -11,8 +11,10 @@ const BLANK: u8 = b' ';
 pub fn word(line: &[u8], from: usize) -> Word
     ensures { result ≡ word_from line.now from }
 {
-    let start = from + line.iter().skip(from).take_while(|b| **b == BLANK).count();
-    let end = start + line.iter().skip(start).take_while(|b| **b != BLANK).count();
+    let rest = part(line, from, line.len());
+    let start = from + rest.iter().take_while(|b| **b == BLANK).count();
+    let behind = part(line, start, line.len());
+    let end = start + behind.iter().take_while(|b| **b != BLANK).count();
     Word { start, end }
 }
 
