@@ -1,5 +1,5 @@
 // A line of a script as a command: the rows of the language's table, in order.
-ghost use Rattle.std.specs.Prelude.{◌≡◌};
+ghost use Rattle.std.specs.Prelude.{◌≡◌, None};
 ghost use Rattle.std.proofs.Math.Seq.{slice};
 ghost use Rattle.script.specs.Arguments.{two_from};
 ghost use Rattle.script.specs.Commands.{command_of, is_quiet, last_named, pick, first_rows, middle_rows, card_of, poke_of, write_from, read_from, begin_from, cut_from, lend_from};
@@ -35,7 +35,7 @@ const PAGE_LENT: u64 = 820;
 const MOST_PAGE: u64 = 1000;
 
 // `None` where the line is no command of the language.
-#[tactic(auto, unfolding(crate::specs::Commands::command_of, crate::specs::Commands::named, crate::specs::Commands::middle_named))]
+#[tactic(auto, unfolding(crate::specs::Commands::command_of))]
 pub fn command(line: &[u8]) -> Option<Command>
     ensures { result ≡ command_of line.now }
 {
@@ -46,7 +46,9 @@ pub fn command(line: &[u8]) -> Option<Command>
         return Some(Command::Nothing);
     }
     let w = word(line, 0);
-    first_rows(line, w, middle_rows(line, w, last_rows(line, w)))
+    first_rows(line, w)
+        .or_else(|| middle_rows(line, w))
+        .or_else(|| last_rows(line, w))
 }
 
 // Is the line blank, or does it begin with `#`?
@@ -57,10 +59,11 @@ fn is_quiet(line: &[u8]) -> bool
     line.starts_with(b"#") || is_end(line, 0)
 }
 
-// The command that the name and the words behind it make, and `other` where no row has the name.
+// The command that the name and the words behind it make, if a row has the name. No name stands in two groups of rows, so each group is asked where
+// those before answer nothing.
 #[tactic(auto, using(crate::proofs::Words::words), unfolding(crate::specs::Commands::first_rows, crate::specs::Commands::pick, crate::specs::Spelling::bytes))]
-fn first_rows(line: &[u8], w: Word, other: Option<Command>) -> Option<Command>
-    ensures { result ≡ pick (slice w.start w.end line.now) (first_rows line.now w.end) other }
+fn first_rows(line: &[u8], w: Word) -> Option<Command>
+    ensures { result ≡ pick (slice w.start w.end line.now) (first_rows line.now w.end) None }
 {
     let at = w.end;
     match w.text(line) {
@@ -73,13 +76,13 @@ fn first_rows(line: &[u8], w: Word, other: Option<Command>) -> Option<Command>
         b"newblock" => three_numbers(line, at).map(|(stream, list, predecessor)| {
             on_stream(stream, Edit::NewBlock { list, predecessor })
         }),
-        _ => other,
+        _ => None,
     }
 }
 
 #[tactic(auto, using(crate::proofs::Words::words), unfolding(crate::specs::Commands::middle_rows, crate::specs::Commands::pick, crate::specs::Spelling::bytes))]
-fn middle_rows(line: &[u8], w: Word, other: Option<Command>) -> Option<Command>
-    ensures { result ≡ pick (slice w.start w.end line.now) (middle_rows line.now w.end) other }
+fn middle_rows(line: &[u8], w: Word) -> Option<Command>
+    ensures { result ≡ pick (slice w.start w.end line.now) (middle_rows line.now w.end) None }
 {
     let at = w.end;
     match w.text(line) {
@@ -98,7 +101,7 @@ fn middle_rows(line: &[u8], w: Word, other: Option<Command>) -> Option<Command>
             in_view(view, Look::Next { list, predecessor })
         }),
         b"conflicts" => window(line, at).map(|window| Command::Call(Request::Conflicts { window })),
-        _ => other,
+        _ => None,
     }
 }
 

@@ -1,38 +1,28 @@
 -- A line's runs of blanks and of other bytes, its parts, and bytes that are the same.
 use mathlib.Core.Path.{◌≡◌, refl, sym, ap, ◌∙◌}
-use mathlib.Core.Bool.{Bool, true, false, ◌&&◌, cond, not, beq}
+use mathlib.Core.Bool.{Bool, true, false, ◌&&◌, not, beq}
 use mathlib.Core.List.{List, [], ◌∷◌}
-use Prim.Native.Nat.{ℕ, zero, suc, ◌+◌, ◌-◌, ◌≤◌, min}
-use native.Mathlib.Numerals.{one-add}
+use Prim.Native.Nat.{ℕ, zero, suc, ◌-◌, ◌≤◌, ◌<◌, min}
 use native.Mathlib.Omega.{arith}
 use native.Mathlib.Decide.{dec_le}
 use native.Mathlib.Nat.{sub-zero, zero-sub, suc-sub-suc, min-eq_left}
+use borrow.Author.Tests.{not-true, not-false}
 use lib.Dec.{eqb}
-use lib.ListN.{length, take, drop, length-take, drop_of_length-le}
+use lib.ListN.{length, get_or, take, drop, length-take, drop_of_length-le}
+use lib.Seq.{slice, take-nil, take_all, drop-cons}
 use Rattle.std.specs.Prelude.{nat_eq}
-use Rattle.std.specs.List.{prefix_len}
 use Rattle.std.specs.Cmp.Lexicographic.{pointwise}
-use lib.Seq.{slice, take-nil, take_all}
 use Rattle.text.specs.Line.{run, same}
 
--- runs as the library counts them
-pub run-blanks : (l : List ℕ) → prefix_len (λ (b : ℕ). eqb b 32) l ≡ run true l
-unfolding run
-run-blanks [] = refl
-run-blanks (b ∷ l) = go (eqb b 32) (run-blanks l)
-  where
-    go : (t : Bool) → prefix_len (λ (b : ℕ). eqb b 32) l ≡ run true l → cond t (1 + prefix_len (λ (b : ℕ). eqb b 32) l) 0 ≡ cond (beq t true) (suc (run true l)) 0
-    go true e = rw one-add (ap suc e)
-    go false e = refl
+-- a run at a position: it ends there, or the byte there is its first
+module _ (blanks : Bool) (l : List ℕ) (i : ℕ) (h : i < length l) where
+  pub run-stop : not (beq (eqb (get_or l i 0) 32) blanks) ≡ true → run blanks (drop i l) ≡ 0
+  unfolding run
+  run-stop e = rw (drop-cons l i 0 h, not-true (beq (eqb (get_or l i 0) 32) blanks) e)
 
-pub run-others : (l : List ℕ) → prefix_len (λ (b : ℕ). not (eqb b 32)) l ≡ run false l
-unfolding run
-run-others [] = refl
-run-others (b ∷ l) = go (eqb b 32) (run-others l)
-  where
-    go : (t : Bool) → prefix_len (λ (b : ℕ). not (eqb b 32)) l ≡ run false l → cond (not t) (1 + prefix_len (λ (b : ℕ). not (eqb b 32)) l) 0 ≡ cond (beq t false) (suc (run false l)) 0
-    go true e = refl
-    go false e = rw one-add (ap suc e)
+  pub run_more : not (beq (eqb (get_or l i 0) 32) blanks) ≡ false → run blanks (drop i l) ≡ suc (run blanks (drop (suc i) l))
+  unfolding run
+  run_more e = rw (drop-cons l i 0 h, not-false (beq (eqb (get_or l i 0) 32) blanks) e)
 
 drop-take : (a e : ℕ) (l : List ℕ) → take (e - a) (drop a l) ≡ drop a (take e l)
 drop-take zero e l = rw (sub-zero e)

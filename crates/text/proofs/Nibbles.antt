@@ -1,17 +1,15 @@
 -- Hex digits put and read pair by pair, and lists without the zeros at their end.
 use mathlib.Core.Path.{◌≡◌, refl, ◌∙◌}
 use mathlib.Core.Logic.{◌≢◌}
-use mathlib.Core.Bool.{cond}
 use mathlib.Core.List.{List, [], ◌∷◌, ◌++◌}
 use Prim.Native.Nat.{ℕ, zero, suc, ◌+◌, ◌*◌, ◌≤◌, ◌<◌}
 use native.Mathlib.Numerals.{add-one}
 use native.Mathlib.Omega.{arith}
-use borrow.Author.Tests.{ne_eqb, lt-ltb, le-ltb}
-use lib.Dec.{ltb}
+use borrow.Author.Tests.{ne_eqb}
 use Rattle.std.proofs.lemmas.Bool.Decides.{nat_tests}
-use Rattle.std.specs.Char.{digit_value, is_ascii_hexdigit}
+use Rattle.std.specs.Char.{is_ascii_hexdigit}
 use Rattle.std.specs.List.{list_all, AllWithin, HoldsAt}
-use Rattle.std.specs.Option.{MatchOption, SomeIff}
+use Rattle.std.specs.Option.{MatchOption}
 use Rattle.std.specs.Prelude.{Option, None, Some}
 use lib.ListN.{length, get_or, take, replicate, length-append, length-take, length-replicate}
 use lib.Seq.{get_or-take}
@@ -109,15 +107,6 @@ unfolding hex_bytes
 hex_bytes-at text i h = padded-at 256 (pairs text) i h
 
 -- Tests, as the library makes them.
-nibble_is : (c : ℕ) → nibble c ≡ cond (ltb (digit_value c) 16) (digit_value c) 0
-unfolding nibble between
-nibble_is c = grind (arith, nat_tests)
-
--- r is the digit that the library reads, and n that digit, or 0
-pub nibble-from : (c : ℕ) (r : Option ℕ) (n : ℕ) → SomeIff r (digit_value c < 16) (digit_value c) → MatchOption r (n ≡ 0) (λ d. n ≡ d) → (n < 16) × (n ≡ nibble c)
-nibble-from c None n h e = rw (e, nibble_is c, le-ltb (digit_value c) 16 (omega arith)) (omega arith, refl)
-nibble-from c (Some d) n h e = rw (e, h.1, nibble_is c, lt-ltb (digit_value c) 16 h.0) (h.0, refl)
-
 is_nibble-is : (c : ℕ) → is_ascii_hexdigit c ≡ is_nibble c
 unfolding is_nibble between
 is_nibble-is c = grind (arith, nat_tests)

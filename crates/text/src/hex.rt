@@ -88,8 +88,14 @@ fn pair_at(text: &[u8], i: usize) -> u8
     }
 }
 
+#[tactic(auto, using(std::proofs::lemmas::Bool::Decides::nat_tests), unfolding(crate::specs::Hex::nibble, crate::specs::Hex::between))]
 fn nibble(c: u8) -> u8
     ensures { (result < 16) × (result ≡ Hex·nibble c) }
 {
-    char::from(c).to_digit(16).map_or(0, |digit| digit as u8)
+    match c {
+        b'0'..=b'9' => c - b'0',
+        b'a'..=b'f' => c - b'a' + 10,
+        b'A'..=b'F' => c - b'A' + 10,
+        _ => 0,
+    }
 }

@@ -1,19 +1,32 @@
 // A line taken apart into words, which blanks keep apart.
-ghost use Rattle.std.specs.Prelude.{◌≡◌};
+ghost use Rattle.std.specs.Prelude.{◌≡◌, ◌+◌, drop};
 ghost use Rattle.std.proofs.Math.Seq.{slice};
-ghost use Rattle.text.specs.Line.{word_from, same};
+ghost use Rattle.text.specs.Line.{word_from, run, same};
 
 use crate::word::Word;
 
 const BLANK: u8 = b' ';
 
 // The next word from a position on; where there is none, an empty one at the line's end.
+#[tactic(auto, unfolding(crate::specs::Line::word_from))]
 pub fn word(line: &[u8], from: usize) -> Word
     ensures { result ≡ word_from line.now from }
 {
-    let start = from + line.iter().skip(from).take_while(|b| **b == BLANK).count();
-    let end = start + line.iter().skip(start).take_while(|b| **b != BLANK).count();
+    let start = run_end(line, from, true);
+    let end = run_end(line, start, false);
     Word { start, end }
+}
+
+// Where the blanks from a position on end, or the bytes that are none.
+fn run_end(line: &[u8], from: usize, blanks: bool) -> usize
+    ensures { result ≡ from + run blanks (drop from line.now) }
+{
+    for i in from..line.len() {
+        if (line[i] == BLANK) != blanks {
+            return i;
+        }
+    }
+    from.max(line.len())
 }
 
 #[tactic(auto, using(crate::proofs::Lines::same_is))]
