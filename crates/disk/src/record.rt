@@ -185,7 +185,7 @@ pub fn list_number(list: u8) -> u8
     LogEntry::BLOCKS + list
 }
 
-// The unit that holds a number; 0 past the holders.
+// The unit that holds a number; 0 past the holders. Two tests and no `saturating_sub`: who goes over all numbers needs neither, which the compiler sees so.
 pub fn holder_of(rec: &[u8; RECORD], number: u8) -> u8
     ensures { result ≡ holder_of (record_in rec.now) number }
 {
