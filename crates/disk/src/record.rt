@@ -185,14 +185,20 @@ pub fn list_number(list: u8) -> u8
     LogEntry::BLOCKS + list
 }
 
-// The unit that holds a number; 0 past the holders.
+// The unit that holds a number; 0 past the holders. Two tests and no `saturating_sub`: who goes over all numbers needs neither, which the compiler sees so.
 pub fn holder_of(rec: &[u8; RECORD], number: u8) -> u8
     ensures { result ≡ holder_of (record_in rec.now) number }
 {
-    rec[HOLDERS..HOLDERS + NUMBERS]
-        .get(usize::from(number.saturating_sub(1)))
-        .copied()
-        .unwrap_or(NOBODY)
+    let i = if number == 0 {
+        0
+    } else {
+        usize::from(number) - 1
+    };
+    if i < NUMBERS {
+        rec[HOLDERS + i]
+    } else {
+        NOBODY
+    }
 }
 
 // The entry in a place of the queue.

@@ -2,7 +2,7 @@
 use mathlib.Core.Path.{◌≡◌, refl, sym, ap, ◌∙◌}
 use mathlib.Core.Logic.{◌≢◌}
 use mathlib.Core.Bool.{Bool, true, false, ◌&&◌, and-true as and_yes, false≢true}
-use mathlib.Core.List.{List, [], ◌∷◌}
+use mathlib.Core.List.{List, [], ◌∷◌, ◌++◌}
 use Prim.Native.Nat.{ℕ, zero, suc, ◌+◌, ◌-◌, ◌≤◌, ◌<◌}
 use native.Mathlib.Omega.{arith}
 use native.Mathlib.Numerals.{add-one}
@@ -12,6 +12,7 @@ use Rattle.std.specs.List.{list_all, range_with_len}
 use Rattle.lists.specs.Basic.{all, from}
 use Rattle.lists.specs.Change.{Change, map_change}
 use Rattle.lists.specs.InUse.{brings}
+use Rattle.lists.specs.Numbers.{all_numbers}
 use Rattle.lists.proofs.Basic.{le-true, gt-false}
 use Rattle.card_log.specs.Raced.{Raced}
 use Rattle.card_log.specs.Entry.{member, raw, map_entry, legal, legal_change, as_change}
@@ -39,6 +40,34 @@ pub all-range : {A : Type 0} (p : A → Bool) (f : ℕ → A) (test : ℕ → Bo
 unfolding all from
 all-range p f test a zero e = refl
 all-range p f test a (suc n) e = rw (e a (omega arith), add-one a, all-range p f test (suc a) n (λ k l. e k (omega arith)))
+
+-- a test of numbers, by two halves
+pub all-joined : {A : Type 0} (p : A → Bool) (f : ℕ → A) (a m n : ℕ) → all p (from f a (m + n)) ≡ all p (from f a m) && all p (from f (a + m) n)
+unfolding all from
+all-joined p f a zero n =
+    let e : zero + n ≡ n = omega arith in
+    let g : a + zero ≡ a = omega arith in
+    rw (e, g)
+all-joined p f a (suc m) n =
+    let e : suc m + n ≡ suc (m + n) = omega arith in
+    let g : a + suc m ≡ suc a + m = omega arith in
+    rw (e, g, all-joined p f (suc a) m n) (sym (and-behind (p (f a)) (all p (from f (suc a) m)) (all p (from f (suc a + m) n))))
+
+-- the blocks, then the lists
+module _ (p : ℕ → Bool) (a : Bool) (e : a ≡ all p (from (λ n. n) 1 64)) where
+  pub kinds-right : (b : Bool) → a ≡ true → b ≡ all p (from (λ n. n) 65 16) → b ≡ all p all_numbers
+  unfolding all_numbers
+  kinds-right b t f = f ∙ ap (λ (x : Bool). x && all p (from (λ n. n) 65 16)) (sym t ∙ e) ∙ sym (all-joined p (λ n. n) 1 64 16)
+
+  pub kinds-wrong : a ≡ false → a ≡ all p all_numbers
+  unfolding all_numbers
+  kinds-wrong t = t ∙ ap (λ (x : Bool). x && all p (from (λ n. n) 65 16)) (sym t ∙ e) ∙ sym (all-joined p (λ n. n) 1 64 16)
+
+-- and of one element more
+pub all-snoc : {A : Type 0} (p : A → Bool) (xs : List A) (x : A) → all p (xs ++ x ∷ []) ≡ all p xs && p x
+unfolding all
+all-snoc p [] x = and_yes (p x)
+all-snoc p (y ∷ ys) x = ap (λ (b : Bool). p y && b) (all-snoc p ys x) ∙ sym (and-behind (p y) (all p ys) (p x))
 
 -- A change in unit u's journal.
 module _ (hs : List ℕ) (u : ℕ) where

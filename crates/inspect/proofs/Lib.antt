@@ -2,7 +2,6 @@ pub mod Behind
 pub mod Locating
 pub mod Queueing
 pub mod Judging
-pub mod Spans
 pub mod Ordering
 pub mod Overlaying
 pub mod Relisting

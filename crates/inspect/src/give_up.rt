@@ -25,7 +25,7 @@ pub fn give_up(nodes: &[u8; 1280], rec: &mut [u8; RECORD], u: u8)
     requires { Padded (record_in rec.old) }
     ensures { GivesUp u (tables_in nodes.now) (record_in rec.old) (record_in rec.new) × Reorders (record_in rec.old) (record_in rec.new) }
 {
-    for n in 1..=NUMBERS {
+    for n in 1..NUMBERS + 1 {
         give_up_number(nodes, rec, u, n as u8);
     }
 }

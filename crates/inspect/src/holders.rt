@@ -33,9 +33,13 @@ fn holder_right(rec: &[u8; RECORD], nodes: &[u8; 1280], number: u8) -> bool
     u == 0 || is_open(rec, u) && !is_used(nodes, number)
 }
 
-// Is every one?
+// The number of the first list.
+pub const FIRST_LIST: usize = LogEntry::BLOCKS as usize + 1;
+
+// Is every one? The blocks', then the lists', so that none asks which of the two it is.
 pub fn holders_right(rec: &[u8; RECORD], nodes: &[u8; 1280]) -> bool
     ensures { OfShown (tables_in nodes.now) (λ rs. result ≡ all (holder_sound (record_in rec.now) rs) all_numbers) }
 {
-    (1..=NUMBERS).all(|n| holder_right(rec, nodes, n as u8))
+    (1..FIRST_LIST).all(|n| holder_right(rec, nodes, n as u8))
+        && (FIRST_LIST..NUMBERS + 1).all(|n| holder_right(rec, nodes, n as u8))
 }

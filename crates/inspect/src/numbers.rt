@@ -18,7 +18,11 @@ fn is_number(n: u8) -> bool
 fn are_numbers(places: &[u8]) -> bool
     ensures { result ≡ all is_number places.now }
 {
-    places.iter().all(|x| is_number(*x))
+    let mut right = true;
+    for x in places {
+        right &= is_number(*x);
+    }
+    right
 }
 
 fn are_empty(places: &[u8]) -> bool

@@ -55,7 +55,7 @@ fn unit_right(rec: &[u8; RECORD], u: usize) -> bool
 pub fn units_right(rec: &[u8; RECORD]) -> bool
     ensures { result ≡ units_right (record_in rec.now) }
 {
-    (1..=Record::UNITS).all(|u| unit_right(rec, u))
+    (1..Record::UNITS + 1).all(|u| unit_right(rec, u))
 }
 
 // Is unit u open? No other number is a unit.

@@ -1,4 +1,4 @@
--- The invariant: the entries passed are queued in their order (Along). The measure is what is left of the journal. Assumes nothing.
+-- The invariant: the entries passed are queued in their order (Along). Assumes nothing.
 use Rattle.disk.specs.Record.{record_in}
 use Rattle.calls.proofs.Ending.{Along}
 use Rattle.calls.proofs.end.queue_unit.Given as goal

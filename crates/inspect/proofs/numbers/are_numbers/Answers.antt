@@ -1,12 +1,25 @@
--- The test of each. Assumes nothing.
-use Rattle.std.proofs.Common.{rules, tests}
-use Rattle.std.proofs.lemmas.Iterator.{YieldsList-from_slice}
-use Rattle.std.proofs.lemmas.Iterator.Search.{all_from_yields_List}
+-- The invariant: the places before x hold numbers if `right` says so. Assumes nothing.
+use Rattle.std.proofs.Common.{◌∙◌, refl, sym, ap, take, ℕ, arith}
+use Rattle.std.proofs.lemmas.List.{take_all}
+use lib.Seq.{take-suc}
+use native.Mathlib.Numerals.{add-one}
+use Rattle.lists.specs.Basic.{all}
 use Rattle.lists.specs.Numbers.{is_number}
-use Rattle.inspect.proofs.Judging.{all_listed}
+use Rattle.inspect.proofs.Judging.{all-snoc}
 use Rattle.inspect.proofs.numbers.are_numbers.Goals as goal
+
+pub loop-x-init : goal.loop-x-init
+unfolding all
+loop-x-init c = refl
+
+pub loop-x-preserved : goal.loop-x-preserved
+loop-x-preserved c =
+    let l = c.loop-x in
+    let xs = c.args.places.now in
+    rw (l.invariant, c.is_number-right.ensures)
+    (sym (ap (λ (k : ℕ). all is_number (take k xs)) (add-one l.x-index) ∙ ap (all is_number) (take-suc xs l.x-index 0 c.loop-x-test.true) ∙ all-snoc is_number (take l.x-index xs) _))
 
 pub returns : goal.returns
 returns c =
-    all_listed is_number c.args.places.now c.all.result
-    (all_from_yields_List is_number _ _ _ c.all.ensures.ran (YieldsList-from_slice c.args.places.now cc) (λ x b q k. search (rules, tests)))
+    let l = c.loop-x in
+    l.invariant ∙ ap (all is_number) (take_all l.x-index c.args.places.now (omega (arith, c.loop-x-test.false)))
