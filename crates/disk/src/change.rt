@@ -80,7 +80,7 @@ pub fn count_conflict(rec: &mut [u8; RECORD], w: usize)
     requires { (1 ≤ w) × (w ≤ 16) }
     ensures { record_in rec.new ≡ conflict_counted w (record_in rec.old) }
 {
-    let n = conflicts(rec, w).saturating_add(1);
+    let n = conflicts(rec, w).saturating_add(1).min(Record::CONFLICTS);
     put_pair(rec, COUNTS + 2 * (w - 1), n);
 }
 
