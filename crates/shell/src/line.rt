@@ -18,10 +18,12 @@ impl Line {
         }
     }
 
-    pub fn push(&mut self, byte: u8) {
-        if let Some(free) = self.array.get_mut(self.length) {
-            *free = byte;
-            self.length += 1;
+    // What it has no room for is dropped.
+    pub fn push(&mut self, bytes: &[u8]) {
+        if let Some(free) = self.array.get_mut(self.length..) {
+            let kept = bytes.len().min(free.len());
+            free[..kept].copy_from_slice(&bytes[..kept]);
+            self.length += kept;
         }
     }
 

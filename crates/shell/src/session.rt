@@ -72,11 +72,14 @@ impl Session<'_> {
     }
 
     fn run_bytes(&mut self, rt: &HostRuntime, bytes: &[u8]) -> Result<(), Failure> {
-        for byte in bytes {
-            match *byte {
-                b'\n' => self.run_line(rt)?,
-                other => self.line.push(other),
-            }
+        let mut pieces = bytes.split(|byte| *byte == b'\n');
+        // The first goes on with the line that has begun.
+        if let Some(first) = pieces.next() {
+            self.line.push(first);
+        }
+        for piece in pieces {
+            self.run_line(rt)?;
+            self.line.push(piece);
         }
         Ok(())
     }
